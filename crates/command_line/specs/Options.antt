@@ -33,6 +33,10 @@ keep_rule = number_rule (codes "keep") 107
 abbrev pub verbose_rule : Rule
 verbose_rule = record (new_rule (codes "verbose")) { short = Some 118; action = Some SetTrue }
 
+-- `--audit`
+abbrev pub audit_rule : Rule
+audit_rule = record (new_rule (codes "audit")) { long = Some (codes "audit"); action = Some SetTrue }
+
 -- any number of targets
 abbrev pub targets_rule : Rule
 targets_rule = record (new_rule (codes "targets")) { value_names = 1; range = Some (record { start_inclusive = 0; end_inclusive = usize_max }) }
@@ -42,7 +46,7 @@ abbrev pub bare : App
 bare = on_top (λ shape. record shape { no_binary_name = true; args_override_self = true }) (new_app (codes "nj"))
 
 abbrev pub nj : App
-nj = with_rule (with_rule (with_rule (with_rule (with_rule (with_rule bare folder_rule) file_rule) jobs_rule) keep_rule) verbose_rule) targets_rule
+nj = with_rule (with_rule (with_rule (with_rule (with_rule (with_rule (with_rule bare folder_rule) file_rule) jobs_rule) keep_rule) verbose_rule) audit_rule) targets_rule
 
 -- ---- what it is asked for
 
@@ -52,6 +56,7 @@ pub record Options : Type 0 where
   pub jobs : ℕ
   pub keep : ℕ
   pub verbose : Bool
+  pub audit : Bool
   pub targets : List Text
 
 -- The text writes this number: a plus sign or none, then one decimal digit or more and nothing else, which come to the number; zeros
@@ -78,6 +83,7 @@ pub record AreGiven (rows : List Row) (options : Options) : Type 0 where
   pub jobs : IsNumber (one_of (codes "jobs") rows) 4 options.jobs
   pub keep : IsNumber (one_of (codes "keep") rows) 1 options.keep
   pub verbose : IsFlag (one_of (codes "verbose") rows) options.verbose
+  pub audit : IsFlag (one_of (codes "audit") rows) options.audit
   pub targets : options.targets ≡ unwrap_or (all_of (codes "targets") rows) []
 
 -- these options are what the words ask for

@@ -2,7 +2,7 @@
 
 ghost use Rattle.std.specs.Prelude.{◌≡◌, [], IfOk, IfErr, true, false, map};
 ghost use Rattle.clap.specs.Words.{HasKind, app_of, fault_of, found_of, kind_of, one_of, rows_of, rule_of, takes};
-ghost use Rattle.command_line.specs.Options.{AreAsked, AreGiven, IsNumber, bare, nj, folder_rule, file_rule, jobs_rule, keep_rule, verbose_rule, targets_rule};
+ghost use Rattle.command_line.specs.Options.{AreAsked, AreGiven, IsNumber, bare, nj, folder_rule, file_rule, jobs_rule, keep_rule, verbose_rule, audit_rule, targets_rule};
 
 use crate::given::Options;
 use clap::error::ErrorKind;
@@ -51,6 +51,7 @@ fn given<'a>(alloc: Global, matches: &ArgMatches<'a>) -> Result<Options<'a>, All
         jobs: number(matches, "jobs", JOBS),
         keep: number(matches, "keep", KEEP),
         verbose: matches.get_flag("verbose"),
+        audit: matches.get_flag("audit"),
         targets: Vec::from_slice(alloc, matches.get_strs("targets").unwrap_or(&[]))?,
     })
 }
@@ -72,6 +73,7 @@ fn command<'a>(alloc: Global) -> Result<Command<'a>, AllocError>
         .arg(jobs(alloc))?
         .arg(keep(alloc))?
         .arg(verbose(alloc))?
+        .arg(audit(alloc))?
         .arg(targets(alloc))?;
     Ok(command)
 }
@@ -139,6 +141,16 @@ fn verbose<'a>(alloc: Global) -> Arg<'a>
         .short('v')
         .action(ArgAction::SetTrue)
         .help("Shows commands in place of descriptions")
+}
+
+fn audit<'a>(alloc: Global) -> Arg<'a>
+    ensures rule { rule_of result ≡ audit_rule }
+    ensures local { result.global ≡ false }
+{
+    Arg::new(alloc, "audit")
+        .long("audit")
+        .action(ArgAction::SetTrue)
+        .help("Traces commands, and tells what of that which they did breaks a premise")
 }
 
 fn targets<'a>(alloc: Global) -> Arg<'a>

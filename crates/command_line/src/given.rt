@@ -15,6 +15,8 @@ pub struct Options<'a> {
     pub keep: u32,
     /// Whether commands are shown in place of descriptions.
     pub verbose: bool,
+    /// Whether commands are traced, and it is told what of that which they did breaks a premise.
+    pub audit: bool,
     /// What to build; nothing is what the build files say.
     pub targets: Vec<&'a str>,
 }
@@ -26,5 +28,5 @@ impl<'a> Model for Options<'a> {
 
     ghost Value = { Options };
 
-    ghost view = { λ options. record { folder = option_map (λ path. path.now) options.folder; file = options.file.now; jobs = options.jobs; keep = options.keep; verbose = options.verbose; targets = map (λ path. path.now) options.targets.items } };
+    ghost view = { λ options. record { folder = option_map (λ path. path.now) options.folder; file = options.file.now; jobs = options.jobs; keep = options.keep; verbose = options.verbose; audit = options.audit; targets = map (λ path. path.now) options.targets.items } };
 }

@@ -9,6 +9,7 @@ use crate::commands::{End, Running};
 use crate::environment::variables;
 use crate::files::{Files, Opened, Taken};
 use crate::signals::tell_signal;
+use crate::tracing::Tracer;
 use crate::waiting::{Round, wait_all, wait_first};
 use crate::watch::Watch;
 use model::{Act, Event, Finished};
@@ -78,6 +79,7 @@ impl Jobs {
         act: &Act,
         stamp: u64,
         opened: &mut Option<Opened>,
+        tracer: Option<&Tracer>,
     ) -> io::Result<()>
         requires { runs job self.old.events ≡ false }
         ensures ok { OnOk result (self.new ≡ with_start job act.now stamp self.old) }
@@ -88,7 +90,14 @@ impl Jobs {
         reserve(&mut self.commands, 1)?;
         read_once(self.alloc, &mut self.environment)?;
         let environment = known(&self.environment);
-        let command = commands::start(self.alloc, job, act.command.as_str(), environment, opened)?;
+        let command = commands::start(
+            self.alloc,
+            job,
+            act.command.as_str(),
+            environment,
+            opened,
+            tracer,
+        )?;
         push_reserved(&mut self.events, event);
         push_reserved(&mut self.commands, command);
         Ok(())

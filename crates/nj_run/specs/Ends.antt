@@ -1,5 +1,5 @@
 -- How a run of the program ends: why, with which status, and what it tells.
-use Rattle.std.specs.Prelude.{◌≡◌, ◌≢◌, ◌⊎◌, ℕ, Bool, false, List, [], Option, Some, None, Result, IfOk, ⊤}
+use Rattle.std.specs.Prelude.{◌≡◌, ◌≢◌, ◌⊎◌, ℕ, Bool, true, false, if◌then◌else◌, List, [], Option, Some, None, Result, IfOk, ⊤}
 use Rattle.clap.specs.Words.{IsAmong, Text, fault_of}
 use Rattle.clap.specs.declared.error.kind.ErrorKind.{ErrorKind}
 use Rattle.clap.specs.declared.error.kind.ErrorKind.TheVariants.{DisplayHelp, DisplayVersion, OutOfMemory}
@@ -10,7 +10,7 @@ use Rattle.builder.specs.declared.report.Report.TheVariants.{Success}
 use Rattle.host.specs.World.{any_outcome, fresh}
 use Rattle.nj_run.specs.Alone.{BuildsAlone}
 use Rattle.nj_run.specs.Status.{status_of}
-use Rattle.nj_run.specs.Texts.{Adds, err_of, no_memory, out_of}
+use Rattle.nj_run.specs.Texts.{Adds, err_of, no_memory, no_tracer, out_of}
 
 -- why a run ends
 pub data Ending : Type 0 where
@@ -24,6 +24,10 @@ pub data Ending : Type 0 where
   NoFolder : Text → Ending
   -- a build was reported so, and whether it is told what the device refused last
   Built : Report → Bool → Ending
+  -- an audit was asked for, and nothing traces commands here: nothing was started
+  NoTracer : Ending
+  -- a build was audited and reported so, and whether each command was looked at and keeps all premises
+  Audited : Report → Bool → Ending
 
 abbrev pub exit_status : Ending → ℕ
 exit_status Help = 0
@@ -31,6 +35,8 @@ exit_status BadWords = 2
 exit_status NoMemory = 1
 exit_status (NoFolder folder) = 1
 exit_status (Built report refused) = status_of report
+exit_status NoTracer = 1
+exit_status (Audited report keeps) = if keeps then status_of report else 1
 
 -- What is told on the standard output, behind what the build showed there. Help is open (`None`): no contract of clap tells its
 -- text.
@@ -40,6 +46,8 @@ told_on_out BadWords = Some []
 told_on_out NoMemory = Some []
 told_on_out (NoFolder folder) = Some []
 told_on_out (Built report refused) = out_of report
+told_on_out NoTracer = Some []
+told_on_out (Audited report keeps) = None
 
 -- What is told on the standard error. Open is what clap says of bad words, and of a folder why the system refuses it: that
 -- stands behind the line of N60 and `nj: FOLDER: `.
@@ -49,6 +57,8 @@ told_on_err BadWords = None
 told_on_err NoMemory = Some no_memory
 told_on_err (NoFolder folder) = None
 told_on_err (Built report refused) = err_of report refused
+told_on_err NoTracer = Some no_tracer
+told_on_err (Audited report keeps) = None
 
 -- help, or the version, which clap shows in the same way; `nj` has no word that asks for it
 abbrev pub IsShown : ErrorKind → Type 0
@@ -61,6 +71,8 @@ EndsBy kind BadWords = (¬ IsShown kind) × (kind ≢ OutOfMemory)
 EndsBy kind NoMemory = kind ≡ OutOfMemory
 EndsBy kind (NoFolder folder) = ⊥
 EndsBy kind (Built report refused) = ⊥
+EndsBy kind NoTracer = ⊥
+EndsBy kind (Audited report keeps) = ⊥
 
 -- How a run ends where this is asked for: the folder could not be gone to; or there is a later world in which a build of just
 -- this, on the site of real files on which nothing had happened, is reported so.
@@ -74,7 +86,9 @@ EndsFor asked Help = ⊥
 EndsFor asked BadWords = ⊥
 EndsFor asked NoMemory = ⊥
 EndsFor asked (NoFolder folder) = asked.folder ≡ Some folder
-EndsFor asked (Built report refused) = (later : World) × BuildsAlone false any_outcome asked fresh later report
+EndsFor asked (Built report refused) = (asked.audit ≡ false) × (later : World) × BuildsAlone false any_outcome asked fresh later report
+EndsFor asked NoTracer = asked.audit ≡ true
+EndsFor asked (Audited report keeps) = (asked.audit ≡ true) × (later : World) × BuildsAlone false any_outcome asked fresh later report
 
 -- the words have a fault for which a run may end so
 pub record AreRefused (words : List Text) (ending : Ending) : Type 0 where
@@ -96,6 +110,8 @@ MayEnd words BadWords = AreRefused words BadWords
 MayEnd words NoMemory = ⊤
 MayEnd words (NoFolder folder) = AreDone words (NoFolder folder)
 MayEnd words (Built report refused) = AreDone words (Built report refused)
+MayEnd words NoTracer = AreDone words NoTracer
+MayEnd words (Audited report keeps) = AreDone words (Audited report keeps)
 
 -- What the standard output was where a build has ended. A build shows on it by way of the host, which keeps it as long as the
 -- build lasts, and of what `Site::show` shows contracts tell nothing: it may hold anything then. Where nothing is built, it is
@@ -106,6 +122,8 @@ ShownBefore BadWords old shown = shown ≡ old
 ShownBefore NoMemory old shown = shown ≡ old
 ShownBefore (NoFolder folder) old shown = shown ≡ old
 ShownBefore (Built report refused) old shown = ⊤
+ShownBefore NoTracer old shown = shown ≡ old
+ShownBefore (Audited report keeps) old shown = ⊤
 
 -- all was told: on the standard output, behind what was shown there, and on the standard error
 pub record AllTold {W E : Type 0} (on_out : W → Option Text) (on_err : E → Option Text) (ending : Ending)
@@ -138,7 +156,8 @@ abbrev pub EndsNoted : {W E : Type 0} → List Text → (W → Option Text) → 
 EndsNoted {W} {E} words on_out on_err old_out new_out old_err status =
     (told : E) × Ends words on_out on_err old_out new_out old_err told status
 
--- help was asked for, or what the words ask for was built, with success
+-- help was asked for, or what the words ask for was built, with success, and where an audit was asked for each command keeps all premises
 abbrev pub EndsWell : List Text → Type 0
 EndsWell words =
     AreRefused words Help ⊎ ((started : ℕ) × (refused : Bool) × AreDone words (Built (Success started) refused))
+    ⊎ ((started : ℕ) × AreDone words (Audited (Success started) true))

@@ -2,10 +2,15 @@
 #![tactic(auto)]
 
 mod alone;
+mod around;
+mod audited;
+mod listed;
+mod looked;
 mod named;
 mod noted;
 mod program;
 mod told;
+mod tracer;
 
 pub use alone::{Alone, build_alone};
 pub use noted::Noted;

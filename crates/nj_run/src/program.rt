@@ -10,6 +10,7 @@ ghost use Rattle.nj_run.specs.Asked.{AreHandedOn, pattern_text};
 ghost use Rattle.nj_run.specs.Ends.{Comes, Ends, EndsFor, EndsNoted, EndsWell};
 
 use crate::alone::{Alone, build_alone};
+use crate::audited::audit_asked;
 use crate::noted::Noted;
 use crate::told;
 use builder::{Options, Report};
@@ -98,6 +99,9 @@ fn build_asked<W: Write, E: Write>(
             return told::folder(folder, &reason, err);
         }
     }
+    if asked.audit {
+        return audit_asked(asked, pattern, out, err, noted);
+    }
     let (report, trouble) = build_here(asked, pattern, out, noted);
     told::report(&report, trouble.as_ref(), out, err)
 }
@@ -159,7 +163,7 @@ pub fn build_on<S: Alone>(
 }
 
 /// The options and the targets of a build. Where no pattern is given, lines have the default one.
-fn build_options(
+pub(crate) fn build_options(
     alloc: Global,
     asked: &Asked<'_>,
     pattern: Option<&str>,

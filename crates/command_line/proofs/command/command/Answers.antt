@@ -5,6 +5,7 @@ use Rattle.command_line.proofs.command.command.Goals as goal
 pub returns : goal.returns
 returns c =
     c.in_ok-command.ensures.shape c.targets.ensures.local
+    ∙ ap₂ with_rule (c.in_ok-arg-6.ensures.shape c.audit.ensures.local
     ∙ ap₂ with_rule (c.in_ok-arg-5.ensures.shape c.verbose.ensures.local
     ∙ ap₂ with_rule (c.in_ok-arg-4.ensures.shape c.keep.ensures.local
     ∙ ap₂ with_rule (c.in_ok-arg-3.ensures.shape c.jobs.ensures.local
@@ -15,4 +16,5 @@ returns c =
     c.jobs.ensures.rule)
     c.keep.ensures.rule)
     c.verbose.ensures.rule)
+    c.audit.ensures.rule)
     c.targets.ensures.rule

@@ -1,0 +1,4 @@
+pub mod Uses
+pub mod Places
+pub mod Findings
+pub mod Seen

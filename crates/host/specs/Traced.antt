@@ -1,0 +1,30 @@
+-- What is handed over so that a command is traced.
+use Rattle.std.specs.Prelude.{◌≡◌, ℕ, ℤ, List, [], ◌∷◌, ◌++◌, codes, string_bytes}
+use Rattle.os.specs.Paths.{HasNoNul}
+use Rattle.host.specs.declared.process.Handed.{Handed}
+use Rattle.host.specs.declared.tracing.Tracer.{Tracer}
+use Rattle.host.specs.Process.{words_of}
+
+abbrev pub word : List ℕ → List ℕ
+word text = text ++ 0 ∷ []
+
+-- which calls of the system are written down
+abbrev pub calls : List ℕ
+calls = codes "trace=%file,fork,vfork,clone,clone3,execveat,fchdir,getdents,getdents64,connect,bind,unshare,setns,open_by_handle_at,io_uring_setup,fsmount,move_mount"
+
+-- Processes that are started are followed, descriptors come with their paths, names in hexadecimal digits, and no signal is told. Of
+-- structures those are written that tell a folder from a file, and whether a process shares its folder with another.
+abbrev pub tracing : List ℕ
+tracing =
+    word (codes "strace") ++ word (codes "-f") ++ word (codes "-y") ++ word (codes "-xx") ++ word (codes "-s") ++ word (codes "65536")
+    ++ word (codes "--seccomp-bpf") ++ word (codes "-e") ++ word (codes "signal=none") ++ word (codes "-e")
+    ++ word (codes "verbose=stat,lstat,newfstatat,statx,clone3") ++ word (codes "-e") ++ word calls ++ word (codes "-o")
+
+-- what is handed over so that this command is traced: the same words of the shell as without, behind those of the tracer
+pub record IsTraced (tracer : Tracer) (command variables : List ℕ) (fds : List ℤ) (handed : Handed) : Type 0 where
+  pub program : handed.program.now ≡ string_bytes tracer.program
+  pub words : handed.words.items ≡ (tracing ++ word (string_bytes tracer.into)) ++ word (codes "--") ++ words_of command
+  pub whole : HasNoNul command
+  pub environment : handed.environment.now ≡ variables
+  pub folder : handed.folder.now ≡ []
+  pub streams : handed.streams ≡ fds

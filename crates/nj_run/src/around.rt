@@ -1,0 +1,152 @@
+//! What a path is to a build, apart from the edge that is looked at.
+
+use audit::{Around, canonical_at};
+use build_log::Log;
+use indexmap::IndexMap;
+use links::Graph;
+use paths::{EdgeId, PathId};
+use std::alloc::{AllocError, Global};
+
+/// The paths that build lines name, from the root and canonical, with the edge that makes each.
+#[derive(Drop)]
+pub struct Names {
+    /// The working folder, from the root.
+    folder: String,
+    makers: IndexMap<String, Option<EdgeId>>,
+    /// The build log, if it is there.
+    log: Option<Log>,
+}
+
+impl Names {
+    /// The paths of this graph.
+    pub fn of(
+        alloc: Global,
+        graph: &Graph,
+        folder: &str,
+        log: Option<Log>,
+    ) -> Result<Names, AllocError> {
+        let mut names = Names {
+            folder: String::from_str(alloc, folder)?,
+            makers: IndexMap::new(alloc),
+            log,
+        };
+        for place in 0..graph.paths() {
+            if let Some(path) = PathId::at(place) {
+                names.add(alloc, graph, path)?;
+            }
+        }
+        Ok(names)
+    }
+
+    fn add(&mut self, alloc: Global, graph: &Graph, path: PathId) -> Result<(), AllocError> {
+        let whole = canonical_at(alloc, self.folder.as_str(), graph.text(path))?;
+        let maker = graph.maker(path);
+        if maker.is_some() || self.makers.get(whole.as_str()).is_none() {
+            let _ = self.makers.insert(whole.into_string(), maker)?;
+        }
+        Ok(())
+    }
+
+    /// The working folder, from the root.
+    pub fn folder(&self) -> &str {
+        self.folder.as_str()
+    }
+
+    /// The path from the root.
+    pub fn whole(&self, alloc: Global, path: &str) -> Result<text::Path, AllocError> {
+        canonical_at(alloc, self.folder.as_str(), path)
+    }
+
+    /// The path as it is told: taken from the working folder, where it is below that.
+    pub fn short<'p>(&self, path: &'p str) -> &'p str {
+        match below(self.folder.as_str(), path) {
+            Some(rest) => rest,
+            None => path,
+        }
+    }
+
+    /// Whether the path is below the working folder, or a build line names it.
+    pub fn counts(&self, path: &str) -> bool {
+        below(self.folder.as_str(), path).is_some() || self.makers.get(path).is_some()
+    }
+
+    /// Whether a build line names the path.
+    pub fn is_named(&self, path: &str) -> bool {
+        self.makers.get(path).is_some()
+    }
+
+    /// Whether a record in force names the path as an output.
+    fn is_recorded(&self, path: &str) -> bool {
+        match &self.log {
+            Some(log) => log.lookup(self.short(path)).is_some(),
+            None => false,
+        }
+    }
+
+    /// What the path is to the build, seen from this edge.
+    pub fn around(
+        &self,
+        alloc: Global,
+        graph: &Graph,
+        edge: EdgeId,
+        path: &str,
+    ) -> Result<Around, AllocError> {
+        let named = self.makers.get(path);
+        let maker = named.copied().flatten().filter(|maker| *maker != edge);
+        let above = match maker {
+            Some(maker) => is_above(alloc, graph, maker, edge)?,
+            None => false,
+        };
+        Ok(Around {
+            made: maker.is_some(),
+            above,
+            named: named.is_some(),
+            recorded: self.is_recorded(path),
+            inside: below(self.folder.as_str(), path).is_some(),
+            own: is_own(path),
+        })
+    }
+}
+
+/// What stands behind the folder and a slash, where the path is below it.
+fn below<'p>(folder: &str, path: &'p str) -> Option<&'p str> {
+    path.strip_prefix(folder)?.strip_prefix('/')
+}
+
+/// Whether the path is of a file of the program's own: its logs, and what it writes beside them.
+fn is_own(path: &str) -> bool {
+    match path.rsplit_once('/') {
+        Some((_, name)) => name.as_bytes().starts_with(b".nj_"),
+        None => false,
+    }
+}
+
+/// Whether the one edge is above the other: it makes what that one needs, or what one needs that is above it. It takes a time of the order
+/// of the graph.
+fn is_above(
+    alloc: Global,
+    graph: &Graph,
+    upper: EdgeId,
+    lower: EdgeId,
+) -> Result<bool, AllocError> {
+    let mut is_seen = vec![in alloc; false; graph.edges()]?;
+    let mut open = Vec::new(alloc);
+    open.push(lower)?;
+    for _ in 0..usize::MAX {
+        let Some(edge) = open.pop() else {
+            return Ok(false);
+        };
+        for input in graph.inputs(edge) {
+            if let Some(maker) = graph.maker(*input) {
+                if maker == upper {
+                    return Ok(true);
+                }
+                if maker.index() < is_seen.len() && !is_seen[maker.index()] {
+                    is_seen[maker.index()] = true;
+                    open.push(maker)?;
+                }
+            }
+        }
+    }
+    Ok(false)
+}

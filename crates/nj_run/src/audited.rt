@@ -1,0 +1,111 @@
+//! A run that audits: a build in which each command is traced, and what is told of that.
+
+ghost use Rattle.std.specs.Prelude.{◌≡◌, ◌≤◌, IfOk, true};
+ghost use Rattle.nj_run.specs.Ends.{Comes, EndsFor};
+
+use crate::looked::{Tally, look};
+use crate::noted::Noted;
+use crate::program::{build_on, build_options};
+use crate::told;
+use crate::tracer::tracer;
+use builder::{Options, Report};
+use command_line::Options as Asked;
+use host::{Host, Trouble};
+use std::io::Write;
+use std::{env, io};
+use text::Text;
+
+/// What is told where commands cannot be traced.
+const NO_TRACER: &str =
+    "nj: error: no strace in PATH that traces a program here; nothing was started";
+
+/// What a build came to that was audited.
+#[derive(Drop)]
+struct Audited {
+    report: Report,
+    trouble: Option<Trouble>,
+    tally: Option<Tally>,
+}
+
+/// Builds what is asked for in the working folder with each command traced, tells how that ended, and then what of that which commands did
+/// breaks a premise. The status is 0 where the build succeeded, each command that the targets need was looked at and all keep all premises,
+/// as far as the trace shows; else 1.
+pub fn audit_asked<W: Write, E: Write>(
+    asked: &Asked<'_>,
+    pattern: Option<&str>,
+    out: &mut W,
+    err: &mut E,
+    noted: &mut Noted<'_>,
+) -> io::Result<u8>
+    requires { asked.now.audit ≡ true }
+    ensures range { IfOk result (λ status. status ≤ 1) }
+    ensures comes { Comes (EndsFor asked.now) W.contents E.contents out.old out.new err.old err.new result }
+{
+    let Some(program) = tracer(noted.rt()) else {
+        writeln!(err, "{NO_TRACER}")?;
+        err.flush()?;
+        return Ok(1);
+    };
+    let Audited {
+        report,
+        trouble,
+        tally,
+    } = audit_here(asked, pattern, program, out, noted)?;
+    let status = told::report(&report, trouble.as_ref(), out, err)?;
+    let keeps = tell(tally.as_ref(), out)?;
+    if keeps { Ok(status) } else { Ok(1) }
+}
+
+/// Builds in the working folder with each command traced by this program, and looks at the traces.
+fn audit_here<W: Write>(
+    asked: &Asked<'_>,
+    pattern: Option<&str>,
+    program: String,
+    out: &mut W,
+    noted: &mut Noted<'_>,
+) -> io::Result<Audited> {
+    let rt = noted.rt();
+    let alloc = rt.alloc();
+    let folder = env::current_dir(rt)?;
+    let (options, targets) = build_options(alloc, asked, pattern)?;
+    let mut host = Host::new(alloc, rt, out);
+    host.trace_by(program);
+    let report = build_on(alloc, &mut host, asked, pattern, noted);
+    noted.waited(host.wait_for_clock());
+    noted.built(&mut host, asked.file, &report);
+    let tally = match folder.to_str() {
+        Some(folder) => look(alloc, &mut host, &options, targets.as_slice(), folder),
+        None => None,
+    };
+    let trouble = host.into_trouble();
+    Ok(Audited {
+        report,
+        trouble,
+        tally,
+    })
+}
+
+/// Tells what was found: whether each command was looked at and keeps all premises.
+fn tell<W: Write>(tally: Option<&Tally>, out: &mut W) -> io::Result<bool> {
+    let Some(tally) = tally else {
+        writeln!(out, "nj: audit: the traces could not be looked at")?;
+        out.flush()?;
+        return Ok(false);
+    };
+    out.write_all(tally.lines.as_bytes())?;
+    let looked = tally.looked;
+    let commands = tally.commands;
+    let kept = tally.kept;
+    if looked == 0 {
+        writeln!(
+            out,
+            "nj: audit: no command was looked at: remove .nj_log to have all of them run and looked at"
+        )?;
+    }
+    writeln!(
+        out,
+        "nj: audit: {looked} of {commands} commands of the cone looked at, {kept} keep all premises, as far as the trace shows"
+    )?;
+    out.flush()?;
+    Ok(looked == commands && kept == looked)
+}
