@@ -1,39 +1,78 @@
--- One thing more that was done.
-use Rattle.std.proofs.Common.{◌≡◌, ℕ, ◌+◌, ◌<◌, Bool, true, false, List, [], ◌∷◌, ◌++◌, length, get_or, set, slice_get, refl, sym, ap, ◌∙◌, subst, Option, Some, None, arith, bytes_eq}
-use Prim.Native.Nat.{zero, suc}
-use Rattle.std.specs.List.{AllZip}
-use Rattle.std.proofs.lemmas.Bool.{false≢true}
+-- What was done at each path, one thing after another.
+use Rattle.std.proofs.Common.{◌≡◌, ℕ, zero, suc, ◌+◌, ◌<◌, ◌≤◌, Bool, true, false, if◌then◌else◌, List, [], ◌∷◌, ◌++◌, length, drop, get_or, slice_get, refl, sym, ap, ◌∙◌, subst, Option, Some, None, arith, bytes_eq}
 use Rattle.std.proofs.lemmas.Slice.Eq.{bytes_eq-Decides}
 use Rattle.model.specs.Graph.{has}
-use Rattle.paths.specs.Numbers.{HaveOnePlace}
+use Rattle.paths.specs.Numbers.{HaveOnePlace, IsAdded}
 use Rattle.trace.specs.declared.fact.Deed.{Deed}
-use Rattle.trace.specs.declared.fact.Fact.{Fact}
 use Rattle.audit.specs.declared.used.Use.{Use}
 use Rattle.audit.specs.declared.seen.Whole.{Whole}
-use Rattle.audit.specs.Uses.{with_deed}
-use Rattle.audit.specs.Seen.{IsWholeOf, use_again}
+use Rattle.audit.specs.Uses.{unused, with_deed}
+use Rattle.audit.specs.Seen.{Sums, again_at, path_by, put_last, use_again, with_all_done, with_done, with_untouched}
+use Rattle.audit.proofs.Members.{in_has, next, next_of, past, past_all}
+
+abbrev sums_of : List (List ℕ) → List Use → Sums
+sums_of paths uses = record { paths = paths; uses = uses }
 
 others_have : (p : List ℕ) (paths : List (List ℕ)) → HaveOnePlace (p ∷ paths) → HaveOnePlace paths
 others_have p paths once = λ i j path at too. let same : suc i ≡ suc j = once (suc i) (suc j) path at too in omega arith
 
--- the use in the place of a path is the one that goes on
-pub again_at : (paths : List (List ℕ)) (uses : List Use) (path : List ℕ) (deed : Deed) (n : ℕ) (used : Use) → HaveOnePlace paths → length paths ≡ length uses → slice_get paths n ≡ Some path → used ≡ get_or uses n used
-    → use_again paths uses path deed ≡ set uses n (with_deed used deed)
-again_at [] uses path deed n used once long at is = absurd (cc)
-again_at (p ∷ paths) [] path deed n used once long at is = absurd (omega (arith, long))
-again_at (p ∷ paths) (u ∷ uses) path deed zero used once long at is =
+-- the use at a path is that in its place
+again : (paths : List (List ℕ)) (uses : List Use) (path : List ℕ) (deed : Deed) (n : ℕ) → HaveOnePlace paths → slice_get paths n ≡ Some path → use_again paths uses path deed ≡ again_at uses n deed
+again [] uses path deed n once at = absurd (cc)
+again (p ∷ paths) [] path deed n once at = refl
+again (p ∷ paths) (u ∷ uses) path deed zero once at =
     let same : p ≡ path = cc in
-    let here : bytes_eq p path ≡ true = (bytes_eq-Decides p path).1 same in
-    rw here (ap (λ (x : Use). with_deed x deed ∷ uses) (sym is))
-again_at (p ∷ paths) (u ∷ uses) path deed (suc n) used once long at is = by (bytes_eq p path) refl (again_at paths uses path deed n used (others_have p paths once) (omega arith) at is)
+    ap (λ (b : Bool). if b then with_deed u deed ∷ uses else u ∷ use_again paths uses path deed) ((bytes_eq-Decides p path).1 same)
+again (p ∷ paths) (u ∷ uses) path deed (suc n) once at = by (bytes_eq p path) refl
   where
-    by : (here : Bool) → bytes_eq p path ≡ here → use_again paths uses path deed ≡ set uses n (with_deed used deed) → use_again (p ∷ paths) (u ∷ uses) path deed ≡ set (u ∷ uses) (suc n) (with_deed used deed)
-    by true here more = let twice : zero ≡ suc n = once zero (suc n) path (ap (λ (q : List ℕ). Some q) ((bytes_eq-Decides p path).0 here)) at in absurd (omega arith)
-    by false here more = rw here (ap (λ (us : List Use). u ∷ us) more)
+    by : (here : Bool) → bytes_eq p path ≡ here → use_again (p ∷ paths) (u ∷ uses) path deed ≡ u ∷ again_at uses n deed
+    by true here = let twice : zero ≡ suc n = once zero (suc n) path (ap (λ (q : List ℕ). Some q) ((bytes_eq-Decides p path).0 here)) at in absurd (omega arith)
+    by false here =
+        ap (λ (b : Bool). if b then with_deed u deed ∷ uses else u ∷ use_again paths uses path deed) here
+        ∙ ap (λ (us : List Use). u ∷ us) (again paths uses path deed n (others_have p paths once) at)
 
--- one more fact in canonical form
-pub one_more : (facts : List Fact) (wholes : List Whole) (fact : Fact) (whole : Whole) → AllZip IsWholeOf facts wholes → IsWholeOf fact whole → AllZip IsWholeOf (facts ++ fact ∷ []) (wholes ++ whole ∷ [])
-one_more [] [] fact whole all is = (is, tt)
-one_more [] (w ∷ wholes) fact whole all is = absurd all
-one_more (f ∷ facts) [] fact whole all is = absurd all
-one_more (f ∷ facts) (w ∷ wholes) fact whole all is = (all.0, one_more facts wholes fact whole all.1 is)
+same_sums : (sums : Sums) (paths : List (List ℕ)) (uses : List Use) → sums.paths ≡ paths → sums.uses ≡ uses → sums ≡ sums_of paths uses
+same_sums sums paths uses first second = ap (λ (ps : List (List ℕ)). sums_of ps sums.uses) first ∙ ap (λ (us : List Use). sums_of paths us) second
+
+-- at a path at which something was done before
+pub done_again : (old new : Sums) (path : List ℕ) (deed : Deed) (n : ℕ) → HaveOnePlace old.paths → slice_get old.paths n ≡ Some path → new.paths ≡ old.paths → new.uses ≡ again_at old.uses n deed → new ≡ with_done old path deed
+done_again old new path deed n once at paths uses =
+    same_sums new old.paths (use_again old.paths old.uses path deed) paths (uses ∙ sym (again old.paths old.uses path deed n once at))
+    ∙ sym (ap (λ (b : Bool). if b then sums_of old.paths (use_again old.paths old.uses path deed) else put_last old path (with_deed unused deed)) (in_has old.paths n path at))
+
+-- at another one
+pub done_first : (old new : Sums) (path : List ℕ) (deed : Deed) → has old.paths path ≡ false → new ≡ put_last old path (with_deed unused deed) → new ≡ with_done old path deed
+done_first old new path deed absent is =
+    is ∙ sym (ap (λ (b : Bool). if b then sums_of old.paths (use_again old.paths old.uses path deed) else put_last old path (with_deed unused deed)) absent)
+
+pub put_there : (old new : Sums) (path : List ℕ) (used : Use) (n : ℕ) → has old.paths path ≡ false → IsAdded old.paths new.paths path n → new.uses ≡ old.uses ++ used ∷ [] → new ≡ put_last old path used
+put_there old new path used n absent added uses =
+    same_sums new (old.paths ++ path ∷ []) (old.uses ++ used ∷ []) (added.grows ∙ ap (λ (b : Bool). if b then old.paths else old.paths ++ path ∷ []) absent) uses
+
+-- ---- one after another
+
+pub done_next : (sums : Sums) (wholes : List Whole) (reals : List Bool) (n : ℕ) (whole : Whole) (real : Bool) → n < length wholes → whole ≡ get_or wholes n whole → slice_get reals n ≡ Some real
+    → with_all_done sums (drop n wholes) (drop n reals) ≡ with_all_done (with_done sums (path_by whole real) whole.deed) (drop (n + 1) wholes) (drop (n + 1) reals)
+done_next sums wholes reals n whole real less is at =
+    ap (λ (ws : List Whole). with_all_done sums ws (drop n reals)) (next_of wholes n whole less is)
+    ∙ ap (λ (rs : List Bool). with_all_done sums (whole ∷ drop (n + 1) wholes) rs) (next reals n real at)
+
+none_left : (sums : Sums) (wholes : List Whole) → with_all_done sums wholes [] ≡ sums
+none_left sums [] = refl
+none_left sums (whole ∷ wholes) = refl
+
+pub done_early : (sums : Sums) (wholes : List Whole) (reals : List Bool) (n : ℕ) → slice_get reals n ≡ None → with_all_done sums (drop n wholes) (drop n reals) ≡ sums
+done_early sums wholes reals n at = ap (λ (rs : List Bool). with_all_done sums (drop n wholes) rs) (past reals n at) ∙ none_left sums (drop n wholes)
+
+pub all_done : (sums : Sums) (wholes : List Whole) (reals : List Bool) (n : ℕ) → length wholes ≤ n → with_all_done sums (drop n wholes) (drop n reals) ≡ sums
+all_done sums wholes reals n at = ap (λ (ws : List Whole). with_all_done sums ws (drop n reals)) (past_all wholes n at)
+
+pub touched_next : (sums : Sums) (paths : List (List ℕ)) (n : ℕ) (path : List ℕ) → slice_get paths n ≡ Some path
+    → with_untouched sums (drop n paths) ≡ with_untouched (if has sums.paths path then sums else put_last sums path unused) (drop (n + 1) paths)
+touched_next sums paths n path at = ap (with_untouched sums) (next paths n path at)
+
+pub touched_early : (sums : Sums) (paths : List (List ℕ)) (n : ℕ) → slice_get paths n ≡ None → with_untouched sums (drop n paths) ≡ sums
+touched_early sums paths n at = ap (with_untouched sums) (past paths n at)
+
+pub touched_all : (sums : Sums) (paths : List (List ℕ)) (n : ℕ) → length paths ≤ n → with_untouched sums (drop n paths) ≡ sums
+touched_all sums paths n at = ap (with_untouched sums) (past_all paths n at)

@@ -1,10 +1,11 @@
 -- What a command did, path by path.
-use Rattle.std.specs.Prelude.{◌≡◌, ℕ, List, [], ◌∷◌, ◌++◌, Option, Some, None, if◌then◌else◌, codes, nat_eq, bytes_eq, ⊤}
+use Rattle.std.specs.Prelude.{◌≡◌, ℕ, zero, suc, Bool, true, false, List, [], ◌∷◌, ◌++◌, Option, Some, None, if◌then◌else◌, codes, nat_eq, bytes_eq, unwrap_or, ⊤}
 use Rattle.std.specs.List.{AllZip, starts_with}
 use Rattle.lexer.specs.Path.{IsCanonical}
 use Rattle.trace.specs.declared.fact.Fact.{Fact}
 use Rattle.model.specs.Graph.{has}
 use Rattle.trace.specs.declared.fact.Deed.{Deed}
+use Rattle.trace.specs.declared.fact.Deed.TheVariants.{Connected}
 use Rattle.audit.specs.declared.seen.Uses.{Uses}
 use Rattle.audit.specs.declared.used.Use.{Use}
 use Rattle.audit.specs.declared.seen.Whole.{Whole}
@@ -58,13 +59,41 @@ use_again (other ∷ paths) [] path deed = []
 use_again (other ∷ paths) (used ∷ uses) path deed =
     if bytes_eq other path then with_deed used deed ∷ uses else used ∷ use_again paths uses path deed
 
--- one thing more was done: at a path at which something was done before, or at another one, which goes last
-abbrev pub add_whole : Sums → Whole → Sums
-add_whole sums whole =
-    if has sums.paths whole.path then record { paths = sums.paths; uses = use_again sums.paths sums.uses whole.path whole.deed }
-    else record { paths = sums.paths ++ whole.path ∷ []; uses = sums.uses ++ with_deed unused whole.deed ∷ [] }
+-- the use in this place becomes one with this deed more
+abbrev pub again_at : List Use → ℕ → Deed → List Use
+again_at [] place deed = []
+again_at (used ∷ uses) zero deed = with_deed used deed ∷ uses
+again_at (used ∷ uses) (suc place) deed = used ∷ again_at uses place deed
 
--- these things were done, one after another
-abbrev pub add_wholes : Sums → List Whole → Sums
-add_wholes sums [] = sums
-add_wholes sums (whole ∷ wholes) = add_wholes (add_whole sums whole) wholes
+-- a path at which this was done goes last
+abbrev pub put_last : Sums → List ℕ → Use → Sums
+put_last sums path used = record { paths = sums.paths ++ path ∷ []; uses = sums.uses ++ used ∷ [] }
+
+-- one thing more was done: at a path at which something was done before, or at another one, which goes last
+abbrev pub with_done : Sums → List ℕ → Deed → Sums
+with_done sums path deed =
+    if has sums.paths path then record { paths = sums.paths; uses = use_again sums.paths sums.uses path deed }
+    else put_last sums path (with_deed unused deed)
+
+-- the path by which a thing counts: the one that was given, or the one that the kernel has where that is asked for and known
+abbrev pub path_by : Whole → Bool → List ℕ
+path_by whole false = whole.path
+path_by whole true = unwrap_or whole.real whole.path
+
+-- these things were done, one after another, each by the path that is asked for
+abbrev pub with_all_done : Sums → List Whole → List Bool → Sums
+with_all_done sums [] reals = sums
+with_all_done sums (whole ∷ wholes) [] = sums
+with_all_done sums (whole ∷ wholes) (real ∷ reals) =
+    with_all_done (with_done sums (path_by whole real) whole.deed) wholes reals
+
+-- the paths at which nothing was done go last
+abbrev pub with_untouched : Sums → List (List ℕ) → Sums
+with_untouched sums [] = sums
+with_untouched sums (path ∷ paths) =
+    with_untouched (if has sums.paths path then sums else put_last sums path unused) paths
+
+-- a server was asked
+abbrev pub is_connected : Deed → Bool
+is_connected Connected = true
+is_connected _ = false

@@ -6,8 +6,15 @@ use Rattle.audit.specs.declared.used.Use.{Use}
 
 abbrev pub unused : Use
 unused = record {
-  reads = false; asks = false; misses = false; lists = false; writes = false; removes = false; gone = false; is_folder = false;
-  made_folder = false
+  reads = false;
+  asks = false;
+  misses = false;
+  lists = false;
+  writes = false;
+  removes = false;
+  gone = false;
+  is_folder = false;
+  made_folder = false;
 }
 
 -- The same, and this deed after it. What a command reads, asks for or removes once it has written it is its own; and what a folder that

@@ -9,7 +9,7 @@ use std::alloc::{AllocError, Global};
 use text::Items;
 
 /// What a command did at a path that breaks a premise.
-#[derive(Clone, Copy, Debug, PartialEq, Eq)]
+#[derive(Clone, Copy)]
 pub enum Finding {
     /// It reads a file that is neither an input nor in its depfile.
     Unreported,
@@ -41,7 +41,8 @@ impl Finding {
     /// What was done: it stands in front of the path.
     pub fn verb(self) -> &'static str {
         match self {
-            Finding::Unreported | Finding::OrderOnly | Finding::Itself | Finding::NotAbove => "reads",
+            Finding::Unreported | Finding::OrderOnly | Finding::Itself | Finding::NotAbove =>
+                "reads",
             Finding::Listed => "lists",
             Finding::WritesMade | Finding::WritesKnown | Finding::WritesStray => "writes",
             Finding::RemovesMade | Finding::RemovesKnown | Finding::RemovesStray => "removes",
@@ -59,7 +60,8 @@ impl Finding {
             Finding::Listed => "/, and a file made there later would not be seen",
             Finding::WritesMade | Finding::RemovesMade => ", which another command makes",
             Finding::WritesKnown | Finding::RemovesKnown => ", a source, or recorded as an output",
-            Finding::WritesStray | Finding::RemovesStray => ", which is neither its output nor scratch",
+            Finding::WritesStray | Finding::RemovesStray =>
+                ", which is neither its output nor scratch",
             Finding::Unwritten => ", which it declares as an output",
         }
     }
@@ -96,11 +98,7 @@ pub fn findings(alloc: Global, place: Place, used: Use) -> Result<Items<Finding>
 }
 
 /// Puts a finding behind the others, where this is so.
-fn push_if(
-    found: &mut Items<Finding>,
-    is: bool,
-    finding: Finding,
-) -> Result<(), AllocError>
+fn push_if(found: &mut Items<Finding>, is: bool, finding: Finding) -> Result<(), AllocError>
     ensures { OnOk result (found.new ≡ found.old ++ when is finding) }
 {
     if is {
@@ -118,7 +116,8 @@ fn push_read(found: &mut Items<Finding>, place: Place, used: Use) -> Result<(), 
     push_if(found, is_order_only(place, used), Finding::OrderOnly)?;
     push_if(found, is_read_itself(place, used), Finding::Itself)?;
     push_if(found, is_not_above(place, used), Finding::NotAbove)?;
-    push_if(found, is_listed(place, used), Finding::Listed)
+    push_if(found, is_listed(place, used), Finding::Listed)?;
+    Ok(())
 }
 
 /// What breaks a premise by being written.
@@ -127,13 +126,22 @@ fn push_written(found: &mut Items<Finding>, place: Place, used: Use) -> Result<(
     ensures { OnOk result (found.new ≡ found.old ++ found_written place used) }
 {
     let is_scratch = used.gone && !used.removes;
-    push_if(found, used.writes && spoils_made(place), Finding::WritesMade)?;
-    push_if(found, used.writes && spoils_known(place), Finding::WritesKnown)?;
+    push_if(
+        found,
+        used.writes && spoils_made(place),
+        Finding::WritesMade,
+    )?;
+    push_if(
+        found,
+        used.writes && spoils_known(place),
+        Finding::WritesKnown,
+    )?;
     push_if(
         found,
         used.writes && spoils_stray(place) && !is_scratch,
         Finding::WritesStray,
-    )
+    )?;
+    Ok(())
 }
 
 /// What breaks a premise by being removed.
@@ -141,9 +149,22 @@ fn push_written(found: &mut Items<Finding>, place: Place, used: Use) -> Result<(
 fn push_removed(found: &mut Items<Finding>, place: Place, used: Use) -> Result<(), AllocError>
     ensures { OnOk result (found.new ≡ found.old ++ found_removed place used) }
 {
-    push_if(found, used.removes && spoils_made(place), Finding::RemovesMade)?;
-    push_if(found, used.removes && spoils_known(place), Finding::RemovesKnown)?;
-    push_if(found, used.removes && spoils_stray(place), Finding::RemovesStray)
+    push_if(
+        found,
+        used.removes && spoils_made(place),
+        Finding::RemovesMade,
+    )?;
+    push_if(
+        found,
+        used.removes && spoils_known(place),
+        Finding::RemovesKnown,
+    )?;
+    push_if(
+        found,
+        used.removes && spoils_stray(place),
+        Finding::RemovesStray,
+    )?;
+    Ok(())
 }
 
 /// Whether the path counts: it is below the folder, or a build line names it, and it is no file of the program's own.

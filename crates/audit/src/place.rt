@@ -1,27 +1,29 @@
 //! What a path is to a command.
 
 ghost use Rattle.std.specs.Prelude.{◌≡◌};
-ghost use Rattle.audit.specs.Places.{has_path, place_of};
+ghost use Rattle.model.specs.Graph.{has};
+ghost use Rattle.audit.specs.Places.{place_of};
 
-use text::{Items, Path};
+use paths::Paths;
 
-/// The paths of an edge. All of them are whole: they begin at the root, and are canonical.
-#[derive(Debug, Drop)]
+/// The paths of an edge, each list as a table, so that a path is found in it at once. All of them are whole: they begin at the root, and
+/// are canonical.
+#[derive(Drop)]
 pub struct Lists {
-    pub outputs: Items<Path>,
+    pub outputs: Paths,
     /// Its depfile and its response file.
-    pub sides: Items<Path>,
+    pub sides: Paths,
     /// The inputs that its command may read without a word: its explicit and implicit ones, through phony edges.
-    pub inputs: Items<Path>,
-    pub order_only: Items<Path>,
+    pub inputs: Paths,
+    pub order_only: Paths,
     /// What its command told in its depfile.
-    pub reported: Items<Path>,
+    pub reported: Paths,
     /// Whether its command may leave an output as it was.
     pub restat: bool,
 }
 
 /// What a path is to the build, apart from an edge.
-#[derive(Clone, Copy, Debug, PartialEq, Eq)]
+#[derive(Clone, Copy)]
 pub struct Around {
     /// Another edge makes it.
     pub made: bool,
@@ -38,7 +40,7 @@ pub struct Around {
 }
 
 /// What a path is to a command.
-#[derive(Clone, Copy, Debug, PartialEq, Eq)]
+#[derive(Clone, Copy)]
 pub struct Place {
     pub output: bool,
     pub side: bool,
@@ -49,8 +51,8 @@ pub struct Place {
     pub around: Around,
 }
 
-/// What this path is to the command of the edge with these lists.
-pub fn place_of(lists: &Lists, around: Around, path: &Path) -> Place
+/// What this path is to the command of the edge with these lists. It takes a time that does not grow with them.
+pub fn place_of(lists: &Lists, around: Around, path: &str) -> Place
     ensures { result ≡ place_of lists.now around path.now }
 {
     Place {
@@ -65,13 +67,11 @@ pub fn place_of(lists: &Lists, around: Around, path: &Path) -> Place
 }
 
 /// Whether the path is one of these.
-fn has(paths: &Items<Path>, path: &Path) -> bool
-    ensures { result ≡ has_path path.now paths.now }
+fn has(paths: &Paths, path: &str) -> bool
+    ensures { result ≡ has paths.now path.now }
 {
-    for one in paths.as_slice() {
-        if one == path {
-            return true;
-        }
+    match paths.number_of(path) {
+        Some(_) => true,
+        None => false,
     }
-    false
 }

@@ -6,7 +6,7 @@ ghost use Rattle.audit.specs.Uses.{unused, with_deed};
 use trace::Deed;
 
 /// What a command did at one path, in sum.
-#[derive(Clone, Copy, Debug, PartialEq, Eq)]
+#[derive(Clone, Copy)]
 pub struct Use {
     /// It read what stood there before it wrote there.
     pub reads: bool,
