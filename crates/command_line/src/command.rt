@@ -2,7 +2,7 @@
 
 ghost use Rattle.std.specs.Prelude.{◌≡◌, [], IfOk, IfErr, true, false, map};
 ghost use Rattle.clap.specs.Words.{HasKind, app_of, fault_of, found_of, kind_of, one_of, rows_of, rule_of, takes};
-ghost use Rattle.command_line.specs.Options.{AreAsked, AreGiven, IsNumber, bare, nj, folder_rule, file_rule, jobs_rule, keep_rule, verbose_rule, audit_rule, targets_rule};
+ghost use Rattle.command_line.specs.Options.{AreAsked, AreGiven, IsNumber, bare, nj, folder_rule, file_rule, jobs_rule, keep_rule, verbose_rule, audit_rule, audit_all_rule, targets_rule};
 
 use crate::given::Options;
 use clap::error::ErrorKind;
@@ -52,6 +52,7 @@ fn given<'a>(alloc: Global, matches: &ArgMatches<'a>) -> Result<Options<'a>, All
         keep: number(matches, "keep", KEEP),
         verbose: matches.get_flag("verbose"),
         audit: matches.get_flag("audit"),
+        audit_all: matches.get_flag("audit_all"),
         targets: Vec::from_slice(alloc, matches.get_strs("targets").unwrap_or(&[]))?,
     })
 }
@@ -74,6 +75,7 @@ fn command<'a>(alloc: Global) -> Result<Command<'a>, AllocError>
         .arg(keep(alloc))?
         .arg(verbose(alloc))?
         .arg(audit(alloc))?
+        .arg(audit_all(alloc))?
         .arg(targets(alloc))?;
     Ok(command)
 }
@@ -151,6 +153,16 @@ fn audit<'a>(alloc: Global) -> Arg<'a>
         .long("audit")
         .action(ArgAction::SetTrue)
         .help("Traces commands, and tells what of that which they did breaks a premise")
+}
+
+fn audit_all<'a>(alloc: Global) -> Arg<'a>
+    ensures rule { rule_of result ≡ audit_all_rule }
+    ensures local { result.global ≡ false }
+{
+    Arg::new(alloc, "audit_all")
+        .long("audit-all")
+        .action(ArgAction::SetTrue)
+        .help("The same, and lists each file outside of the folder")
 }
 
 fn targets<'a>(alloc: Global) -> Arg<'a>

@@ -17,6 +17,8 @@ pub struct Options<'a> {
     pub verbose: bool,
     /// Whether commands are traced, and it is told what of that which they did breaks a premise.
     pub audit: bool,
+    /// The same, and each file outside of the folder is listed.
+    pub audit_all: bool,
     /// What to build; nothing is what the build files say.
     pub targets: Vec<&'a str>,
 }
@@ -28,5 +30,16 @@ impl<'a> Model for Options<'a> {
 
     ghost Value = { Options };
 
-    ghost view = { λ options. record { folder = option_map (λ path. path.now) options.folder; file = options.file.now; jobs = options.jobs; keep = options.keep; verbose = options.verbose; audit = options.audit; targets = map (λ path. path.now) options.targets.items } };
+    ghost view = { λ options. record { folder = option_map (λ path. path.now) options.folder; file = options.file.now; jobs = options.jobs; keep = options.keep; verbose = options.verbose; audit = options.audit; audit_all = options.audit_all; targets = map (λ path. path.now) options.targets.items } };
+}
+
+impl<'a> Options<'a> {
+    ghost use Rattle.command_line.specs.Options.{audits};
+
+    /// Whether an audit is asked for.
+    pub fn audits(&self) -> bool
+        ensures { result ≡ audits self.now }
+    {
+        self.audit || self.audit_all
+    }
 }

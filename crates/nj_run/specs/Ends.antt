@@ -4,7 +4,7 @@ use Rattle.clap.specs.Words.{IsAmong, Text, fault_of}
 use Rattle.clap.specs.declared.error.kind.ErrorKind.{ErrorKind}
 use Rattle.clap.specs.declared.error.kind.ErrorKind.TheVariants.{DisplayHelp, DisplayVersion, OutOfMemory}
 use Rattle.model.specs.World.{World}
-use Rattle.command_line.specs.Options.{AreAsked, Options, nj}
+use Rattle.command_line.specs.Options.{AreAsked, Options, audits, nj}
 use Rattle.builder.specs.declared.report.Report.{Report}
 use Rattle.builder.specs.declared.report.Report.TheVariants.{Success}
 use Rattle.host.specs.World.{any_outcome, fresh}
@@ -86,9 +86,9 @@ EndsFor asked Help = ⊥
 EndsFor asked BadWords = ⊥
 EndsFor asked NoMemory = ⊥
 EndsFor asked (NoFolder folder) = asked.folder ≡ Some folder
-EndsFor asked (Built report refused) = (asked.audit ≡ false) × (later : World) × BuildsAlone false any_outcome asked fresh later report
-EndsFor asked NoTracer = asked.audit ≡ true
-EndsFor asked (Audited report keeps) = (asked.audit ≡ true) × (later : World) × BuildsAlone false any_outcome asked fresh later report
+EndsFor asked (Built report refused) = (audits asked ≡ false) × (later : World) × BuildsAlone false any_outcome asked fresh later report
+EndsFor asked NoTracer = audits asked ≡ true
+EndsFor asked (Audited report keeps) = (audits asked ≡ true) × (later : World) × BuildsAlone false any_outcome asked fresh later report
 
 -- the words have a fault for which a run may end so
 pub record AreRefused (words : List Text) (ending : Ending) : Type 0 where

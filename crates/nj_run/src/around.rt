@@ -1,19 +1,20 @@
 //! What a path is to a build, apart from the edge that is looked at.
 
+use crate::graphs::{maker, text};
 use audit::{Around, canonical_at};
 use build_log::Log;
 use indexmap::IndexMap;
 use links::Graph;
-use paths::{EdgeId, PathId};
+use paths::{EdgeId, PathId, Paths};
 use std::alloc::{AllocError, Global};
 
-/// The paths that build lines name, from the root and canonical, with the edge that makes each.
+/// The paths that build lines name, from the root and canonical, with the edge whose command makes each.
 #[derive(Drop)]
 pub struct Names {
     /// The working folder, from the root.
     folder: String,
     makers: IndexMap<String, Option<EdgeId>>,
-    /// The build log, if it is there.
+    /// The build log, if there is one.
     log: Option<Log>,
 }
 
@@ -39,8 +40,8 @@ impl Names {
     }
 
     fn add(&mut self, alloc: Global, graph: &Graph, path: PathId) -> Result<(), AllocError> {
-        let whole = canonical_at(alloc, self.folder.as_str(), graph.text(path))?;
-        let maker = graph.maker(path);
+        let whole = canonical_at(alloc, self.folder.as_str(), text(graph, path))?;
+        let maker = maker(graph, path);
         if maker.is_some() || self.makers.get(whole.as_str()).is_none() {
             let _ = self.makers.insert(whole.into_string(), maker)?;
         }
@@ -57,6 +58,13 @@ impl Names {
         canonical_at(alloc, self.folder.as_str(), path)
     }
 
+    /// Puts the path, from the root, into a table.
+    pub fn add_to(&self, alloc: Global, table: &mut Paths, path: &str) -> Result<(), AllocError> {
+        let whole = self.whole(alloc, path)?;
+        table.add(alloc, whole.as_str())?;
+        Ok(())
+    }
+
     /// The path as it is told: taken from the working folder, where it is below that.
     pub fn short<'p>(&self, path: &'p str) -> &'p str {
         match below(self.folder.as_str(), path) {
@@ -70,9 +78,9 @@ impl Names {
         below(self.folder.as_str(), path).is_some() || self.makers.get(path).is_some()
     }
 
-    /// Whether a build line names the path.
-    pub fn is_named(&self, path: &str) -> bool {
-        self.makers.get(path).is_some()
+    /// The edge whose command makes the path.
+    pub fn maker(&self, path: &str) -> Option<EdgeId> {
+        self.makers.get(path).copied().flatten()
     }
 
     /// Whether a record in force names the path as an output.
@@ -83,28 +91,16 @@ impl Names {
         }
     }
 
-    /// What the path is to the build, seen from this edge.
-    pub fn around(
-        &self,
-        alloc: Global,
-        graph: &Graph,
-        edge: EdgeId,
-        path: &str,
-    ) -> Result<Around, AllocError> {
-        let named = self.makers.get(path);
-        let maker = named.copied().flatten().filter(|maker| *maker != edge);
-        let above = match maker {
-            Some(maker) => is_above(alloc, graph, maker, edge)?,
-            None => false,
-        };
-        Ok(Around {
-            made: maker.is_some(),
+    /// What the path is to the build, where it is known whether another command makes it, and one that is above.
+    pub fn around(&self, path: &str, made: bool, above: bool) -> Around {
+        Around {
+            made,
             above,
-            named: named.is_some(),
+            named: self.makers.get(path).is_some(),
             recorded: self.is_recorded(path),
             inside: below(self.folder.as_str(), path).is_some(),
             own: is_own(path),
-        })
+        }
     }
 }
 
@@ -119,34 +115,4 @@ fn is_own(path: &str) -> bool {
         Some((_, name)) => name.as_bytes().starts_with(b".nj_"),
         None => false,
     }
-}
-
-/// Whether the one edge is above the other: it makes what that one needs, or what one needs that is above it. It takes a time of the order
-/// of the graph.
-fn is_above(
-    alloc: Global,
-    graph: &Graph,
-    upper: EdgeId,
-    lower: EdgeId,
-) -> Result<bool, AllocError> {
-    let mut is_seen = vec![in alloc; false; graph.edges()]?;
-    let mut open = Vec::new(alloc);
-    open.push(lower)?;
-    for _ in 0..usize::MAX {
-        let Some(edge) = open.pop() else {
-            return Ok(false);
-        };
-        for input in graph.inputs(edge) {
-            if let Some(maker) = graph.maker(*input) {
-                if maker == upper {
-                    return Ok(true);
-                }
-                if maker.index() < is_seen.len() && !is_seen[maker.index()] {
-                    is_seen[maker.index()] = true;
-                    open.push(maker)?;
-                }
-            }
-        }
-    }
-    Ok(false)
 }

@@ -1,16 +1,19 @@
 //! A run that audits: a build in which each command is traced, and what is told of that.
 
 ghost use Rattle.std.specs.Prelude.{◌≡◌, ◌≤◌, IfOk, true};
+ghost use Rattle.command_line.specs.Options.{audits};
 ghost use Rattle.nj_run.specs.Ends.{Comes, EndsFor};
 
-use crate::looked::{Tally, look};
+use crate::looked::look;
 use crate::noted::Noted;
 use crate::program::{build_on, build_options};
+use crate::tally::Tally;
 use crate::told;
 use crate::tracer::tracer;
 use builder::{Options, Report};
 use command_line::Options as Asked;
 use host::{Host, Trouble};
+use std::alloc::Global;
 use std::io::Write;
 use std::{env, io};
 use text::Text;
@@ -37,7 +40,7 @@ pub fn audit_asked<W: Write, E: Write>(
     err: &mut E,
     noted: &mut Noted<'_>,
 ) -> io::Result<u8>
-    requires { asked.now.audit ≡ true }
+    requires { audits asked.now ≡ true }
     ensures range { IfOk result (λ status. status ≤ 1) }
     ensures comes { Comes (EndsFor asked.now) W.contents E.contents out.old out.new err.old err.new result }
 {
@@ -52,7 +55,7 @@ pub fn audit_asked<W: Write, E: Write>(
         tally,
     } = audit_here(asked, pattern, program, out, noted)?;
     let status = told::report(&report, trouble.as_ref(), out, err)?;
-    let keeps = tell(tally.as_ref(), out)?;
+    let keeps = tell(noted.rt().alloc(), tally.as_ref(), asked.audit_all, out)?;
     if keeps { Ok(status) } else { Ok(1) }
 }
 
@@ -74,7 +77,7 @@ fn audit_here<W: Write>(
     noted.waited(host.wait_for_clock());
     noted.built(&mut host, asked.file, &report);
     let tally = match folder.to_str() {
-        Some(folder) => look(alloc, &mut host, &options, targets.as_slice(), folder),
+        Some(folder) => look(rt, &mut host, &options, targets.as_slice(), folder),
         None => None,
     };
     let trouble = host.into_trouble();
@@ -85,14 +88,23 @@ fn audit_here<W: Write>(
     })
 }
 
-/// Tells what was found: whether each command was looked at and keeps all premises.
-fn tell<W: Write>(tally: Option<&Tally>, out: &mut W) -> io::Result<bool> {
+/// Tells what was found: whether each command was looked at and keeps all premises. Files outside of the folder are listed, or counted by
+/// folder.
+fn tell<W: Write>(
+    alloc: Global,
+    tally: Option<&Tally>,
+    is_listed: bool,
+    out: &mut W,
+) -> io::Result<bool> {
     let Some(tally) = tally else {
         writeln!(out, "nj: audit: the traces could not be looked at")?;
         out.flush()?;
         return Ok(false);
     };
     out.write_all(tally.lines.as_bytes())?;
+    let mut outside = String::new(alloc);
+    tally.outside.push_lines(alloc, is_listed, &mut outside)?;
+    out.write_all(outside.as_bytes())?;
     let looked = tally.looked;
     let commands = tally.commands;
     let kept = tally.kept;
@@ -107,5 +119,5 @@ fn tell<W: Write>(tally: Option<&Tally>, out: &mut W) -> io::Result<bool> {
         "nj: audit: {looked} of {commands} commands of the cone looked at, {kept} keep all premises, as far as the trace shows"
     )?;
     out.flush()?;
-    Ok(looked == commands && kept == looked)
+    Ok(tally.is_clean())
 }

@@ -1,110 +1,172 @@
 //! The paths of an edge, as an audit compares them with what its command did.
 
+use crate::above::marks;
 use crate::around::Names;
+use crate::graphs::{action, order_only_inputs, outputs, regular_inputs, text};
 use audit::Lists;
+use deps_log::Log;
 use links::Graph;
-use paths::{Action, EdgeId, PathId};
-use records::Records;
+use model::Act;
+use paths::{Action, EdgeId, PathId, Paths};
 use std::alloc::{AllocError, Global};
-use text::{Items, Path};
+
+/// What is declared and reported, and how paths are named.
+#[derive(Clone, Copy)]
+pub struct Declared<'d> {
+    pub graph: &'d Graph,
+    pub names: &'d Names,
+    /// The deps log, if there is one.
+    pub deps: Option<&'d Log>,
+}
 
 /// The paths of an edge.
-pub fn lists_of(
-    alloc: Global,
-    graph: &Graph,
-    records: &Records,
-    names: &Names,
-    edge: EdgeId,
-) -> Result<Lists, AllocError> {
-    let mut sides = Items::new(alloc);
-    let mut restat = false;
-    if let Action::Command(command) = graph.manifest.action(edge) {
-        restat = command.restat;
-        push_text(alloc, names, command.act.depfile.as_str(), &mut sides)?;
-        push_text(alloc, names, command.act.response_path.as_str(), &mut sides)?;
-    }
+pub fn lists_of(alloc: Global, declared: Declared<'_>, edge: EdgeId) -> Result<Lists, AllocError> {
+    let Declared { graph, .. } = declared;
+    let outputs = whole_paths(alloc, declared, outputs(graph, edge))?;
+    let inputs = read_through(alloc, declared, regular_inputs(graph, edge))?;
+    let order_only = read_through(alloc, declared, order_only_inputs(graph, edge))?;
+    let reported = reported(alloc, declared, edge)?;
+    let mut sides = Paths::new(alloc);
+    let restat = push_sides(alloc, declared, edge, &mut sides)?;
     Ok(Lists {
-        outputs: whole_paths(alloc, graph, names, graph.outputs(edge))?,
+        outputs,
         sides,
-        inputs: read_through(alloc, graph, names, graph.regular_inputs(edge))?,
-        order_only: read_through(
-            alloc,
-            graph,
-            names,
-            graph.manifest.lines.order_only_inputs(edge),
-        )?,
-        reported: reported(alloc, graph, records, names, edge)?,
+        inputs,
+        order_only,
+        reported,
         restat,
     })
 }
 
+/// Takes in the depfile and the response file of an edge; whether its command may leave outputs as they were.
+fn push_sides(
+    alloc: Global,
+    declared: Declared<'_>,
+    edge: EdgeId,
+    sides: &mut Paths,
+) -> Result<bool, AllocError> {
+    match action(declared.graph, edge) {
+        Some(action) => push_sides_of(alloc, declared, action, sides),
+        None => Ok(false),
+    }
+}
+
+fn push_sides_of(
+    alloc: Global,
+    declared: Declared<'_>,
+    action: &Action,
+    sides: &mut Paths,
+) -> Result<bool, AllocError> {
+    match action {
+        Action::Command(command) => {
+            push_files(alloc, declared, &command.act, sides)?;
+            Ok(command.restat)
+        }
+        Action::Alias => Ok(false),
+    }
+}
+
+fn push_files(
+    alloc: Global,
+    declared: Declared<'_>,
+    act: &Act,
+    sides: &mut Paths,
+) -> Result<(), AllocError> {
+    push_text(alloc, declared, act.depfile.as_str(), sides)?;
+    push_text(alloc, declared, act.response_path.as_str(), sides)
+}
+
 fn push_text(
     alloc: Global,
-    names: &Names,
+    declared: Declared<'_>,
     path: &str,
-    paths: &mut Items<Path>,
+    table: &mut Paths,
 ) -> Result<(), AllocError> {
-    if !path.is_empty() {
-        paths.push(names.whole(alloc, path)?)?;
+    if path.is_empty() {
+        return Ok(());
     }
-    Ok(())
+    declared.names.add_to(alloc, table, path)
 }
 
 fn whole_paths(
     alloc: Global,
-    graph: &Graph,
-    names: &Names,
+    declared: Declared<'_>,
     numbers: &[PathId],
-) -> Result<Items<Path>, AllocError> {
-    let mut paths = Items::new(alloc);
+) -> Result<Paths, AllocError> {
+    let mut table = Paths::new(alloc);
     for number in numbers {
-        paths.push(names.whole(alloc, graph.text(*number))?)?;
+        let path = text(declared.graph, *number);
+        declared.names.add_to(alloc, &mut table, path)?;
     }
-    Ok(paths)
+    Ok(table)
 }
 
 /// These paths, and where a phony edge makes one its inputs too, and so on.
 fn read_through(
     alloc: Global,
-    graph: &Graph,
-    names: &Names,
+    declared: Declared<'_>,
     inputs: &[PathId],
-) -> Result<Items<Path>, AllocError> {
-    let mut paths = Items::new(alloc);
+) -> Result<Paths, AllocError> {
+    let Declared { graph, .. } = declared;
+    let mut table = Paths::new(alloc);
     let mut open = Vec::from_slice(alloc, inputs)?;
     let mut is_seen = vec![in alloc; false; graph.edges()]?;
     for _ in 0..usize::MAX {
         let Some(path) = open.pop() else {
-            return Ok(paths);
+            return Ok(table);
         };
-        paths.push(names.whole(alloc, graph.text(path))?)?;
-        if let Some(maker) = graph.maker(path) {
-            if graph.is_phony(maker) && maker.index() < is_seen.len() && !is_seen[maker.index()] {
-                is_seen[maker.index()] = true;
-                open.extend_from_slice(graph.regular_inputs(maker))?;
-            }
+        declared.names.add_to(alloc, &mut table, text(graph, path))?;
+        push_behind(graph, path, &mut is_seen, &mut open)?;
+    }
+    Ok(table)
+}
+
+/// Where a phony edge makes the path, its inputs are put at the end, unless that was done before.
+fn push_behind(
+    graph: &Graph,
+    path: PathId,
+    is_seen: &mut Vec<bool>,
+    open: &mut Vec<PathId>,
+) -> Result<(), AllocError> {
+    if let Some(alias) = graph.alias(path) {
+        if marks(is_seen, alias.index()) {
+            open.extend_from_slice(graph.regular_inputs(alias))?;
         }
     }
-    Ok(paths)
+    Ok(())
 }
 
 /// What the command of the edge told when it ran last.
-fn reported(
-    alloc: Global,
-    graph: &Graph,
-    records: &Records,
-    names: &Names,
-    edge: EdgeId,
-) -> Result<Items<Path>, AllocError> {
-    let mut paths = Items::new(alloc);
-    for output in graph.outputs(edge) {
-        if let Some(deps) = records.deps(*output) {
-            for number in deps.paths.as_slice() {
-                if let Some(path) = records.deps_path(*number) {
-                    paths.push(names.whole(alloc, path)?)?;
-                }
-            }
+fn reported(alloc: Global, declared: Declared<'_>, edge: EdgeId) -> Result<Paths, AllocError> {
+    let mut table = Paths::new(alloc);
+    if let Some(log) = declared.deps {
+        for output in outputs(declared.graph, edge) {
+            push_reported(
+                alloc,
+                declared,
+                log,
+                text(declared.graph, *output),
+                &mut table,
+            )?;
         }
     }
-    Ok(paths)
+    Ok(table)
+}
+
+fn push_reported(
+    alloc: Global,
+    declared: Declared<'_>,
+    log: &Log,
+    output: &str,
+    table: &mut Paths,
+) -> Result<(), AllocError> {
+    let Some(deps) = log.lookup(output) else {
+        return Ok(());
+    };
+    for number in deps.paths.as_slice() {
+        if let Some(path) = log.path(*number) {
+            declared.names.add_to(alloc, table, path)?;
+        }
+    }
+    Ok(())
 }

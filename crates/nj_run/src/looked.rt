@@ -1,95 +1,74 @@
 //! What an audit finds, once a build has ended: each command that was started in it has left a trace.
 
+use crate::above::above;
+use crate::anew::{build_log_in, deps_log_in, graph_of, take_trace};
 use crate::around::Names;
-use crate::listed::lists_of;
-use audit::{
-    Finding, Lists, Use, Uses, Whole, connects, findings, other_name, place_of, uses_of, wholes_of,
-};
-use build_log::Log;
+use crate::graphs::{is_command, outputs, text};
+use crate::listed::{Declared, lists_of};
+use crate::outside::Outside;
+use crate::tally::Tally;
+use crate::twins::Twins;
+use audit::{Around, Lists, Use, Uses, Whole, breaches, connects, uses_of, wholes_of};
 use builder::{Options, Reading};
+use deps_log::Log;
 use host::Host;
 use links::Graph;
 use model::Event;
-use paths::{EdgeId, PathId};
-use records::Records;
-use site::{Site, Texts};
+use paths::{EdgeId, Paths};
+use site::Site;
 use std::alloc::{AllocError, Global};
 use std::io::Write;
 use text::{Items, Path, Text};
 use trace::{Told, read};
-
-/// What an audit has found: how many commands there are, of how many a trace was understood, how many of these keep all premises, and the
-/// lines that tell what the others did.
-#[derive(Drop)]
-pub struct Tally {
-    pub commands: usize,
-    pub looked: usize,
-    pub kept: usize,
-    pub lines: String,
-}
 
 /// What is looked at, all of it as it is after the build.
 #[derive(Drop)]
 struct Looking {
     alloc: Global,
     graph: Graph,
-    records: Records,
+    /// The deps log, if there is one.
+    deps: Option<Log>,
     names: Names,
+    twins: Twins,
 }
 
-/// Looks at all commands that were started and ended well. The folder is the working one, from the root. None where the build files or the
-/// logs cannot be read any more, or there is no memory.
+/// Looks at all commands that were started and ended well. The folder is the working one, from the root. None where the build files cannot
+/// be read any more, or there is no memory.
 pub fn look<W: Write>(
-    alloc: Global,
+    rt: &HostRuntime,
     host: &mut Host<'_, W>,
     options: &Options,
     targets: &[Text],
     folder: &str,
 ) -> Option<Tally> {
+    let alloc = rt.alloc();
     let Reading { manifest, asked } = builder::read(alloc, host, options, targets).ok()?;
-    let logs = asked.folder.as_str();
-    let log = own_path(alloc, logs, ".nj_log").ok()?;
-    let deps_log = own_path(alloc, logs, ".nj_deps").ok()?;
-    let graph = Graph::build(alloc, manifest, logs).ok()?;
-    let records = Records::read(alloc, host, &graph, log, deps_log).ok()?;
-    let mut tally = Tally {
-        commands: commands_in(alloc, &graph, asked.targets.as_slice())?,
-        looked: 0,
-        kept: 0,
-        lines: String::new(alloc),
-    };
-    let log = logged(alloc, host, logs)?;
+    let graph = graph_of(alloc, host, manifest, asked.folder.as_str())?;
+    let commands = commands_in(alloc, &graph, asked.targets.as_slice())?;
+    let looking = looking(rt, host, graph, asked.folder.as_str(), folder)?;
+    look_at_all(host, &looking, commands)
+}
+
+/// What is looked at. The logs stand in the first folder, and the second one is the working folder, from the root.
+fn looking<W: Write>(
+    rt: &HostRuntime,
+    host: &mut Host<'_, W>,
+    graph: Graph,
+    logs: &str,
+    folder: &str,
+) -> Option<Looking> {
+    let alloc = rt.alloc();
+    let log = build_log_in(alloc, host, logs);
     let names = Names::of(alloc, &graph, folder, log).ok()?;
-    let looking = Looking {
+    let twins = Twins::of(alloc, rt, &graph, &names).ok()?;
+    let deps = deps_log_in(alloc, host, logs);
+    Some(Looking {
         alloc,
         graph,
-        records,
+        deps,
         names,
-    };
-    for (job, ok) in ended(alloc, host).ok()? {
-        look_at(host, &looking, job, ok, &mut tally)?;
-    }
-    Some(tally)
-}
-
-/// The build log as it is now.
-fn logged<W: Write>(alloc: Global, host: &mut Host<'_, W>, folder: &str) -> Option<Option<Log>> {
-    let path = own_path(alloc, folder, ".nj_log").ok()?;
-    match host.read(path.as_str()).ok()? {
-        Some(bytes) => {
-            let (log, _) = Log::parse(alloc, bytes.as_slice()).ok()?;
-            Some(Some(log))
-        }
-        None => Some(None),
-    }
-}
-
-/// The path of a file of the program's own.
-fn own_path(alloc: Global, folder: &str, name: &str) -> Result<String, AllocError> {
-    match folder {
-        "" => String::from_str(alloc, name),
-        _ => format!(in alloc; "{folder}/{name}"),
-    }
+        twins,
+    })
 }
 
 /// How many commands the targets need.
@@ -97,148 +76,195 @@ fn commands_in(alloc: Global, graph: &Graph, targets: &[Path]) -> Option<usize> 
     let cone = graph.cone(alloc, targets).ok()?;
     let mut count = 0usize;
     for edge in &cone.order {
-        if !graph.is_phony(*edge) {
+        if is_command(graph, *edge) {
             count = count.saturating_add(1);
         }
     }
     Some(count)
 }
 
-/// The jobs that ended, and whether they ended well.
-fn ended<W: Write>(
-    alloc: Global,
-    host: &Host<'_, W>,
-) -> Result<Vec<(usize, bool)>, AllocError> {
-    let mut jobs = Vec::new(alloc);
+fn look_at_all<W: Write>(
+    host: &mut Host<'_, W>,
+    looking: &Looking,
+    commands: usize,
+) -> Option<Tally> {
+    let mut tally = Tally::new(looking.alloc, commands);
+    let ended = ended(looking.alloc, host).ok()?;
+    for end in &ended {
+        look_at(host, looking, *end, &mut tally)?;
+    }
+    Some(tally)
+}
+
+/// A command that ended.
+#[derive(Clone, Copy)]
+struct Ended {
+    job: usize,
+    ok: bool,
+}
+
+/// The commands that ended.
+fn ended<W: Write>(alloc: Global, host: &Host<'_, W>) -> Result<Vec<Ended>, AllocError> {
+    let mut ended = Vec::new(alloc);
     for event in host.events() {
         if let Event::Finish { job, ok } = event {
-            jobs.push((*job, *ok))?;
+            ended.push(Ended { job: *job, ok: *ok })?;
         }
     }
-    Ok(jobs)
+    Ok(ended)
 }
 
 /// Looks at one command by its trace, which is removed. One that failed is not looked at.
 fn look_at<W: Write>(
     host: &mut Host<'_, W>,
     looking: &Looking,
-    job: usize,
-    ok: bool,
+    end: Ended,
     tally: &mut Tally,
 ) -> Option<()> {
-    let path = host.trace_of(job).ok()?;
-    let trace = host.read(path.as_str()).ok()?;
-    let _ = host.remove(path.as_str());
-    if !ok {
+    let trace = take_trace(host, end.job);
+    if !end.ok {
         return Some(());
     }
-    let edge = EdgeId::at(job.saturating_sub(1))?;
-    let understood = match trace {
-        Some(trace) => told_in(looking, trace.as_slice()).ok()?,
-        None => None,
+    let edge = EdgeId::at(end.job.saturating_sub(1))?;
+    let told = match trace {
+        Some(trace) => looking.take_trace(edge, trace.as_slice(), tally),
+        None => looking.tell_not_understood(edge, tally),
     };
-    match understood {
-        Some(wholes) => judge(looking, edge, wholes.as_slice(), tally).ok(),
-        None => looking.tell_not_understood(edge, tally).ok(),
-    }
-}
-
-/// What a trace tells of a command, if it is understood.
-fn told_in(looking: &Looking, trace: &[u8]) -> Result<Option<Items<Whole>>, AllocError> {
-    let folder = looking.names.folder();
-    match read(looking.alloc, folder.as_bytes(), trace)? {
-        Told::Facts(facts) => wholes_of(looking.alloc, facts.as_slice()),
-        Told::NotUnderstood => Ok(None),
-    }
-}
-
-/// Tells what breaks a premise of that which the command of the edge did.
-fn judge(
-    looking: &Looking,
-    edge: EdgeId,
-    wholes: &[Whole],
-    tally: &mut Tally,
-) -> Result<(), AllocError> {
-    tally.looked = tally.looked.saturating_add(1);
-    let uses = uses_of(looking.alloc, wholes)?;
-    let lists = lists_of(
-        looking.alloc,
-        &looking.graph,
-        &looking.records,
-        &looking.names,
-        edge,
-    )?;
-    let mut found = 0usize;
-    for place in 0..uses.uses.len() {
-        let count = looking.judge_at(edge, &lists, wholes, &uses, place, tally)?;
-        found = found.saturating_add(count);
-    }
-    for output in lists.outputs.as_slice() {
-        if uses.paths.number_of(output.as_str()).is_none() {
-            let count = looking.judge_path(edge, &lists, output, Use::none(), tally)?;
-            found = found.saturating_add(count);
-        }
-    }
-    looking.tell_looked(edge, &lists, &uses, tally)?;
-    if connects(wholes) {
-        looking.tell_note(edge, "connects to a server, and what that does is not seen", tally)?;
-    }
-    if found == 0 {
-        tally.kept = tally.kept.saturating_add(1);
-    }
-    Ok(())
-}
-
-/// Whether a file was looked for, was not there, and was not made.
-fn is_missing(used: Use) -> bool {
-    used.misses && !used.reads && !used.asks && !used.writes && !used.is_folder
-}
-
-/// The path in this place.
-fn path_in(alloc: Global, uses: &Uses, place: usize) -> Result<Option<Path>, AllocError> {
-    match PathId::at(place) {
-        Some(number) => match uses.paths.get(number) {
-            Some(path) => Ok(Some(Path::from_str(alloc, path)?)),
-            None => Ok(None),
-        },
-        None => Ok(None),
-    }
-}
-
-/// The last part of a path.
-fn name_in(path: &str) -> &str {
-    match path.rsplit_once('/') {
-        Some((_, name)) => name,
-        None => path,
-    }
+    told.ok()
 }
 
 impl Looking {
-    /// Tells what breaks a premise at the path in this place: how much it was. Of a path that counts for nothing that counts by which the
-    /// kernel had the file.
-    fn judge_at(
+    /// What is declared and reported.
+    fn declared(&self) -> Declared<'_> {
+        Declared {
+            graph: &self.graph,
+            names: &self.names,
+            deps: self.deps.as_ref(),
+        }
+    }
+
+    /// Tells what breaks a premise of that which a trace tells of the command of the edge.
+    fn take_trace(&self, edge: EdgeId, trace: &[u8], tally: &mut Tally) -> Result<(), AllocError> {
+        match self.told_in(trace)? {
+            Some(wholes) => self.take_wholes(edge, wholes.as_slice(), tally),
+            None => self.tell_not_understood(edge, tally),
+        }
+    }
+
+    /// What a trace tells of a command, if it is understood.
+    fn told_in(&self, trace: &[u8]) -> Result<Option<Items<Whole>>, AllocError> {
+        match read(self.alloc, self.names.folder().as_bytes(), trace)? {
+            Told::Facts(facts) => wholes_of(self.alloc, facts.as_slice()),
+            Told::NotUnderstood => Ok(None),
+        }
+    }
+
+    /// Tells what breaks a premise of that which the command of the edge did.
+    fn take_wholes(
+        &self,
+        edge: EdgeId,
+        wholes: &[Whole],
+        tally: &mut Tally,
+    ) -> Result<(), AllocError> {
+        let lists = lists_of(self.alloc, self.declared(), edge)?;
+        let uses = self.uses_of(wholes, &lists)?;
+        let found = self.judge(edge, &lists, &uses, tally)?;
+        let spelled = self.tell_spellings(edge, &uses, tally)?;
+        self.tell_looked(edge, &lists, &uses, tally)?;
+        tally.outside.take(self.alloc, &self.names, &uses)?;
+        if connects(wholes) {
+            self.tell_note(
+                edge,
+                "connects to a server, and what that does is not seen",
+                tally,
+            )?;
+        }
+        tally.count(found.saturating_add(spelled) == 0);
+        Ok(())
+    }
+
+    /// What was done at each path, those that count by their names and the others by those that the kernel has; each output of the edge is
+    /// among them.
+    fn uses_of(&self, wholes: &[Whole], lists: &Lists) -> Result<Uses, AllocError> {
+        let mut reals = Vec::with_capacity(self.alloc, wholes.len())?;
+        for whole in wholes {
+            reals.push(!self.names.counts(whole.path.as_str()))?;
+        }
+        let mut uses = uses_of(self.alloc, wholes, reals.as_slice())?;
+        uses.add_untouched(self.alloc, &lists.outputs)?;
+        Ok(uses)
+    }
+
+    /// Tells what breaks a premise, and answers how much it was.
+    fn judge(
         &self,
         edge: EdgeId,
         lists: &Lists,
-        wholes: &[Whole],
         uses: &Uses,
-        place: usize,
         tally: &mut Tally,
     ) -> Result<usize, AllocError> {
-        let Some(path) = path_in(self.alloc, uses, place)? else {
-            return Ok(0);
-        };
-        let used = uses.at_place(place);
-        let Some(real) = other_name(wholes, path.as_str()) else {
-            return self.judge_path(edge, lists, &path, used, tally);
-        };
-        if !self.names.counts(path.as_str()) {
-            return self.judge_path(edge, lists, real, used, tally);
+        let arounds = self.arounds_of(edge, lists, uses)?;
+        let found = breaches(self.alloc, lists, arounds.as_slice(), uses)?;
+        for breach in found.as_slice() {
+            let path = self.names.short(uses.path(breach.place).unwrap_or(""));
+            tally.tell(self.alloc, self.name_of(edge), breach.finding, path)?;
         }
-        let count = self.judge_path(edge, lists, &path, used, tally)?;
-        if self.names.is_named(path.as_str()) && self.names.is_named(real.as_str()) {
-            self.tell_two_names(edge, &path, real, tally)?;
-            return Ok(count.saturating_add(1));
+        Ok(found.len())
+    }
+
+    /// What each path is to the build.
+    fn arounds_of(
+        &self,
+        edge: EdgeId,
+        lists: &Lists,
+        uses: &Uses,
+    ) -> Result<Vec<Around>, AllocError> {
+        let is_above = self.above_of(edge, lists, uses)?;
+        let mut arounds = Vec::with_capacity(self.alloc, uses.len())?;
+        for place in 0..uses.len() {
+            let path = uses.path(place).unwrap_or("");
+            let maker = self.other_maker(edge, path);
+            let above = is_listed(lists, path) || is_marked(is_above.as_slice(), maker);
+            arounds.push(self.names.around(path, maker.is_some(), above))?;
+        }
+        Ok(arounds)
+    }
+
+    /// For each edge whether it is above this one; nothing where all paths that others make are inputs, as then nobody asks.
+    fn above_of(&self, edge: EdgeId, lists: &Lists, uses: &Uses) -> Result<Vec<bool>, AllocError> {
+        for place in 0..uses.len() {
+            let path = uses.path(place).unwrap_or("");
+            if self.other_maker(edge, path).is_some() && !is_listed(lists, path) {
+                return above(self.alloc, &self.graph, edge);
+            }
+        }
+        Ok(Vec::new(self.alloc))
+    }
+
+    /// The edge whose command makes the path, if it is another one.
+    fn other_maker(&self, edge: EdgeId, path: &str) -> Option<EdgeId> {
+        let maker = self.names.maker(path)?;
+        if maker == edge {
+            return None;
+        }
+        Some(maker)
+    }
+
+    /// Tells of each path by which the command took a file that build lines spell in two ways, and answers how many these are.
+    fn tell_spellings(
+        &self,
+        edge: EdgeId,
+        uses: &Uses,
+        tally: &mut Tally,
+    ) -> Result<usize, AllocError> {
+        let mut count = 0usize;
+        for place in 0..uses.len() {
+            let path = uses.path(place).unwrap_or("");
+            if let Some(both) = self.twins.at(path) {
+                let path = self.names.short(path);
+                tally.tell_spelled(self.alloc, self.name_of(edge), path, both)?;
+                count = count.saturating_add(1);
+            }
         }
         Ok(count)
     }
@@ -252,36 +278,11 @@ impl Looking {
         uses: &Uses,
         tally: &mut Tally,
     ) -> Result<(), AllocError> {
-        for place in 0..uses.uses.len() {
-            if is_missing(uses.at_place(place)) {
-                if let Some(missed) = path_in(self.alloc, uses, place)? {
-                    self.tell_looked_at(edge, lists, uses, place, &missed, tally)?;
-                }
-            }
-        }
-        Ok(())
-    }
-
-    fn tell_looked_at(
-        &self,
-        edge: EdgeId,
-        lists: &Lists,
-        uses: &Uses,
-        place: usize,
-        missed: &Path,
-        tally: &mut Tally,
-    ) -> Result<(), AllocError> {
-        if !self.names.counts(missed.as_str()) {
-            return Ok(());
-        }
-        for later in place..uses.uses.len() {
-            if uses.at_place(later).reads {
-                if let Some(read) = path_in(self.alloc, uses, later)? {
-                    if name_in(read.as_str()) == name_in(missed.as_str())
-                        && lists.reported.as_slice().contains(&read)
-                    {
-                        return self.tell_first(edge, missed, &read, tally);
-                    }
+        for place in 0..uses.len() {
+            let missed = uses.path(place).unwrap_or("");
+            if is_missing(uses.used(place)) && self.names.counts(missed) {
+                if let Some(found) = found_later(lists, uses, place, name_in(missed)) {
+                    self.tell_first(edge, missed, found, tally)?;
                 }
             }
         }
@@ -291,86 +292,84 @@ impl Looking {
     fn tell_first(
         &self,
         edge: EdgeId,
-        missed: &Path,
-        read: &Path,
+        missed: &str,
+        found: &str,
         tally: &mut Tally,
     ) -> Result<(), AllocError> {
-        let missed = self.names.short(missed.as_str());
-        let read = self.names.short(read.as_str());
-        let note = format!(
-            in self.alloc;
-            "looks for {missed}, which is not there, before {read}: made later, it would change the outcome"
+        let missed = self.names.short(missed);
+        let found = self.names.short(found);
+        let note = format!(in self.alloc;
+            "looks for {missed}, which is not there, before {found}: made later, it would change the outcome"
         )?;
         self.tell_note(edge, note.as_str(), tally)
     }
 
-    fn tell_two_names(
-        &self,
-        edge: EdgeId,
-        path: &Path,
-        real: &Path,
-        tally: &mut Tally,
-    ) -> Result<(), AllocError> {
-        let name = self.name_of(edge);
-        let path = self.names.short(path.as_str());
-        let real = self.names.short(real.as_str());
-        let line = format!(
-            in self.alloc;
-            "{name}: opens {path}, which is {real} (a path is the only name of its file)\n"
-        )?;
-        tally.lines.push_str(line.as_str())
-    }
-
-    fn judge_path(
-        &self,
-        edge: EdgeId,
-        lists: &Lists,
-        path: &Path,
-        used: Use,
-        tally: &mut Tally,
-    ) -> Result<usize, AllocError> {
-        let around = self.names.around(self.alloc, &self.graph, edge, path.as_str())?;
-        let found = findings(self.alloc, place_of(lists, around, path), used)?;
-        for finding in found.as_slice() {
-            self.tell(edge, *finding, path.as_str(), tally)?;
-        }
-        Ok(found.len())
-    }
-
-    /// Tells one thing that breaks a premise.
-    fn tell(
-        &self,
-        edge: EdgeId,
-        finding: Finding,
-        path: &str,
-        tally: &mut Tally,
-    ) -> Result<(), AllocError> {
-        let name = self.name_of(edge);
-        let path = self.names.short(path);
-        let verb = finding.verb();
-        let why = finding.why();
-        let premise = finding.premise();
-        let line = format!(in self.alloc; "{name}: {verb} {path}{why} (a command {premise})\n")?;
-        tally.lines.push_str(line.as_str())
-    }
-
     fn tell_note(&self, edge: EdgeId, note: &str, tally: &mut Tally) -> Result<(), AllocError> {
-        let name = self.name_of(edge);
-        let line = format!(in self.alloc; "note: {name}: {note}\n")?;
-        tally.lines.push_str(line.as_str())
+        tally.note(self.alloc, self.name_of(edge), note)
     }
 
     fn tell_not_understood(&self, edge: EdgeId, tally: &mut Tally) -> Result<(), AllocError> {
-        let name = self.name_of(edge);
-        let line = format!(in self.alloc; "{name}: its trace is not understood\n")?;
-        tally.lines.push_str(line.as_str())
+        tally.tell_not_understood(self.alloc, self.name_of(edge))
     }
 
     /// The first output of an edge.
     fn name_of(&self, edge: EdgeId) -> &str {
-        match self.graph.outputs(edge).first() {
-            Some(output) => self.graph.text(*output),
+        match outputs(&self.graph, edge).first() {
+            Some(output) => text(&self.graph, *output),
             None => "",
         }
+    }
+}
+
+/// Whether the path is an input of the edge with these lists.
+fn is_listed(lists: &Lists, path: &str) -> bool {
+    has(&lists.inputs, path) || has(&lists.order_only, path)
+}
+
+fn has(paths: &Paths, path: &str) -> bool {
+    paths.number_of(path).is_some()
+}
+
+/// Whether the edge is marked.
+fn is_marked(marks: &[bool], edge: Option<EdgeId>) -> bool {
+    match edge {
+        Some(edge) => marks.get(edge.index()).copied().unwrap_or(false),
+        None => false,
+    }
+}
+
+/// Whether a file was looked for, was not there, and was not made.
+fn is_missing(used: Option<Use>) -> bool {
+    match used {
+        Some(used) => {
+            used.misses && !used.reads && !used.asks && !used.writes && !used.is_folder
+        }
+        None => false,
+    }
+}
+
+/// The first reported path of this name that was read, among those from this place on.
+fn found_later<'u>(lists: &Lists, uses: &'u Uses, place: usize, name: &str) -> Option<&'u str> {
+    for later in place..uses.len() {
+        let path = uses.path(later)?;
+        if name_in(path) == name && is_read(uses.used(later)) && has(&lists.reported, path) {
+            return Some(path);
+        }
+    }
+    None
+}
+
+fn is_read(used: Option<Use>) -> bool {
+    match used {
+        Some(used) => used.reads,
+        None => false,
+    }
+}
+
+/// The last part of a path.
+fn name_in(path: &str) -> &str {
+    match path.rsplit_once('/') {
+        Some((_, name)) => name,
+        None => path,
     }
 }

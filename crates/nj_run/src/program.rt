@@ -99,7 +99,7 @@ fn build_asked<W: Write, E: Write>(
             return told::folder(folder, &reason, err);
         }
     }
-    if asked.audit {
+    if asked.audits() {
         return audit_asked(asked, pattern, out, err, noted);
     }
     let (report, trouble) = build_here(asked, pattern, out, noted);

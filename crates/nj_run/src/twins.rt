@@ -1,0 +1,94 @@
+//! Paths of build lines that lead to one file.
+
+use crate::around::Names;
+use crate::graphs::text;
+use indexmap::IndexMap;
+use links::Graph;
+use paths::PathId;
+use std::alloc::{AllocError, Global};
+use std::fs;
+use std::os::unix::fs::MetadataExt;
+
+/// Of each path that leads to the file of another one that is spelled otherwise in build lines, both of these spellings. What is no plain file
+/// does not count.
+#[derive(Drop)]
+pub struct Twins {
+    /// The first spelling of each file, by device and inode.
+    first: IndexMap<String, String>,
+    spellings: IndexMap<String, String>,
+}
+
+impl Twins {
+    /// Those of this graph, by what stands at its paths now.
+    pub fn of(
+        alloc: Global,
+        rt: &HostRuntime,
+        graph: &Graph,
+        names: &Names,
+    ) -> Result<Twins, AllocError> {
+        let mut twins = Twins {
+            first: IndexMap::new(alloc),
+            spellings: IndexMap::new(alloc),
+        };
+        for place in 0..graph.paths() {
+            if let Some(path) = PathId::at(place) {
+                twins.add(alloc, rt, names, text(graph, path))?;
+            }
+        }
+        Ok(twins)
+    }
+
+    fn add(
+        &mut self,
+        alloc: Global,
+        rt: &HostRuntime,
+        names: &Names,
+        path: &str,
+    ) -> Result<(), AllocError> {
+        let Some(file) = file_at(alloc, rt, path)? else {
+            return Ok(());
+        };
+        match self.first.get(file.as_str()) {
+            Some(first) => {
+                let both = format!(in alloc; "{first}, and as {path}")?;
+                let first = names.whole(alloc, first.as_str())?;
+                self.spell(alloc, first, both.as_str())?;
+                self.spell(alloc, names.whole(alloc, path)?, both.as_str())
+            }
+            None => {
+                let _ = self.first.insert(file, String::from_str(alloc, path)?)?;
+                Ok(())
+            }
+        }
+    }
+
+    fn spell(&mut self, alloc: Global, path: text::Path, both: &str) -> Result<(), AllocError> {
+        let _ = self
+            .spellings
+            .insert(path.into_string(), String::from_str(alloc, both)?)?;
+        Ok(())
+    }
+
+    /// How build lines spell the file at this path, if they do so in two ways.
+    pub fn at(&self, path: &str) -> Option<&str> {
+        match self.spellings.get(path) {
+            Some(both) => Some(both.as_str()),
+            None => None,
+        }
+    }
+}
+
+/// Which plain file the path leads to, as a text.
+fn file_at(alloc: Global, rt: &HostRuntime, path: &str) -> Result<Option<String>, AllocError> {
+    match fs::metadata(rt, path) {
+        Ok(found) => {
+            if !found.is_file() {
+                return Ok(None);
+            }
+            let device = found.dev();
+            let inode = found.ino();
+            Ok(Some(format!(in alloc; "{device}:{inode}")?))
+        }
+        Err(_) => Ok(None),
+    }
+}
