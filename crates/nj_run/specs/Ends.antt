@@ -159,5 +159,5 @@ EndsNoted {W} {E} words on_out on_err old_out new_out old_err status =
 -- help was asked for, or what the words ask for was built, with success, and where an audit was asked for each command keeps all premises
 abbrev pub EndsWell : List Text → Type 0
 EndsWell words =
-    AreRefused words Help ⊎ ((started : ℕ) × (refused : Bool) × AreDone words (Built (Success started) refused))
-    ⊎ ((started : ℕ) × AreDone words (Audited (Success started) true))
+    AreRefused words Help ⊎ (((started : ℕ) × (refused : Bool) × AreDone words (Built (Success started) refused))
+    ⊎ ((started : ℕ) × AreDone words (Audited (Success started) true)))

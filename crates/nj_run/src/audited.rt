@@ -1,8 +1,13 @@
 //! A run that audits: a build in which each command is traced, and what is told of that.
 
-ghost use Rattle.std.specs.Prelude.{◌≡◌, ◌≤◌, IfOk, true};
+ghost use Rattle.std.specs.Prelude.{◌≡◌, ◌≤◌, Bool, IfOk, OnOk, Some, true, false, if◌then◌else◌};
 ghost use Rattle.command_line.specs.Options.{audits};
+ghost use Rattle.model.specs.World.{World};
+ghost use Rattle.host.specs.World.{any_outcome, fresh, world_of};
+ghost use Rattle.nj_run.specs.Alone.{BuildsAlone};
 ghost use Rattle.nj_run.specs.Ends.{Comes, EndsFor};
+ghost use Rattle.nj_run.specs.Status.{status_of};
+ghost use Rattle.nj_run.specs.Texts.{Adds, no_tracer};
 
 use crate::looked::look;
 use crate::noted::Noted;
@@ -17,10 +22,6 @@ use std::alloc::Global;
 use std::io::Write;
 use std::{env, io};
 use text::Text;
-
-/// What is told where commands cannot be traced.
-const NO_TRACER: &str =
-    "nj: error: no strace in PATH that traces a program here; nothing was started";
 
 /// What a build came to that was audited.
 #[derive(Drop)]
@@ -45,18 +46,23 @@ pub fn audit_asked<W: Write, E: Write>(
     ensures comes { Comes (EndsFor asked.now) W.contents E.contents out.old out.new err.old err.new result }
 {
     let Some(program) = tracer(noted.rt()) else {
-        writeln!(err, "{NO_TRACER}")?;
-        err.flush()?;
-        return Ok(1);
+        return untraced(err);
     };
-    let Audited {
-        report,
-        trouble,
-        tally,
-    } = audit_here(asked, pattern, program, out, noted)?;
-    let status = told::report(&report, trouble.as_ref(), out, err)?;
-    let keeps = tell(noted.rt().alloc(), tally.as_ref(), asked.audit_all, out)?;
-    if keeps { Ok(status) } else { Ok(1) }
+    let audited = audit_here(asked, pattern, program, out, noted)?;
+    tell_all(noted.rt().alloc(), &audited, asked.audit_all, out, err)
+}
+
+/// Tells that commands cannot be traced. The status is 1.
+fn untraced<E: Write>(err: &mut E) -> io::Result<u8>
+    ensures status { IfOk result (λ status. status ≡ 1) }
+    ensures told { OnOk result (Adds (E.contents err.old) (E.contents err.new) (Some no_tracer)) }
+{
+    writeln!(
+        err,
+        "nj: error: no strace in PATH that traces a program here; nothing was started"
+    )?;
+    err.flush()?;
+    Ok(1)
 }
 
 /// Builds in the working folder with each command traced by this program, and looks at the traces.
@@ -66,13 +72,14 @@ fn audit_here<W: Write>(
     program: String,
     out: &mut W,
     noted: &mut Noted<'_>,
-) -> io::Result<Audited> {
+) -> io::Result<Audited>
+    ensures { IfOk result (λ audited. (later : World) × BuildsAlone false any_outcome asked.now fresh later audited.report) }
+{
     let rt = noted.rt();
     let alloc = rt.alloc();
     let folder = env::current_dir(rt)?;
     let (options, targets) = build_options(alloc, asked, pattern)?;
-    let mut host = Host::new(alloc, rt, out);
-    host.trace_by(program);
+    let mut host = traced_host(rt, program, out);
     let report = build_on(alloc, &mut host, asked, pattern, noted);
     noted.waited(host.wait_for_clock());
     noted.built(&mut host, asked.file, &report);
@@ -86,6 +93,31 @@ fn audit_here<W: Write>(
         trouble,
         tally,
     })
+}
+
+/// Real files, where each command is traced by this program.
+fn traced_host<'a, W: Write>(rt: &'a HostRuntime, program: String, out: W) -> Host<'a, W>
+    ensures { world_of result ≡ fresh }
+{
+    let mut host = Host::new(rt.alloc(), rt, out);
+    host.trace_by(program);
+    host
+}
+
+/// Tells how a build ended that was audited, and what was found. The status is that of the build where each command was looked at and keeps
+/// all premises, else 1.
+fn tell_all<W: Write, E: Write>(
+    alloc: Global,
+    audited: &Audited,
+    is_listed: bool,
+    out: &mut W,
+    err: &mut E,
+) -> io::Result<u8>
+    ensures { IfOk result (λ status. (keeps : Bool) × (status ≡ (if keeps then status_of audited.now.report else 1))) }
+{
+    let status = told::report(&audited.report, audited.trouble.as_ref(), out, err)?;
+    let keeps = tell(alloc, audited.tally.as_ref(), is_listed, out)?;
+    if keeps { Ok(status) } else { Ok(1) }
 }
 
 /// Tells what was found: whether each command was looked at and keeps all premises. Files outside of the folder are listed, or counted by
