@@ -104,10 +104,10 @@ each_line start trace facts e =
     let lines = rows.0 in
     elim (cases_if (is_none last.processes && not (is_undone last.facts)) (Some last.facts) None (Some facts) read.2) [
       | inl done ↦ record {
-          lines = lines;
-          are = rows.1;
-          each = λ front line back is. subst (TellsLine start line) (some_same last.facts facts done.1)
-              (line_told start front nothing_yet line back last (subst (λ (ls : List (List ℕ)). after_all start nothing_yet ls ≡ Some last) is rows.2));
-        }
+        lines = lines;
+        are = rows.1;
+        each = λ front line back is. subst (TellsLine start line) (some_same last.facts facts done.1)
+            (line_told start front nothing_yet line back last (subst (λ (ls : List (List ℕ)). after_all start nothing_yet ls ≡ Some last) is rows.2));
+      }
       | inr other ↦ none_some facts other.1
     ]

@@ -37,7 +37,7 @@ with_children (Some child) processes = with_child child processes
 abbrev pub after_step : Reached → List ℕ → Step → Reached
 after_step reached number step = record {
   processes = with_children step.child (put (with_step number step) reached.processes);
-  facts = reached.facts ++ step.facts
+  facts = reached.facts ++ step.facts;
 }
 
 -- a call was made

@@ -22,7 +22,7 @@ abbrev pub started : Known → Seen → Step
 started known call =
     if is_well (ending_of call.answer) then record (still known) {
       child = Some (child_of_call known call);
-      shares = known.shares || has (codes "CLONE_FS") call.arguments
+      shares = known.shares || has (codes "CLONE_FS") call.arguments;
     }
     else still known
 

@@ -79,11 +79,7 @@ fn placed(alloc: Global, folder: &[u8], name: &[u8]) -> Result<Bytes, AllocError
 }
 
 /// The path of a name, where the folder is known in which it stands, or the name begins at the root.
-fn resolved(
-    alloc: Global,
-    folder: Option<&Bytes>,
-    name: &[u8],
-) -> Result<Option<Bytes>, AllocError>
+fn resolved(alloc: Global, folder: Option<&Bytes>, name: &[u8]) -> Result<Option<Bytes>, AllocError>
     ensures { IfOk result (λ path. path ≡ resolved (option_map (λ folder. folder.now) folder.entry) name.now) }
 {
     if is_rooted(name) {

@@ -140,11 +140,7 @@ fn removed(arguments: &[u8]) -> Deed
 }
 
 /// Adds that a file was given another path.
-fn push_moved(
-    alloc: Global,
-    paths: &Paths,
-    facts: &mut Items<Fact>,
-) -> Result<(), AllocError>
+fn push_moved(alloc: Global, paths: &Paths, facts: &mut Items<Fact>) -> Result<(), AllocError>
     ensures { OnOk result (facts.new ≡ ((facts.old ++ fact Deed.Read paths.now.path ∷ []) ++ fact Deed.Removed paths.now.path ∷ []) ++ fact Deed.Wrote paths.now.other ∷ []) }
 {
     push(alloc, facts, Deed::Read, paths.path.as_slice())?;
@@ -153,11 +149,7 @@ fn push_moved(
 }
 
 /// Adds that a file was given one more path.
-fn push_linked(
-    alloc: Global,
-    paths: &Paths,
-    facts: &mut Items<Fact>,
-) -> Result<(), AllocError>
+fn push_linked(alloc: Global, paths: &Paths, facts: &mut Items<Fact>) -> Result<(), AllocError>
     ensures { OnOk result (facts.new ≡ (facts.old ++ fact Deed.Read paths.now.path ∷ []) ++ told Deed.Wrote paths.now.other (Some paths.now.path) ∷ []) }
 {
     push(alloc, facts, Deed::Read, paths.path.as_slice())?;
@@ -199,9 +191,7 @@ fn deeds(arguments: &[u8]) -> (Deed, Option<Deed>)
     if has(arguments, b"O_WRONLY") && !has(arguments, b"O_APPEND") {
         return (Deed::Wrote, None);
     }
-    if has(arguments, b"O_RDWR")
-        && (has(arguments, b"O_TRUNC") || has(arguments, b"O_EXCL"))
-    {
+    if has(arguments, b"O_RDWR") && (has(arguments, b"O_TRUNC") || has(arguments, b"O_EXCL")) {
         return (Deed::Wrote, None);
     }
     if has(arguments, b"O_WRONLY") || has(arguments, b"O_RDWR") {
@@ -211,12 +201,7 @@ fn deeds(arguments: &[u8]) -> (Deed, Option<Deed>)
 }
 
 /// Adds what was done at a path.
-fn push(
-    alloc: Global,
-    facts: &mut Items<Fact>,
-    deed: Deed,
-    path: &[u8],
-) -> Result<(), AllocError>
+fn push(alloc: Global, facts: &mut Items<Fact>, deed: Deed, path: &[u8]) -> Result<(), AllocError>
     ensures { OnOk result (facts.new ≡ facts.old ++ fact deed path.now ∷ []) }
 {
     let path = Bytes::from_slice(alloc, path)?;

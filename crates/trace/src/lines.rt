@@ -121,12 +121,7 @@ impl Reached {
     }
 
     /// Reads a call.
-    fn take_call(
-        &mut self,
-        alloc: Global,
-        known: &Known,
-        text: &[u8],
-    ) -> Result<bool, AllocError>
+    fn take_call(&mut self, alloc: Global, known: &Known, text: &[u8]) -> Result<bool, AllocError>
         ensures { IfOk result (λ is. after_call self.old known.now text.now ≡ (if is then Some self.new else None)) }
     {
         let Some(call) = call_of(text) else {

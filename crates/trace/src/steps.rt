@@ -134,11 +134,7 @@ fn has_gone(call: &Call<'_>) -> bool
 }
 
 /// The folder of the process after a call by which it goes nowhere: the one that the kernel has for it, where the trace tells that.
-fn folder_after(
-    alloc: Global,
-    known: &Known,
-    call: &Call<'_>,
-) -> Result<Option<Bytes>, AllocError>
+fn folder_after(alloc: Global, known: &Known, call: &Call<'_>) -> Result<Option<Bytes>, AllocError>
     ensures { IfOk result (λ folder. folder ≡ folder_told known.now (call_seen call.now)) }
 {
     if call.arguments.starts_with(b"AT_FDCWD<") {
