@@ -28,7 +28,8 @@ fn use_of(deeds: &str) -> Use {
     used
 }
 
-fn deed_of(name: &str) -> Option<Deed> {
+/// What is called so.
+pub fn deed_of(name: &str) -> Option<Deed> {
     match name {
         "read" => Some(Deed::Read),
         "wrote" => Some(Deed::Wrote),

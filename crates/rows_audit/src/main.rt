@@ -6,8 +6,12 @@
 //!
 //! `find DEEDS PLACE` asks what breaks a premise where a command does these things, one after another, at a path that is this to it: both are
 //! words with commas between.
+//!
+//! `edge PATHS DEEDS` asks what breaks a premise of all that a command did: `output:b,input:a` and `read:a,wrote:b`. A path behind an equals
+//! sign is the one that the kernel has, by which that counts then.
 #![tactic(auto)]
 
+mod edge;
 mod found;
 mod traced;
 
@@ -24,6 +28,7 @@ impl Table for Asked {
         match first {
             "trace" => traced::push_trace(alloc, rest, told)?,
             "find" => found::push_found(alloc, rest, told)?,
+            "edge" => edge::push_edge(alloc, rest, told)?,
             _ => told.push_str("no such row")?,
         }
         Ok(true)
