@@ -34,6 +34,7 @@ impl<'a> Model for Options<'a> {
 }
 
 impl<'a> Options<'a> {
+    ghost use Rattle.std.specs.Prelude.{◌≡◌};
     ghost use Rattle.command_line.specs.Options.{audits};
 
     /// Whether an audit is asked for.
