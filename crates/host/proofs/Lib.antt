@@ -1,3 +1,4 @@
 mod Listed
 mod Refused
 mod Blocks
+mod Tracing

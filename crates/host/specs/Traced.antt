@@ -1,9 +1,8 @@
 -- What is handed over so that a command is traced.
-use Rattle.std.specs.Prelude.{◌≡◌, ℕ, ℤ, List, [], ◌∷◌, ◌++◌, codes, string_bytes}
+use Rattle.std.specs.Prelude.{◌≡◌, ℕ, ℤ, List, [], ◌∷◌, ◌++◌, Option, Some, None, codes, decimal}
 use Rattle.os.specs.Paths.{HasNoNul}
 use Rattle.host.specs.declared.process.Handed.{Handed}
-use Rattle.host.specs.declared.tracing.Tracer.{Tracer}
-use Rattle.host.specs.Process.{words_of}
+use Rattle.host.specs.Process.{IsHanded, words_of}
 
 abbrev pub word : List ℕ → List ℕ
 word text = text ++ 0 ∷ []
@@ -20,11 +19,24 @@ tracing =
     ++ word (codes "--seccomp-bpf") ++ word (codes "-e") ++ word (codes "signal=none") ++ word (codes "-e")
     ++ word (codes "verbose=stat,lstat,newfstatat,statx,clone3") ++ word (codes "-e") ++ word calls ++ word (codes "-o")
 
--- what is handed over so that this command is traced: the same words of the shell as without, behind those of the tracer
-pub record IsTraced (tracer : Tracer) (command variables : List ℕ) (fds : List ℤ) (handed : Handed) : Type 0 where
-  pub program : handed.program.now ≡ string_bytes tracer.program
-  pub words : handed.words.items ≡ (tracing ++ word (string_bytes tracer.into)) ++ word (codes "--") ++ words_of command
+-- where the trace of a job is written
+abbrev pub trace_file : ℕ → List ℕ
+trace_file job = codes ".nj_trace." ++ decimal job
+
+-- the same words of the shell as without, behind those of the tracer
+abbrev pub traced_words : ℕ → List ℕ → List ℕ
+traced_words job command = (tracing ++ word (trace_file job)) ++ (word (codes "--") ++ words_of command)
+
+-- what is handed over so that this command is traced by this program
+pub record IsTraced (program : List ℕ) (job : ℕ) (command variables : List ℕ) (fds : List ℤ) (handed : Handed) : Type 0 where
+  pub program : handed.program.now ≡ program
+  pub words : handed.words.items ≡ traced_words job command
   pub whole : HasNoNul command
   pub environment : handed.environment.now ≡ variables
   pub folder : handed.folder.now ≡ []
   pub streams : handed.streams ≡ fds
+
+-- what is handed over so that the shell runs this command, traced where there is a program for that
+abbrev pub IsHandedBy : Option (List ℕ) → ℕ → List ℕ → List ℕ → List ℤ → Handed → Type 0
+IsHandedBy None job command variables fds handed = IsHanded command variables fds handed
+IsHandedBy (Some program) job command variables fds handed = IsTraced program job command variables fds handed

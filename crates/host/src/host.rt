@@ -12,10 +12,9 @@ use crate::disk::Disk;
 use crate::files::{Files, Made, Opened};
 use crate::jobs::Jobs;
 use crate::process::SHELL;
-use crate::tracing::Tracer;
+use crate::tracing::trace_file;
 use crate::trouble::Trouble;
 use crate::watch::Watch;
-use locks::path_in;
 use model::{Act, Event, Finished, SiteFault};
 use site::{Site, Texts};
 use std::alloc::{AllocError, Global};
@@ -27,9 +26,6 @@ use text::Bytes;
 /// What is told where the clock did not go on.
 const STANDS: &str =
     "the clock of the file system stands still: an edit of this moment may be missed by the next build";
-
-/// With this begin the names of the files into which traces of commands are written. Behind it comes the number of the job.
-const TRACE: &str = ".nj_trace.";
 
 /// What is shown goes there, in messages.
 const OUTPUT: &str = "standard output";
@@ -51,8 +47,6 @@ pub struct Host<'a, W> {
     /// The files that commands read and print into.
     files: Files,
     watch: Watch<'a>,
-    /// The program by which commands are traced, if they are.
-    tracer: Option<String>,
     /// What the stamps that it told say of the clock.
     clock: Clock,
     /// What the last tick gave.
@@ -79,7 +73,6 @@ impl<'a, W: Write> Host<'a, W> {
             jobs: Jobs::new(alloc),
             files: Files::new(alloc),
             watch: Watch::new(alloc, rt),
-            tracer: None,
             clock: Clock::new(),
             ticked: 0,
             failures: 0,
@@ -190,31 +183,19 @@ impl<'a, W: Write> Host<'a, W> {
     }
 }
 
+/// From now on each command is traced by the program of this path, into the file of [`Host::trace_of`].
+pub fn trace_by(&mut self, program: String)
+    ensures { world_of self.new ≡ world_of self.old }
+{
+    self.jobs.trace_by(program);
+}
+
+/// The file into which the trace of a command is written, in the working folder.
+pub fn trace_of(&self, job: usize) -> Result<String, AllocError> {
+    trace_file(self.alloc, job)
+}
+
 impl<'a, W: Write> Host<'a, W> {
-    /// From now on each command is traced by the program of this path, into the file of [`Host::trace_of`].
-    pub fn trace_by(&mut self, program: String)
-        ensures { world_of self.new ≡ world_of self.old }
-    {
-        self.tracer = Some(program);
-    }
-
-    /// The path of the trace of a command, beside the file of the last tick.
-    pub fn trace_of(&self, job: usize) -> Result<String, AllocError> {
-        let name = format!(in self.alloc; "{TRACE}{job}")?;
-        path_in(self.alloc, self.disk.folder(), name.as_str())
-    }
-
-    /// What traces the command of this job, if commands are traced.
-    fn tracer_of(&self, job: usize) -> Result<Option<Tracer>, AllocError> {
-        match &self.tracer {
-            Some(program) => Ok(Some(Tracer {
-                program: program.clone()?,
-                into: self.trace_of(job)?,
-            })),
-            None => Ok(None),
-        }
-    }
-
     /// Waits until no other build is in the working folder, and keeps others out from then on. To be called once, before anything is read.
     /// Where a command of another build in this folder has started the program, it waits for nobody: it is an inner build, whose commands
     /// read `/dev/null`.
@@ -378,12 +359,9 @@ impl<'a, W: Write> Site for Host<'a, W> {
         ensures err { OnErr result (StartsOrNot false job act.now (world_of self.old) (world_of self.new)) }
         ensures unstarted { OnErr result (OnlyLooks false (world_of self.old) (world_of self.new)) }
     {
-        let tracer = self.tracer_of(job)?;
         let mut opened = self.open_printed(console)?;
         self.screen.prepare(self.rt, job, console);
-        let started = self
-            .jobs
-            .start(job, act, self.ticked, &mut opened, tracer.as_ref());
+        let started = self.jobs.start(job, act, self.ticked, &mut opened);
         self.files.take_back(self.rt, opened);
         self.noted(SHELL, started)?;
         self.failures_at_start = self.failures;

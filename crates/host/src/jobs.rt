@@ -9,7 +9,7 @@ use crate::commands::{End, Running};
 use crate::environment::variables;
 use crate::files::{Files, Opened, Taken};
 use crate::signals::tell_signal;
-use crate::tracing::Tracer;
+use crate::tracing::Tracing;
 use crate::waiting::{Round, wait_all, wait_first};
 use crate::watch::Watch;
 use model::{Act, Event, Finished};
@@ -32,6 +32,8 @@ pub struct Jobs {
     round: Round,
     /// The variables that they get, once they were read.
     environment: Option<Vec<u8>>,
+    /// Whether they are traced, and by what.
+    tracing: Tracing,
 }
 
 impl Model for Jobs {
@@ -61,7 +63,15 @@ impl Jobs {
                 some_held: false,
             },
             environment: None,
+            tracing: Tracing::none(alloc),
         }
+    }
+
+    /// From now on each command is traced by the program of this path.
+    pub fn trace_by(&mut self, program: String)
+        ensures { self.new ≡ self.old }
+    {
+        self.tracing = Tracing::by(self.alloc, program);
     }
 
     /// All starts and ends, oldest first: those before the last restart, then those since.
@@ -79,7 +89,6 @@ impl Jobs {
         act: &Act,
         stamp: u64,
         opened: &mut Option<Opened>,
-        tracer: Option<&Tracer>,
     ) -> io::Result<()>
         requires { runs job self.old.events ≡ false }
         ensures ok { OnOk result (self.new ≡ with_start job act.now stamp self.old) }
@@ -91,12 +100,11 @@ impl Jobs {
         read_once(self.alloc, &mut self.environment)?;
         let environment = known(&self.environment);
         let command = commands::start(
-            self.alloc,
+            &self.tracing,
             job,
             act.command.as_str(),
             environment,
             opened,
-            tracer,
         )?;
         push_reserved(&mut self.events, event);
         push_reserved(&mut self.commands, command);

@@ -1,18 +1,22 @@
-//! What is handed over so that a command is traced: the words of `strace`, and behind them those by which the shell runs the command.
+//! What is handed over so that a command runs, and where that is asked for is traced: the words of `strace` stand before those by which the
+//! shell runs it.
 
-ghost use Rattle.std.specs.Prelude.{IfOk};
-ghost use Rattle.host.specs.Traced.{IsTraced};
+ghost use Rattle.std.specs.Prelude.{◌≡◌, IfOk, string_bytes};
+ghost use Rattle.std.specs.Option.{option_map};
+ghost use Rattle.os.specs.Paths.{HasNoNul};
+ghost use Rattle.host.specs.Traced.{IsHandedBy, trace_file, traced_words};
 
-use crate::process::{Handed, Streams};
+use crate::process::{Handed, Streams, handed_over};
 use crate::words::push_word;
-use std::alloc::Global;
+use std::alloc::{AllocError, Global};
 use std::io;
 
-/// The program by which commands are traced, an `strace` of version 6, and the file into which it writes the trace of one.
+/// Whether commands are traced, and by what: an `strace` of version 6.
 #[derive(Drop)]
-pub struct Tracer {
-    pub program: String,
-    pub into: String,
+pub struct Tracing {
+    alloc: Global,
+    /// The path of the program.
+    program: Option<String>,
 }
 
 /// The words before the file into which it writes, each ended by a NUL: processes that are started are followed, descriptors come with
@@ -23,26 +27,63 @@ const WORDS: &[u8] =
 /// The words between that file and the command.
 const SHELL_WORDS: &[u8] = b"--\0/bin/sh\0-c\0";
 
-/// What is handed over so that the shell runs the command, and what it does is traced. A command with a NUL cannot be handed over:
-/// `InvalidInput`.
-pub fn traced_over<'a>(
-    alloc: Global,
-    tracer: &'a Tracer,
-    command: &str,
-    environment: &'a [u8],
-    streams: Streams,
-) -> io::Result<Handed<'a>>
-    ensures { IfOk result (λ handed. IsTraced tracer.now command.now environment.now streams handed) }
+impl Tracing {
+    /// They are not traced. This takes no memory.
+    pub fn none(alloc: Global) -> Tracing {
+        Tracing {
+            alloc,
+            program: None,
+        }
+    }
+
+    /// They are traced by this program.
+    pub fn by(alloc: Global, program: String) -> Tracing {
+        Tracing {
+            alloc,
+            program: Some(program),
+        }
+    }
+
+    /// What is handed over so that the shell runs the command of a job, traced or not. A command with a NUL cannot be handed over:
+    /// `InvalidInput`.
+    pub fn hand_over<'a>(
+        &'a self,
+        job: usize,
+        command: &str,
+        environment: &'a [u8],
+        streams: Streams,
+    ) -> io::Result<Handed<'a>>
+        ensures { IfOk result (IsHandedBy (option_map string_bytes self.now.program) job command.now environment.now streams) }
+    {
+        match &self.program {
+            Some(program) => Ok(Handed {
+                program: program.as_bytes(),
+                words: words_traced(self.alloc, job, command)?,
+                environment,
+                folder: b"",
+                streams,
+            }),
+            None => handed_over(self.alloc, command, environment, streams),
+        }
+    }
+}
+
+/// The words by which a command is traced.
+fn words_traced(alloc: Global, job: usize, command: &str) -> io::Result<Vec<u8>>
+    ensures whole { IfOk result (λ _. HasNoNul command.now) }
+    ensures words { IfOk result (λ words. words.items ≡ traced_words job command.now) }
 {
+    let file = trace_file(alloc, job)?;
     let mut words = Vec::from_slice(alloc, WORDS)?;
-    push_word(&mut words, tracer.into.as_bytes())?;
+    push_word(&mut words, file.as_bytes())?;
     words.extend_from_slice(SHELL_WORDS)?;
     push_word(&mut words, command.as_bytes())?;
-    Ok(Handed {
-        program: tracer.program.as_bytes(),
-        words,
-        environment,
-        folder: b"",
-        streams,
-    })
+    Ok(words)
+}
+
+/// The file into which the trace of a job is written.
+pub fn trace_file(alloc: Global, job: usize) -> Result<String, AllocError>
+    ensures { IfOk result (λ file. string_bytes file ≡ trace_file job) }
+{
+    format!(in alloc; ".nj_trace.{job}")
 }
