@@ -48,17 +48,20 @@ impl Twins {
         let Some(file) = file_at(alloc, rt, path)? else {
             return Ok(());
         };
-        match self.first.get(file.as_str()) {
-            Some(first) => {
-                let both = format!(in alloc; "{first}, and as {path}")?;
-                let first = names.whole(alloc, first.as_str())?;
-                self.spell(alloc, first, both.as_str())?;
-                self.spell(alloc, names.whole(alloc, path)?, both.as_str())
-            }
-            None => {
-                let _ = self.first.insert(file, String::from_str(alloc, path)?)?;
-                Ok(())
-            }
+        let Some(first) = self.first_of(alloc, file.as_str())? else {
+            let _ = self.first.insert(file, String::from_str(alloc, path)?)?;
+            return Ok(());
+        };
+        let both = format!(in alloc; "{first}, and as {path}")?;
+        self.spell(alloc, names.whole(alloc, first.as_str())?, both.as_str())?;
+        self.spell(alloc, names.whole(alloc, path)?, both.as_str())
+    }
+
+    /// The first spelling of a file, if it was seen before.
+    fn first_of(&self, alloc: Global, file: &str) -> Result<Option<String>, AllocError> {
+        match self.first.get(file) {
+            Some(first) => Ok(Some(String::from_str(alloc, first.as_str())?)),
+            None => Ok(None),
         }
     }
 
