@@ -67,15 +67,23 @@ impl Names {
 
     /// The path as it is told: taken from the working folder, where it is below that.
     pub fn short<'p>(&self, path: &'p str) -> &'p str {
+        if path == self.folder.as_str() {
+            return ".";
+        }
         match below(self.folder.as_str(), path) {
             Some(rest) => rest,
             None => path,
         }
     }
 
-    /// Whether the path is below the working folder, or a build line names it.
+    /// Whether the path is the working folder or below it, or a build line names it.
     pub fn counts(&self, path: &str) -> bool {
-        below(self.folder.as_str(), path).is_some() || self.makers.get(path).is_some()
+        self.is_inside(path) || self.makers.get(path).is_some()
+    }
+
+    /// Whether the path is the working folder, or below it.
+    fn is_inside(&self, path: &str) -> bool {
+        path == self.folder.as_str() || below(self.folder.as_str(), path).is_some()
     }
 
     /// The edge whose command makes the path.
@@ -98,7 +106,7 @@ impl Names {
             above,
             named: self.makers.get(path).is_some(),
             recorded: self.is_recorded(path),
-            inside: below(self.folder.as_str(), path).is_some(),
+            inside: self.is_inside(path),
             own: is_own(path),
         }
     }
@@ -106,7 +114,11 @@ impl Names {
 
 /// What stands behind the folder and a slash, where the path is below it.
 fn below<'p>(folder: &str, path: &'p str) -> Option<&'p str> {
-    path.strip_prefix(folder)?.strip_prefix('/')
+    let rest = path.strip_prefix(folder)?;
+    if folder == "/" {
+        return Some(rest);
+    }
+    rest.strip_prefix('/')
 }
 
 /// Whether the path is of a file of the program's own: its logs, and what it writes beside them.

@@ -19,7 +19,7 @@ use site::Site;
 use std::alloc::{AllocError, Global};
 use std::io::Write;
 use text::{Items, Path, Text};
-use trace::{Told, read};
+use trace::{Deed, Told, read};
 
 /// What is looked at, all of it as it is after the build.
 #[derive(Drop)]
@@ -154,9 +154,25 @@ impl Looking {
     /// What a trace tells of a command, if it is understood.
     fn told_in(&self, trace: &[u8]) -> Result<Option<Items<Whole>>, AllocError> {
         match read(self.alloc, self.names.folder().as_bytes(), trace)? {
-            Told::Facts(facts) => wholes_of(self.alloc, facts.as_slice()),
+            Told::Facts(facts) => self.with_folder(wholes_of(self.alloc, facts.as_slice())?),
             Told::NotUnderstood => Ok(None),
         }
+    }
+
+    /// The same, and that the command began in the working folder, which is a folder.
+    fn with_folder(
+        &self,
+        wholes: Option<Items<Whole>>,
+    ) -> Result<Option<Items<Whole>>, AllocError> {
+        let Some(mut wholes) = wholes else {
+            return Ok(None);
+        };
+        wholes.push(Whole {
+            deed: Deed::Folder,
+            path: Path::from_str(self.alloc, self.names.folder())?,
+            real: None,
+        })?;
+        Ok(Some(wholes))
     }
 
     /// Tells what breaks a premise of that which the command of the edge did.
