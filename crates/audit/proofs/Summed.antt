@@ -1,5 +1,5 @@
 -- What was done at each path, one thing after another.
-use Rattle.std.proofs.Common.{◌≡◌, ℕ, zero, suc, ◌+◌, ◌<◌, ◌≤◌, Bool, true, false, if◌then◌else◌, List, [], ◌∷◌, ◌++◌, length, drop, get_or, slice_get, refl, sym, ap, ◌∙◌, subst, Option, Some, None, arith, bytes_eq}
+use Rattle.std.proofs.Common.{◌≡◌, ℕ, zero, suc, ◌+◌, ◌<◌, ◌≤◌, Bool, true, false, if◌then◌else◌, List, [], ◌∷◌, ◌++◌, length, drop, get_or, slice_get, slice_index_or, slice_set, refl, sym, ap, ◌∙◌, subst, Option, Some, None, arith, bytes_eq}
 use Rattle.std.proofs.lemmas.Slice.Eq.{bytes_eq-Decides}
 use Rattle.model.specs.Graph.{has}
 use Rattle.paths.specs.Numbers.{HaveOnePlace, IsAdded}
@@ -23,13 +23,24 @@ again (p ∷ paths) [] path deed n once at = refl
 again (p ∷ paths) (u ∷ uses) path deed zero once at =
     let same : p ≡ path = cc in
     ap (λ (b : Bool). if b then with_deed u deed ∷ uses else u ∷ use_again paths uses path deed) ((bytes_eq-Decides p path).1 same)
-again (p ∷ paths) (u ∷ uses) path deed (suc n) once at = by (bytes_eq p path) refl
+again (p ∷ paths) (u ∷ uses) path deed (suc n) once at = by (bytes_eq p path) refl (again paths uses path deed n (others_have p paths once) at)
   where
-    by : (here : Bool) → bytes_eq p path ≡ here → use_again (p ∷ paths) (u ∷ uses) path deed ≡ u ∷ again_at uses n deed
-    by true here = let twice : zero ≡ suc n = once zero (suc n) path (ap (λ (q : List ℕ). Some q) ((bytes_eq-Decides p path).0 here)) at in absurd (omega arith)
-    by false here =
+    by : (here : Bool) → bytes_eq p path ≡ here → use_again paths uses path deed ≡ again_at uses n deed → use_again (p ∷ paths) (u ∷ uses) path deed ≡ u ∷ again_at uses n deed
+    by true here more = let twice : zero ≡ suc n = once zero (suc n) path (ap (λ (q : List ℕ). Some q) ((bytes_eq-Decides p path).0 here)) at in absurd (omega arith)
+    by false here more =
         ap (λ (b : Bool). if b then with_deed u deed ∷ uses else u ∷ use_again paths uses path deed) here
-        ∙ ap (λ (us : List Use). u ∷ us) (again paths uses path deed n (others_have p paths once) at)
+        ∙ ap (λ (us : List Use). u ∷ us) more
+
+-- the use in a place, where there is one
+pub again_there : (uses : List Use) (n : ℕ) (deed : Deed) (used new : Use) → n < length uses → used ≡ slice_index_or uses n used → new ≡ with_deed used deed → slice_set uses n new ≡ again_at uses n deed
+again_there [] n deed used new less is same = absurd (omega (arith, less))
+again_there (u ∷ uses) zero deed used new less is same = ap (λ (x : Use). x ∷ uses) (same ∙ ap (λ (x : Use). with_deed x deed) is)
+again_there (u ∷ uses) (suc n) deed used new less is same = ap (λ (us : List Use). u ∷ us) (again_there uses n deed used new (omega (arith, less)) is same)
+
+pub again_past : (uses : List Use) (n : ℕ) (deed : Deed) → length uses ≤ n → uses ≡ again_at uses n deed
+again_past [] n deed past = refl
+again_past (u ∷ uses) zero deed past = absurd (omega (arith, past))
+again_past (u ∷ uses) (suc n) deed past = ap (λ (us : List Use). u ∷ us) (again_past uses n deed (omega (arith, past)))
 
 same_sums : (sums : Sums) (paths : List (List ℕ)) (uses : List Use) → sums.paths ≡ paths → sums.uses ≡ uses → sums ≡ sums_of paths uses
 same_sums sums paths uses first second = ap (λ (ps : List (List ℕ)). sums_of ps sums.uses) first ∙ ap (λ (us : List Use). sums_of paths us) second

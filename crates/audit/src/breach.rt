@@ -1,6 +1,6 @@
 //! What a command did that breaks a premise, path by path.
 
-ghost use Rattle.std.specs.Prelude.{◌≡◌, ◌++◌, IfOk, OnOk};
+ghost use Rattle.std.specs.Prelude.{◌≡◌, ◌++◌, IfOk, OnOk, slice_get};
 ghost use Rattle.audit.specs.Breaches.{all_at, breaches};
 ghost use Rattle.audit.specs.Seen.{sums_in};
 
@@ -36,11 +36,21 @@ pub fn breaches(
         let Some(used) = uses.used(place) else {
             return Ok(found);
         };
-        let place_there = place_of(lists, arounds[place], path);
+        let Some(around) = around_at(arounds, place) else {
+            return Ok(found);
+        };
+        let place_there = place_of(lists, around, path);
         let at = findings(alloc, place_there, used)?;
         push_all(&mut found, place, at.as_slice())?;
     }
     Ok(found)
+}
+
+/// What the path in this place is to the build.
+fn around_at(arounds: &[Around], place: usize) -> Option<Around>
+    ensures { result ≡ slice_get arounds.now place }
+{
+    arounds.get(place).copied()
 }
 
 /// Puts what is found at the path in this place behind the others.
