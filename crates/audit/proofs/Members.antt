@@ -1,9 +1,7 @@
 -- What stands in a list, and lists that are put together.
-use Rattle.std.proofs.Common.{◌≡◌, ℕ, zero, suc, ◌+◌, ◌<◌, ◌≤◌, ◌||◌, Bool, true, false, List, [], ◌∷◌, ◌++◌, length, drop, get_or, slice_get, Option, Some, None, bytes_eq, refl, sym, ap, ◌∙◌, subst, arith, add-one}
+use Rattle.std.proofs.Common.{◌≡◌, ℕ, zero, suc, ◌+◌, ◌≤◌, ◌||◌, true, List, [], ◌∷◌, ◌++◌, length, drop, slice_get, Some, None, bytes_eq, refl, ap, arith, add-one}
 use Rattle.std.specs.List.{AllZip}
-use Rattle.std.proofs.Math.Seq.{drop-cons}
 use Rattle.std.proofs.lemmas.Bool.{or_left, or_right}
-use Rattle.std.proofs.lemmas.List.{append_assoc}
 use Rattle.std.proofs.lemmas.Slice.Eq.{bytes_eq-Decides}
 use Rattle.model.specs.Graph.{has}
 use Rattle.trace.specs.declared.fact.Fact.{Fact}
@@ -15,10 +13,6 @@ in_has [] n p is = absurd (cc)
 in_has (x ∷ xs) zero p is = let same : x ≡ p = cc in or_left (bytes_eq x p) (has xs p) ((bytes_eq-Decides x p).1 same)
 in_has (x ∷ xs) (suc n) p is = or_right (bytes_eq x p) (has xs p) (in_has xs n p is)
 
--- one part more behind the front of a list
-pub behind : {A : Type 0} (old front part now longer : List A) → now ≡ old ++ front → longer ≡ now ++ part → longer ≡ old ++ (front ++ part)
-behind {A} old front part now longer is then = then ∙ (ap (λ (l : List A). l ++ part) is ∙ append_assoc old front part)
-
 -- ---- what is left of a list behind a place
 
 next_from : {A : Type 0} (xs : List A) (n : ℕ) (x : A) → slice_get xs n ≡ Some x → drop n xs ≡ x ∷ drop (suc n) xs
@@ -28,9 +22,6 @@ next_from (y ∷ ys) (suc n) x at = next_from ys n x at
 
 pub next : {A : Type 0} (xs : List A) (n : ℕ) (x : A) → slice_get xs n ≡ Some x → drop n xs ≡ x ∷ drop (n + 1) xs
 next xs n x at = rw add-one (next_from xs n x at)
-
-pub next_of : {A : Type 0} (xs : List A) (n : ℕ) (x : A) → n < length xs → x ≡ get_or xs n x → drop n xs ≡ x ∷ drop (n + 1) xs
-next_of xs n x less is = rw add-one (drop-cons xs n x less ∙ ap (λ (z : _). z ∷ drop (suc n) xs) (sym is))
 
 pub past : {A : Type 0} (xs : List A) (n : ℕ) → slice_get xs n ≡ None → drop n xs ≡ []
 past [] zero at = refl

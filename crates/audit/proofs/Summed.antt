@@ -1,14 +1,14 @@
 -- What was done at each path, one thing after another.
-use Rattle.std.proofs.Common.{◌≡◌, ℕ, zero, suc, ◌+◌, ◌<◌, ◌≤◌, Bool, true, false, if◌then◌else◌, List, [], ◌∷◌, ◌++◌, length, drop, get_or, slice_get, slice_index_or, slice_set, refl, sym, ap, ◌∙◌, subst, Option, Some, None, arith, bytes_eq}
+use Rattle.std.proofs.Common.{◌≡◌, ℕ, zero, suc, ◌+◌, ◌<◌, ◌≤◌, Bool, true, false, if◌then◌else◌, List, [], ◌∷◌, length, drop, slice_get, slice_index_or, slice_set, refl, sym, ap, ◌∙◌, Some, None, arith, bytes_eq}
 use Rattle.std.proofs.lemmas.Slice.Eq.{bytes_eq-Decides}
 use Rattle.model.specs.Graph.{has}
-use Rattle.paths.specs.Numbers.{HaveOnePlace, IsAdded}
+use Rattle.paths.specs.Numbers.{HaveOnePlace}
 use Rattle.trace.specs.declared.fact.Deed.{Deed}
 use Rattle.audit.specs.declared.used.Use.{Use}
 use Rattle.audit.specs.declared.seen.Whole.{Whole}
 use Rattle.audit.specs.Uses.{unused, with_deed}
-use Rattle.audit.specs.Seen.{Sums, again_at, path_by, put_last, use_again, with_all_done, with_done, with_untouched}
-use Rattle.audit.proofs.Members.{in_has, next, next_of, past, past_all}
+use Rattle.audit.specs.Seen.{Sums, again_at, put_last, use_again, with_all_done, with_done, with_untouched}
+use Rattle.audit.proofs.Members.{in_has, next, past}
 
 abbrev sums_of : List (List ℕ) → List Use → Sums
 sums_of paths uses = record { paths = paths; uses = uses }
@@ -51,22 +51,7 @@ done_again old new path deed n once at paths uses =
     same_sums new old.paths (use_again old.paths old.uses path deed) paths (uses ∙ sym (again old.paths old.uses path deed n once at))
     ∙ sym (ap (λ (b : Bool). if b then sums_of old.paths (use_again old.paths old.uses path deed) else put_last old path (with_deed unused deed)) (in_has old.paths n path at))
 
--- at another one
-pub done_first : (old new : Sums) (path : List ℕ) (deed : Deed) → has old.paths path ≡ false → new ≡ put_last old path (with_deed unused deed) → new ≡ with_done old path deed
-done_first old new path deed absent is =
-    is ∙ sym (ap (λ (b : Bool). if b then sums_of old.paths (use_again old.paths old.uses path deed) else put_last old path (with_deed unused deed)) absent)
-
-pub put_there : (old new : Sums) (path : List ℕ) (used : Use) (n : ℕ) → has old.paths path ≡ false → IsAdded old.paths new.paths path n → new.uses ≡ old.uses ++ used ∷ [] → new ≡ put_last old path used
-put_there old new path used n absent added uses =
-    same_sums new (old.paths ++ path ∷ []) (old.uses ++ used ∷ []) (added.grows ∙ ap (λ (b : Bool). if b then old.paths else old.paths ++ path ∷ []) absent) uses
-
 -- ---- one after another
-
-pub done_next : (sums : Sums) (wholes : List Whole) (reals : List Bool) (n : ℕ) (whole : Whole) (real : Bool) → n < length wholes → whole ≡ get_or wholes n whole → slice_get reals n ≡ Some real
-    → with_all_done sums (drop n wholes) (drop n reals) ≡ with_all_done (with_done sums (path_by whole real) whole.deed) (drop (n + 1) wholes) (drop (n + 1) reals)
-done_next sums wholes reals n whole real less is at =
-    ap (λ (ws : List Whole). with_all_done sums ws (drop n reals)) (next_of wholes n whole less is)
-    ∙ ap (λ (rs : List Bool). with_all_done sums (whole ∷ drop (n + 1) wholes) rs) (next reals n real at)
 
 none_left : (sums : Sums) (wholes : List Whole) → with_all_done sums wholes [] ≡ sums
 none_left sums [] = refl
@@ -75,15 +60,6 @@ none_left sums (whole ∷ wholes) = refl
 pub done_early : (sums : Sums) (wholes : List Whole) (reals : List Bool) (n : ℕ) → slice_get reals n ≡ None → with_all_done sums (drop n wholes) (drop n reals) ≡ sums
 done_early sums wholes reals n at = ap (λ (rs : List Bool). with_all_done sums (drop n wholes) rs) (past reals n at) ∙ none_left sums (drop n wholes)
 
-pub all_done : (sums : Sums) (wholes : List Whole) (reals : List Bool) (n : ℕ) → length wholes ≤ n → with_all_done sums (drop n wholes) (drop n reals) ≡ sums
-all_done sums wholes reals n at = ap (λ (ws : List Whole). with_all_done sums ws (drop n reals)) (past_all wholes n at)
-
 pub touched_next : (sums : Sums) (paths : List (List ℕ)) (n : ℕ) (path : List ℕ) → slice_get paths n ≡ Some path
     → with_untouched sums (drop n paths) ≡ with_untouched (if has sums.paths path then sums else put_last sums path unused) (drop (n + 1) paths)
 touched_next sums paths n path at = ap (with_untouched sums) (next paths n path at)
-
-pub touched_early : (sums : Sums) (paths : List (List ℕ)) (n : ℕ) → slice_get paths n ≡ None → with_untouched sums (drop n paths) ≡ sums
-touched_early sums paths n at = ap (with_untouched sums) (past paths n at)
-
-pub touched_all : (sums : Sums) (paths : List (List ℕ)) (n : ℕ) → length paths ≤ n → with_untouched sums (drop n paths) ≡ sums
-touched_all sums paths n at = ap (with_untouched sums) (past_all paths n at)
