@@ -1,6 +1,6 @@
 //! Which edges are above one.
 
-use crate::graphs::inputs;
+use crate::graphs::inputs_of;
 use links::Graph;
 use paths::EdgeId;
 use std::alloc::{AllocError, Global};
@@ -27,7 +27,7 @@ fn push_makers(
     is_above: &mut Vec<bool>,
     open: &mut Vec<EdgeId>,
 ) -> Result<(), AllocError> {
-    for input in inputs(graph, edge) {
+    for input in inputs_of(graph, edge) {
         if let Some(maker) = graph.maker(*input) {
             if marks(is_above, maker.index()) {
                 open.push(maker)?;

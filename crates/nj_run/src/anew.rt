@@ -1,6 +1,6 @@
 //! What is declared and recorded, read anew once a build has ended.
 
-use crate::graphs::{dyndep, text};
+use crate::graphs::{dyndep_of, text_of};
 use build_log::Log;
 use dyndep::parse;
 use host::Host;
@@ -33,8 +33,8 @@ fn load<W: Write>(
     place: usize,
 ) -> Option<()> {
     let edge = EdgeId::at(place)?;
-    let file = dyndep(graph, edge)?;
-    let bytes = read_in(host, text(graph, file))?;
+    let file = dyndep_of(graph, edge)?;
+    let bytes = read_in(host, text_of(graph, file))?;
     extend(alloc, graph, file, &bytes)
 }
 

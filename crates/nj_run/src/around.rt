@@ -1,6 +1,6 @@
 //! What a path is to a build, apart from the edge that is looked at.
 
-use crate::graphs::{maker, text};
+use crate::graphs::{maker_of, text_of};
 use audit::{Around, canonical_at};
 use build_log::Log;
 use indexmap::IndexMap;
@@ -40,8 +40,8 @@ impl Names {
     }
 
     fn add(&mut self, alloc: Global, graph: &Graph, path: PathId) -> Result<(), AllocError> {
-        let whole = canonical_at(alloc, self.folder.as_str(), text(graph, path))?;
-        let maker = maker(graph, path);
+        let whole = canonical_at(alloc, self.folder.as_str(), text_of(graph, path))?;
+        let maker = maker_of(graph, path);
         if maker.is_some() || self.makers.get(whole.as_str()).is_none() {
             let _ = self.makers.insert(whole.into_string(), maker)?;
         }

@@ -4,12 +4,12 @@ use links::Graph;
 use paths::{Action, EdgeId, PathId};
 
 /// The text of a path.
-pub fn text(graph: &Graph, path: PathId) -> &str {
+pub fn text_of(graph: &Graph, path: PathId) -> &str {
     graph.manifest.paths.get(path).unwrap_or("")
 }
 
 /// What the edge makes.
-pub fn outputs(graph: &Graph, edge: EdgeId) -> &[PathId] {
+pub fn outputs_of(graph: &Graph, edge: EdgeId) -> &[PathId] {
     if edge.index() >= graph.edges() {
         return &[];
     }
@@ -17,7 +17,7 @@ pub fn outputs(graph: &Graph, edge: EdgeId) -> &[PathId] {
 }
 
 /// All its inputs.
-pub fn inputs(graph: &Graph, edge: EdgeId) -> &[PathId] {
+pub fn inputs_of(graph: &Graph, edge: EdgeId) -> &[PathId] {
     if edge.index() >= graph.edges() {
         return &[];
     }
@@ -25,7 +25,7 @@ pub fn inputs(graph: &Graph, edge: EdgeId) -> &[PathId] {
 }
 
 /// Its explicit and implicit inputs.
-pub fn regular_inputs(graph: &Graph, edge: EdgeId) -> &[PathId] {
+pub fn regular_inputs_of(graph: &Graph, edge: EdgeId) -> &[PathId] {
     if edge.index() >= graph.edges() {
         return &[];
     }
@@ -33,7 +33,7 @@ pub fn regular_inputs(graph: &Graph, edge: EdgeId) -> &[PathId] {
 }
 
 /// Its order-only inputs.
-pub fn order_only_inputs(graph: &Graph, edge: EdgeId) -> &[PathId] {
+pub fn order_only_inputs_of(graph: &Graph, edge: EdgeId) -> &[PathId] {
     if edge.index() >= graph.edges() {
         return &[];
     }
@@ -41,7 +41,7 @@ pub fn order_only_inputs(graph: &Graph, edge: EdgeId) -> &[PathId] {
 }
 
 /// What it does.
-pub fn action(graph: &Graph, edge: EdgeId) -> Option<&Action> {
+pub fn action_of(graph: &Graph, edge: EdgeId) -> Option<&Action> {
     if edge.index() >= graph.edges() {
         return None;
     }
@@ -54,7 +54,7 @@ pub fn is_command(graph: &Graph, edge: EdgeId) -> bool {
 }
 
 /// The dyndep file that it names, if that was not loaded.
-pub fn dyndep(graph: &Graph, edge: EdgeId) -> Option<PathId> {
+pub fn dyndep_of(graph: &Graph, edge: EdgeId) -> Option<PathId> {
     if edge.index() >= graph.edges() {
         return None;
     }
@@ -62,7 +62,7 @@ pub fn dyndep(graph: &Graph, edge: EdgeId) -> Option<PathId> {
 }
 
 /// The edge whose command makes the path; none of a source, and of a path that stands for others.
-pub fn maker(graph: &Graph, path: PathId) -> Option<EdgeId> {
+pub fn maker_of(graph: &Graph, path: PathId) -> Option<EdgeId> {
     let edge = graph.maker(path)?;
     if graph.is_phony(edge) {
         return None;

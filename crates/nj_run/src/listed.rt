@@ -2,7 +2,7 @@
 
 use crate::above::marks;
 use crate::around::Names;
-use crate::graphs::{action, order_only_inputs, outputs, regular_inputs, text};
+use crate::graphs::{action_of, order_only_inputs_of, outputs_of, regular_inputs_of, text_of};
 use audit::Lists;
 use deps_log::Log;
 use links::Graph;
@@ -22,10 +22,10 @@ pub struct Declared<'d> {
 /// The paths of an edge.
 pub fn lists_of(alloc: Global, declared: Declared<'_>, edge: EdgeId) -> Result<Lists, AllocError> {
     let Declared { graph, .. } = declared;
-    let outputs = whole_paths(alloc, declared, outputs(graph, edge))?;
-    let inputs = read_through(alloc, declared, regular_inputs(graph, edge))?;
-    let order_only = read_through(alloc, declared, order_only_inputs(graph, edge))?;
-    let reported = reported(alloc, declared, edge)?;
+    let outputs = whole_paths(alloc, declared, outputs_of(graph, edge))?;
+    let inputs = read_through(alloc, declared, regular_inputs_of(graph, edge))?;
+    let order_only = read_through(alloc, declared, order_only_inputs_of(graph, edge))?;
+    let reported = reported_by(alloc, declared, edge)?;
     let mut sides = Paths::new(alloc);
     let restat = push_sides(alloc, declared, edge, &mut sides)?;
     Ok(Lists {
@@ -45,7 +45,7 @@ fn push_sides(
     edge: EdgeId,
     sides: &mut Paths,
 ) -> Result<bool, AllocError> {
-    match action(declared.graph, edge) {
+    match action_of(declared.graph, edge) {
         Some(action) => push_sides_of(alloc, declared, action, sides),
         None => Ok(false),
     }
@@ -95,7 +95,7 @@ fn whole_paths(
 ) -> Result<Paths, AllocError> {
     let mut table = Paths::new(alloc);
     for number in numbers {
-        let path = text(declared.graph, *number);
+        let path = text_of(declared.graph, *number);
         declared.names.add_to(alloc, &mut table, path)?;
     }
     Ok(table)
@@ -115,7 +115,9 @@ fn read_through(
         let Some(path) = open.pop() else {
             return Ok(table);
         };
-        declared.names.add_to(alloc, &mut table, text(graph, path))?;
+        declared
+            .names
+            .add_to(alloc, &mut table, text_of(graph, path))?;
         push_behind(graph, path, &mut is_seen, &mut open)?;
     }
     Ok(table)
@@ -140,12 +142,12 @@ fn push_behind(
 fn reported(alloc: Global, declared: Declared<'_>, edge: EdgeId) -> Result<Paths, AllocError> {
     let mut table = Paths::new(alloc);
     if let Some(log) = declared.deps {
-        for output in outputs(declared.graph, edge) {
+        for output in outputs_of(declared.graph, edge) {
             push_reported(
                 alloc,
                 declared,
                 log,
-                text(declared.graph, *output),
+                text_of(declared.graph, *output),
                 &mut table,
             )?;
         }

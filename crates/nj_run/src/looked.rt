@@ -3,7 +3,7 @@
 use crate::above::above;
 use crate::anew::{build_log_in, deps_log_in, graph_of, take_trace};
 use crate::around::Names;
-use crate::graphs::{is_command, outputs, text};
+use crate::graphs::{is_command, outputs_of, text_of};
 use crate::listed::{Declared, lists_of};
 use crate::outside::Outside;
 use crate::tally::Tally;
@@ -45,12 +45,12 @@ pub fn look<W: Write>(
     let Reading { manifest, asked } = builder::read(alloc, host, options, targets).ok()?;
     let graph = graph_of(alloc, host, manifest, asked.folder.as_str())?;
     let commands = commands_in(alloc, &graph, asked.targets.as_slice())?;
-    let looking = looking(rt, host, graph, asked.folder.as_str(), folder)?;
+    let looking = look_by(rt, host, graph, asked.folder.as_str(), folder)?;
     look_at_all(host, &looking, commands)
 }
 
 /// What is looked at. The logs stand in the first folder, and the second one is the working folder, from the root.
-fn looking<W: Write>(
+fn look_by<W: Write>(
     rt: &HostRuntime,
     host: &mut Host<'_, W>,
     graph: Graph,
@@ -89,7 +89,7 @@ fn look_at_all<W: Write>(
     commands: usize,
 ) -> Option<Tally> {
     let mut tally = Tally::new(looking.alloc, commands);
-    let ended = ended(looking.alloc, host).ok()?;
+    let ended = ended_in(looking.alloc, host).ok()?;
     for end in &ended {
         look_at(host, looking, *end, &mut tally)?;
     }
@@ -104,7 +104,7 @@ struct Ended {
 }
 
 /// The commands that ended.
-fn ended<W: Write>(alloc: Global, host: &Host<'_, W>) -> Result<Vec<Ended>, AllocError> {
+fn ended_in<W: Write>(alloc: Global, host: &Host<'_, W>) -> Result<Vec<Ended>, AllocError> {
     let mut ended = Vec::new(alloc);
     for event in host.events() {
         if let Event::Finish { job, ok } = event {
@@ -330,8 +330,8 @@ impl Looking {
 
     /// The first output of an edge.
     fn name_of(&self, edge: EdgeId) -> &str {
-        match outputs(&self.graph, edge).first() {
-            Some(output) => text(&self.graph, *output),
+        match outputs_of(&self.graph, edge).first() {
+            Some(output) => text_of(&self.graph, *output),
             None => "",
         }
     }

@@ -1,7 +1,7 @@
 //! Paths of build lines that lead to one file.
 
 use crate::around::Names;
-use crate::graphs::text;
+use crate::graphs::text_of;
 use indexmap::IndexMap;
 use links::Graph;
 use paths::PathId;
@@ -32,7 +32,7 @@ impl Twins {
         };
         for place in 0..graph.paths() {
             if let Some(path) = PathId::at(place) {
-                twins.add(alloc, rt, names, text(graph, path))?;
+                twins.add(alloc, rt, names, text_of(graph, path))?;
             }
         }
         Ok(twins)
