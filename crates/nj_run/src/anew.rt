@@ -1,53 +1,81 @@
 //! What is declared and recorded, read anew once a build has ended.
 
-use crate::graphs::{dyndep_of, text_of};
+use auditor::{Auditor, dyndep_in, load};
 use build_log::Log;
-use dyndep::parse;
 use host::Host;
 use links::Graph;
-use paths::{EdgeId, Manifest, PathId};
+use paths::Manifest;
 use site::{Site, Texts};
 use std::alloc::{AllocError, Global};
+use std::fs;
 use std::io::Write;
+use std::os::unix::fs::MetadataExt;
 use text::Bytes;
 
+/// What an audit compares traces with. The program's own files stand in the first folder; the second one is the working folder, from the
+/// root.
+pub fn auditor_of<W: Write>(
+    rt: &HostRuntime,
+    host: &mut Host<'_, W>,
+    manifest: Manifest,
+    own: &str,
+    folder: &str,
+) -> Option<Auditor> {
+    let alloc = rt.alloc();
+    let log = build_log_in(alloc, host, own);
+    let deps = deps_log_in(alloc, host, own);
+    let graph = graph_of(alloc, host, manifest, own)?;
+    let mut auditor = Auditor::new(alloc, graph, folder, log, deps).ok()?;
+    find_files(alloc, rt, &mut auditor).ok()?;
+    Some(auditor)
+}
+
 /// The graph of a manifest, with what those dyndep files add that can be read.
-pub fn graph_of<W: Write>(
+fn graph_of<W: Write>(
     alloc: Global,
     host: &mut Host<'_, W>,
     manifest: Manifest,
-    folder: &str,
+    own: &str,
 ) -> Option<Graph> {
-    let mut graph = Graph::build(alloc, manifest, folder).ok()?;
+    let mut graph = Graph::build(alloc, manifest, own).ok()?;
     for place in 0..graph.edges() {
-        let _ = load(alloc, host, &mut graph, place);
+        let _ = load_at(alloc, host, &mut graph, place);
     }
     Some(graph)
 }
 
 /// Loads the dyndep file of the edge in this place, if it names one that was not loaded.
-fn load<W: Write>(
+fn load_at<W: Write>(
     alloc: Global,
     host: &mut Host<'_, W>,
     graph: &mut Graph,
     place: usize,
 ) -> Option<()> {
-    let edge = EdgeId::at(place)?;
-    let file = dyndep_of(graph, edge)?;
-    let bytes = read_in(host, text_of(graph, file))?;
-    extend(alloc, graph, file, &bytes)
+    let bytes = read_in(host, dyndep_in(graph, place)?)?;
+    load(alloc, graph, place, bytes.as_slice())
 }
 
-/// What the dyndep file with these bytes says joins the graph.
-fn extend(alloc: Global, graph: &mut Graph, file: PathId, bytes: &Bytes) -> Option<()> {
-    let additions = parse(alloc, bytes.as_slice()).ok()?;
-    if file.index() >= graph.paths() {
-        return None;
+/// Tells to which plain file each path leads, by device and inode.
+fn find_files(alloc: Global, rt: &HostRuntime, auditor: &mut Auditor) -> Result<(), AllocError> {
+    for place in 0..auditor.paths() {
+        if let Some(file) = file_at(alloc, rt, auditor.path(place))? {
+            auditor.leads(place, file)?;
+        }
     }
-    match graph.extend(alloc, additions.as_slice(), file) {
-        Ok(_) => Some(()),
-        Err(_) => None,
+    Ok(())
+}
+
+/// Which plain file the path leads to, as a text.
+fn file_at(alloc: Global, rt: &HostRuntime, path: &str) -> Result<Option<String>, AllocError> {
+    let Ok(found) = fs::metadata(rt, path) else {
+        return Ok(None);
+    };
+    if !found.is_file() {
+        return Ok(None);
     }
+    let device = found.dev();
+    let inode = found.ino();
+    Ok(Some(format!(in alloc; "{device}:{inode}")?))
 }
 
 /// What stands in a file.

@@ -7,6 +7,7 @@ use indexmap::IndexMap;
 use links::Graph;
 use paths::{EdgeId, PathId, Paths};
 use std::alloc::{AllocError, Global};
+use text::Path;
 
 /// The paths that build lines name, from the root and canonical, with the edge whose command makes each.
 #[derive(Drop)]
@@ -54,7 +55,7 @@ impl Names {
     }
 
     /// The path from the root.
-    pub fn whole(&self, alloc: Global, path: &str) -> Result<text::Path, AllocError> {
+    pub fn whole(&self, alloc: Global, path: &str) -> Result<Path, AllocError> {
         canonical_at(alloc, self.folder.as_str(), path)
     }
 
