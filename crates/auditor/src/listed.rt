@@ -21,21 +21,38 @@ pub struct Declared<'d> {
 
 /// The paths of an edge.
 pub fn lists_of(alloc: Global, declared: Declared<'_>, edge: EdgeId) -> Result<Lists, AllocError> {
+    let mut lists = Lists {
+        outputs: Paths::new(alloc),
+        sides: Paths::new(alloc),
+        inputs: Paths::new(alloc),
+        order_only: Paths::new(alloc),
+        reported: Paths::new(alloc),
+        restat: false,
+    };
+    fill(alloc, declared, edge, &mut lists)?;
+    Ok(lists)
+}
+
+/// Takes in the paths of an edge.
+fn fill(
+    alloc: Global,
+    declared: Declared<'_>,
+    edge: EdgeId,
+    lists: &mut Lists,
+) -> Result<(), AllocError> {
     let Declared { graph, .. } = declared;
-    let outputs = whole_paths(alloc, declared, outputs_of(graph, edge))?;
-    let inputs = read_through(alloc, declared, regular_inputs_of(graph, edge))?;
-    let order_only = read_through(alloc, declared, order_only_inputs_of(graph, edge))?;
-    let reported = reported_by(alloc, declared, edge)?;
-    let mut sides = Paths::new(alloc);
-    let restat = push_sides(alloc, declared, edge, &mut sides)?;
-    Ok(Lists {
-        outputs,
-        sides,
-        inputs,
-        order_only,
-        reported,
-        restat,
-    })
+    let order_only = order_only_inputs_of(graph, edge);
+    push_paths(alloc, declared, outputs_of(graph, edge), &mut lists.outputs)?;
+    push_through(
+        alloc,
+        declared,
+        regular_inputs_of(graph, edge),
+        &mut lists.inputs,
+    )?;
+    push_through(alloc, declared, order_only, &mut lists.order_only)?;
+    push_all_reported(alloc, declared, edge, &mut lists.reported)?;
+    lists.restat = push_sides(alloc, declared, edge, &mut lists.sides)?;
+    Ok(())
 }
 
 /// Takes in the depfile and the response file of an edge; whether its command may leave outputs as they were.
@@ -88,39 +105,37 @@ fn push_text(
     declared.names.add_to(alloc, table, path)
 }
 
-fn whole_paths(
+fn push_paths(
     alloc: Global,
     declared: Declared<'_>,
     numbers: &[PathId],
-) -> Result<Paths, AllocError> {
-    let mut table = Paths::new(alloc);
+    table: &mut Paths,
+) -> Result<(), AllocError> {
     for number in numbers {
         let path = text_of(declared.graph, *number);
-        declared.names.add_to(alloc, &mut table, path)?;
+        declared.names.add_to(alloc, table, path)?;
     }
-    Ok(table)
+    Ok(())
 }
 
-/// These paths, and where a phony edge makes one its inputs too, and so on.
-fn read_through(
+/// Takes in these paths, and where a phony edge makes one its inputs too, and so on.
+fn push_through(
     alloc: Global,
     declared: Declared<'_>,
     inputs: &[PathId],
-) -> Result<Paths, AllocError> {
+    table: &mut Paths,
+) -> Result<(), AllocError> {
     let Declared { graph, .. } = declared;
-    let mut table = Paths::new(alloc);
     let mut open = Vec::from_slice(alloc, inputs)?;
     let mut is_seen = vec![in alloc; false; graph.edges()]?;
     for _ in 0..usize::MAX {
         let Some(path) = open.pop() else {
-            return Ok(table);
+            return Ok(());
         };
-        declared
-            .names
-            .add_to(alloc, &mut table, text_of(graph, path))?;
+        declared.names.add_to(alloc, table, text_of(graph, path))?;
         push_behind(graph, path, &mut is_seen, &mut open)?;
     }
-    Ok(table)
+    Ok(())
 }
 
 /// Where a phony edge makes the path, its inputs are put at the end, unless that was done before.
@@ -138,21 +153,26 @@ fn push_behind(
     Ok(())
 }
 
-/// What the command of the edge told when it ran last.
-fn reported(alloc: Global, declared: Declared<'_>, edge: EdgeId) -> Result<Paths, AllocError> {
-    let mut table = Paths::new(alloc);
-    if let Some(log) = declared.deps {
-        for output in outputs_of(declared.graph, edge) {
-            push_reported(
-                alloc,
-                declared,
-                log,
-                text_of(declared.graph, *output),
-                &mut table,
-            )?;
-        }
+/// Takes in what the command of the edge told when it ran last.
+fn push_all_reported(
+    alloc: Global,
+    declared: Declared<'_>,
+    edge: EdgeId,
+    table: &mut Paths,
+) -> Result<(), AllocError> {
+    let Some(log) = declared.deps else {
+        return Ok(());
+    };
+    for output in outputs_of(declared.graph, edge) {
+        push_reported(
+            alloc,
+            declared,
+            log,
+            text_of(declared.graph, *output),
+            table,
+        )?;
     }
-    Ok(table)
+    Ok(())
 }
 
 fn push_reported(

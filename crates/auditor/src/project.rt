@@ -6,7 +6,7 @@ use crate::graphs::{is_command, outputs_of, text_of};
 use crate::listed::{Declared, lists_of};
 use crate::tally::Tally;
 use crate::twins::Twins;
-use audit::{Around, Lists, Use, Uses, Whole, breaches, connects, uses_of, wholes_of};
+use audit::{Around, Breach, Lists, Use, Uses, Whole, breaches, connects, uses_of, wholes_of};
 use build_log::Log as BuildLog;
 use deps_log::Log;
 use links::Graph;
@@ -140,12 +140,6 @@ impl Auditor {
         wholes: &[Whole],
         tally: &mut Tally,
     ) -> Result<(), AllocError> {
-        let lists = lists_of(self.alloc, self.declared(), edge)?;
-        let uses = self.uses_of(wholes, &lists)?;
-        let found = self.judge(edge, &lists, &uses, tally)?;
-        let spelled = self.tell_spellings(edge, &uses, tally)?;
-        self.tell_looked(edge, &lists, &uses, tally)?;
-        tally.outside.take(self.alloc, &self.names, &uses)?;
         if connects(wholes) {
             self.tell_note(
                 edge,
@@ -153,20 +147,44 @@ impl Auditor {
                 tally,
             )?;
         }
+        let lists = lists_of(self.alloc, self.declared(), edge)?;
+        self.take_lists(edge, wholes, &lists, tally)
+    }
+
+    fn take_lists(
+        &self,
+        edge: EdgeId,
+        wholes: &[Whole],
+        lists: &Lists,
+        tally: &mut Tally,
+    ) -> Result<(), AllocError> {
+        let mut uses = self.uses_in(wholes)?;
+        uses.add_untouched(self.alloc, &lists.outputs)?;
+        self.take_uses(edge, lists, &uses, tally)
+    }
+
+    fn take_uses(
+        &self,
+        edge: EdgeId,
+        lists: &Lists,
+        uses: &Uses,
+        tally: &mut Tally,
+    ) -> Result<(), AllocError> {
+        let found = self.judge(edge, lists, uses, tally)?;
+        let spelled = self.tell_spellings(edge, uses, tally)?;
+        self.tell_looked(edge, lists, uses, tally)?;
+        tally.outside.take(self.alloc, &self.names, uses)?;
         tally.count(found.saturating_add(spelled) == 0);
         Ok(())
     }
 
-    /// What was done at each path, those that count by their names and the others by those that the kernel has; each output of the edge is
-    /// among them.
-    fn uses_of(&self, wholes: &[Whole], lists: &Lists) -> Result<Uses, AllocError> {
+    /// What was done at each path: those that count by their names, and the others by those that the kernel has.
+    fn uses_in(&self, wholes: &[Whole]) -> Result<Uses, AllocError> {
         let mut reals = Vec::with_capacity(self.alloc, wholes.len())?;
         for whole in wholes {
             reals.push(!self.names.counts(whole.path.as_str()))?;
         }
-        let mut uses = uses_of(self.alloc, wholes, reals.as_slice())?;
-        uses.add_untouched(self.alloc, &lists.outputs)?;
-        Ok(uses)
+        uses_of(self.alloc, wholes, reals.as_slice())
     }
 
     /// Tells what breaks a premise, and answers how much it was.
@@ -177,13 +195,18 @@ impl Auditor {
         uses: &Uses,
         tally: &mut Tally,
     ) -> Result<usize, AllocError> {
-        let arounds = self.arounds_of(edge, lists, uses)?;
-        let found = breaches(self.alloc, lists, arounds.as_slice(), uses)?;
+        let found = self.found(edge, lists, uses)?;
         for breach in found.as_slice() {
             let path = self.names.short(uses.path(breach.place).unwrap_or(""));
             tally.tell(self.alloc, self.name_of(edge), breach.finding, path)?;
         }
         Ok(found.len())
+    }
+
+    /// What breaks a premise.
+    fn found(&self, edge: EdgeId, lists: &Lists, uses: &Uses) -> Result<Items<Breach>, AllocError> {
+        let arounds = self.arounds_of(edge, lists, uses)?;
+        breaches(self.alloc, lists, arounds.as_slice(), uses)
     }
 
     /// What each path is to the build.
