@@ -182,14 +182,14 @@ module _ (own : OwnFiles) (edges : List Edge) (old so_far now new : List Moment)
 -- the command of edge i is started: its old depfile is gone, and its response file is written
 pub start_ready : (own : OwnFiles) (edges : List Edge) (tells : Bool) → IsTrue tells → (old so_far : List Moment) (now new : World) → now.history ≡ old ++ so_far → (i : ℕ) (act : Act) → IsCommand edges i
     → OthersRun edges i (IsRunning now.events) → act ≡ (edge_at edges i).act → Starts tells i act now new
-    → ((edge_at edges i).act.depfile ≢ [] → HoldsPrivately own edges old (edge_at edges i).act.depfile None now.history)
+    → ((edge_at edges i).act.depfile ≢ [] → (edge_at edges i).act.depfile ≢ (edge_at edges i).act.response_path → HoldsPrivately own edges old (edge_at edges i).act.depfile None now.history)
     → ((edge_at edges i).act.response_path ≢ [] → HoldsPrivately own edges old (edge_at edges i).act.response_path (Some (edge_at edges i).act.response_content) now.history)
     → AreStartsReady own edges old now.history → AreStartsReady own edges old new.history
 start_ready own edges tells tell old so_far now new was i act command others is starts gone written_so ready =
     ready_started own edges old now.history so_far adds.earlier adds.later new.history i now.ticked act was adds.grows
     (ap starts_in (no_events own edges (IsRunning now.events) adds.earlier adds.all_earlier)) (ap starts_in (no_events own edges (IsRunning new.events) adds.later adds.all_later))
     (λ files. subst (λ (a : Act). IsReadyFor a (view_of (now.history ++ adds.earlier))) (sym is) (record {
-      depfile = λ named. so (edge_at edges i).act.depfile None (record { named = named; is = inl refl }) (gone named) files;
+      depfile = λ named other. so (edge_at edges i).act.depfile None (record { named = named; is = inl refl }) (gone named other) files;
       response = λ named. so (edge_at edges i).act.response_path (Some (edge_at edges i).act.response_content) (record { named = named; is = inr refl }) (written_so named) files;
     })) ready
   where

@@ -32,27 +32,71 @@ pub fn push_awkward(
 
 /// A graph of so many modules; in each round one of them is edited.
 fn push_modules(alloc: Global, asked: Asked<'_>, digest: &mut Digest) -> Result<(), AllocError> {
-    let mut random = Random::new(asked.seed);
     let mut desk = Desk::new(alloc, 4)?;
-    for number in 0..asked.size {
-        put_module(alloc, &mut desk, number, &mut random)?;
-    }
-    put_uses(alloc, &mut desk, asked.size, &mut random)?;
-    let text = modules(alloc, asked.size)?;
-    desk.put("build.ninja", text.as_bytes())?;
+    build_modules(alloc, &mut desk, asked, digest)?;
+    add_modules(alloc, &desk, asked.size, digest)
+}
+
+fn build_modules(
+    alloc: Global,
+    desk: &mut Desk,
+    asked: Asked<'_>,
+    digest: &mut Digest,
+) -> Result<(), AllocError> {
+    let mut random = Random::new(asked.seed);
+    put_modules(alloc, desk, asked.size, &mut random)?;
     desk.build(digest)?;
     for _ in 0..asked.rounds {
         let number = random.below(asked.size);
-        put_module(alloc, &mut desk, number, &mut random)?;
+        put_module(alloc, desk, number, &mut random)?;
         desk.build(digest)?;
     }
-    for number in 0..asked.size {
-        let path = format!(in alloc; "obj/module{number:04}.o")?;
-        desk.add_file(path.as_str(), digest);
-        let path = format!(in alloc; "mod/module{number:04}.mod")?;
-        desk.add_file(path.as_str(), digest);
+    Ok(())
+}
+
+/// All files of the graph.
+fn put_modules(
+    alloc: Global,
+    desk: &mut Desk,
+    edges: usize,
+    random: &mut Random,
+) -> Result<(), AllocError> {
+    for number in 0..edges {
+        put_module(alloc, desk, number, random)?;
+    }
+    put_uses(alloc, desk, edges, random)?;
+    let text = modules(alloc, edges)?;
+    desk.put("build.ninja", text.as_bytes())
+}
+
+/// Takes in what all made files hold.
+fn add_modules(
+    alloc: Global,
+    desk: &Desk,
+    edges: usize,
+    digest: &mut Digest,
+) -> Result<(), AllocError> {
+    for number in 0..edges {
+        add_module(alloc, desk, number, digest)?;
     }
     desk.add_file("program", digest);
+    Ok(())
+}
+
+fn add_module(
+    alloc: Global,
+    desk: &Desk,
+    number: usize,
+    digest: &mut Digest,
+) -> Result<(), AllocError> {
+    desk.add_file(
+        format!(in alloc; "obj/module{number:04}.o")?.as_str(),
+        digest,
+    );
+    desk.add_file(
+        format!(in alloc; "mod/module{number:04}.mod")?.as_str(),
+        digest,
+    );
     Ok(())
 }
 
@@ -75,22 +119,42 @@ fn put_uses(
     random: &mut Random,
 ) -> Result<(), AllocError> {
     for part in 0..parts(edges) {
-        let mut text = String::from_str(alloc, "ninja_dyndep_version = 1\n")?;
-        for number in members(part, edges) {
-            write!(
-                text,
-                "build obj/module{number:04}.o | mod/module{number:04}.mod: dyndep |"
-            )?;
-            for _ in 0..random.below(5) {
-                let used = random.below(number);
-                if number != 0 {
-                    write!(text, " mod/module{used:04}.mod")?;
-                }
+        put_part(alloc, desk, part, edges, random)?;
+    }
+    Ok(())
+}
+
+fn put_part(
+    alloc: Global,
+    desk: &mut Desk,
+    part: usize,
+    edges: usize,
+    random: &mut Random,
+) -> Result<(), AllocError> {
+    let mut text = String::from_str(alloc, "ninja_dyndep_version = 1\n")?;
+    push_part_uses(part, edges, random, &mut text)?;
+    let path = format!(in alloc; "src/part{part:03}.scan")?;
+    desk.put(path.as_str(), text.as_bytes())
+}
+
+fn push_part_uses(
+    part: usize,
+    edges: usize,
+    random: &mut Random,
+    text: &mut String,
+) -> Result<(), AllocError> {
+    for number in members(part, edges) {
+        write!(
+            text,
+            "build obj/module{number:04}.o | mod/module{number:04}.mod: dyndep |"
+        )?;
+        for _ in 0..random.below(5) {
+            let used = random.below(number);
+            if number != 0 {
+                write!(text, " mod/module{used:04}.mod")?;
             }
-            text.push('\n')?;
         }
-        let path = format!(in alloc; "src/part{part:03}.scan")?;
-        desk.put(path.as_str(), text.as_bytes())?;
+        text.push('\n')?;
     }
     Ok(())
 }
@@ -107,6 +171,11 @@ fn members(part: usize, edges: usize) -> std::ops::Range<usize> {
 
 fn modules(alloc: Global, edges: usize) -> Result<String, AllocError> {
     let mut text = String::from_str(alloc, MODULES)?;
+    push_lines(edges, &mut text)?;
+    Ok(text)
+}
+
+fn push_lines(edges: usize, text: &mut String) -> Result<(), AllocError> {
     for part in 0..parts(edges) {
         write!(
             text,
@@ -127,33 +196,52 @@ fn modules(alloc: Global, edges: usize) -> Result<String, AllocError> {
     for number in 0..edges {
         write!(text, " obj/module{number:04}.o")?;
     }
-    text.push('\n')?;
-    Ok(text)
+    text.push('\n')
 }
 
 /// A chain of so many commands, each of which reads through a phony edge over ten times so many files; in each round one of these
 /// is edited.
 fn push_gathered(alloc: Global, asked: Asked<'_>, digest: &mut Digest) -> Result<(), AllocError> {
-    let mut random = Random::new(asked.seed);
     let mut desk = Desk::new(alloc, 4)?;
-    let (files, commands) = (asked.size.saturating_mul(10), asked.size);
-    for number in 0..files {
-        put_file(alloc, &mut desk, number, &mut random)?;
+    build_gathered(alloc, &mut desk, asked, digest)?;
+    for number in 0..asked.size {
+        desk.add_file(format!(in alloc; "out/{number}")?.as_str(), digest);
     }
-    desk.put("in/first", b"first")?;
-    let text = gathered(alloc, files, commands)?;
-    desk.put("build.ninja", text.as_bytes())?;
+    Ok(())
+}
+
+fn build_gathered(
+    alloc: Global,
+    desk: &mut Desk,
+    asked: Asked<'_>,
+    digest: &mut Digest,
+) -> Result<(), AllocError> {
+    let mut random = Random::new(asked.seed);
+    let files = asked.size.saturating_mul(10);
+    put_gathered(alloc, desk, files, asked.size, &mut random)?;
     desk.build(digest)?;
     for _ in 0..asked.rounds {
         let number = random.below(files);
-        put_file(alloc, &mut desk, number, &mut random)?;
+        put_file(alloc, desk, number, &mut random)?;
         desk.build(digest)?;
     }
-    for number in 0..commands {
-        let path = format!(in alloc; "out/{number}")?;
-        desk.add_file(path.as_str(), digest);
-    }
     Ok(())
+}
+
+/// All files of the graph.
+fn put_gathered(
+    alloc: Global,
+    desk: &mut Desk,
+    files: usize,
+    commands: usize,
+    random: &mut Random,
+) -> Result<(), AllocError> {
+    for number in 0..files {
+        put_file(alloc, desk, number, random)?;
+    }
+    desk.put("in/first", b"first")?;
+    let text = gathered(alloc, files, commands)?;
+    desk.put("build.ninja", text.as_bytes())
 }
 
 fn put_file(
@@ -169,6 +257,11 @@ fn put_file(
 
 fn gathered(alloc: Global, files: usize, commands: usize) -> Result<String, AllocError> {
     let mut text = String::from_str(alloc, GATHERED)?;
+    push_chain(files, commands, &mut text)?;
+    Ok(text)
+}
+
+fn push_chain(files: usize, commands: usize, text: &mut String) -> Result<(), AllocError> {
     text.push_str("build files: phony")?;
     for number in 0..files {
         write!(text, " in/file{number:05}.h")?;
@@ -178,5 +271,5 @@ fn gathered(alloc: Global, files: usize, commands: usize) -> Result<String, Allo
         let before = number.saturating_sub(1);
         write!(text, "build out/{number}: cat out/{before} | files\n")?;
     }
-    Ok(text)
+    Ok(())
 }

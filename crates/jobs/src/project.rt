@@ -52,16 +52,7 @@ struct Project {
 /// A build from nothing, and one after each edit of a unit.
 pub fn push_edited(alloc: Global, asked: Asked<'_>, digest: &mut Digest) -> Result<(), AllocError> {
     let mut project = Project::new(alloc, asked, ABSOLUTE, 1000, (55, 1))?;
-    let mut desk = Desk::new(alloc, 8)?;
-    project.begin(&mut desk)?;
-    desk.build(digest)?;
-    for _ in 0..asked.rounds {
-        let units = project.units;
-        let unit = project.random.below(units);
-        project.put_unit(&mut desk, unit)?;
-        desk.build(digest)?;
-    }
-    project.end(&desk, digest)
+    project.build_edited(asked.rounds, digest)
 }
 
 /// A build from nothing, and one after each edit of a header.
@@ -71,14 +62,7 @@ pub fn push_touched(
     digest: &mut Digest,
 ) -> Result<(), AllocError> {
     let mut project = Project::new(alloc, asked, BESIDE, 500, (50, 1))?;
-    let mut desk = Desk::new(alloc, 8)?;
-    project.begin(&mut desk)?;
-    desk.build(digest)?;
-    for round in 0..asked.rounds {
-        project.touch(&mut desk, round)?;
-        desk.build(digest)?;
-    }
-    project.end(&desk, digest)
+    project.build_touched(asked.rounds, digest)
 }
 
 /// In each round a build of another project from nothing.
@@ -102,13 +86,7 @@ fn build_from_nothing(
 ) -> Result<(), AllocError> {
     let top = if turned { BESIDE } else { ABSOLUTE };
     let mut project = Project::new(alloc, asked, top, 1000, (25, 176))?;
-    let mut desk = Desk::new(alloc, 4)?;
-    if turned {
-        desk.turn();
-    }
-    project.begin(&mut desk)?;
-    desk.build(digest)?;
-    project.end(&desk, digest)
+    project.build_once(turned, digest)
 }
 
 impl Project {
@@ -128,8 +106,70 @@ impl Project {
         })
     }
 
+    /// A build from nothing, and so many after an edit of a unit, at a place of its own.
+    fn build_edited(&mut self, rounds: usize, digest: &mut Digest) -> Result<(), AllocError> {
+        let mut desk = Desk::new(self.alloc, 8)?;
+        self.edit_units(&mut desk, rounds, digest)
+    }
+
+    fn edit_units(
+        &mut self,
+        desk: &mut Desk,
+        rounds: usize,
+        digest: &mut Digest,
+    ) -> Result<(), AllocError> {
+        self.begin(desk, digest)?;
+        for _ in 0..rounds {
+            let units = self.units;
+            let unit = self.random.below(units);
+            self.put_unit(desk, unit)?;
+            desk.build(digest)?;
+        }
+        self.end(desk, digest)
+    }
+
+    /// A build from nothing, and so many after an edit of a header, at a place of its own.
+    fn build_touched(&mut self, rounds: usize, digest: &mut Digest) -> Result<(), AllocError> {
+        let mut desk = Desk::new(self.alloc, 8)?;
+        self.edit_headers(&mut desk, rounds, digest)
+    }
+
+    fn edit_headers(
+        &mut self,
+        desk: &mut Desk,
+        rounds: usize,
+        digest: &mut Digest,
+    ) -> Result<(), AllocError> {
+        self.begin(desk, digest)?;
+        for round in 0..rounds {
+            self.touch(desk, round)?;
+            desk.build(digest)?;
+        }
+        self.end(desk, digest)
+    }
+
+    /// A build from nothing, at a place of its own.
+    fn build_once(&mut self, turned: bool, digest: &mut Digest) -> Result<(), AllocError> {
+        let mut desk = Desk::new(self.alloc, 4)?;
+        if turned {
+            desk.turn();
+        }
+        self.build_on(&mut desk, digest)
+    }
+
+    fn build_on(&mut self, desk: &mut Desk, digest: &mut Digest) -> Result<(), AllocError> {
+        self.begin(desk, digest)?;
+        self.end(desk, digest)
+    }
+
+    /// The first build.
+    fn begin(&mut self, desk: &mut Desk, digest: &mut Digest) -> Result<(), AllocError> {
+        self.put_all(desk)?;
+        desk.build(digest)
+    }
+
     /// All files of the project.
-    fn begin(&mut self, desk: &mut Desk) -> Result<(), AllocError> {
+    fn put_all(&mut self, desk: &mut Desk) -> Result<(), AllocError> {
         for path in &self.headers.paths {
             desk.put(path.as_str(), b"h")?;
         }
@@ -170,28 +210,25 @@ impl Project {
 
     fn build_file(&mut self) -> Result<String, AllocError> {
         let mut text = String::from_str(self.alloc, RULES)?;
+        self.push_edges(&mut text)?;
+        Ok(text)
+    }
+
+    fn push_edges(&mut self, text: &mut String) -> Result<(), AllocError> {
         for number in 0..self.units {
-            self.push_unit(number, &mut text)?;
+            self.push_unit(number, text)?;
         }
         let libraries = library_of(self.units.saturating_sub(1)).saturating_add(1);
         for library in 0..libraries {
-            self.push_library(library, &mut text)?;
+            self.push_library(library, text)?;
         }
-        self.push_program(libraries, &mut text)?;
-        Ok(text)
+        self.push_program(libraries, text)
     }
 
     /// The lines of a unit. Its flags take 100 to 800 bytes.
     fn push_unit(&mut self, number: usize, text: &mut String) -> Result<(), AllocError> {
-        let (name, object) = (unit(self.alloc, number)?, object(self.alloc, number)?);
-        let (library, end) = (library_of(number), ending(number));
-        let rule = if end == "c" {
-            "C_COMPILER"
-        } else {
-            "CXX_COMPILER"
-        };
-        let top = self.top;
-        write!(text, "build {object}: {rule} {top}/src/{name}.{end}")?;
+        self.push_paths(number, text)?;
+        let (library, top) = (library_of(number), self.top);
         write!(
             text,
             " || cmake_object_order_depends_target_lib{library:02}\n"
@@ -205,6 +242,17 @@ impl Project {
             write!(text, " -I{top}/include/part{folder:02}")?;
         }
         text.push('\n')
+    }
+
+    fn push_paths(&self, number: usize, text: &mut String) -> Result<(), AllocError> {
+        let (name, object) = (unit(self.alloc, number)?, object(self.alloc, number)?);
+        let (top, end) = (self.top, ending(number));
+        let rule = if end == "c" {
+            "C_COMPILER"
+        } else {
+            "CXX_COMPILER"
+        };
+        write!(text, "build {object}: {rule} {top}/src/{name}.{end}")
     }
 
     /// The archive of a library, and the phony edge that CMake puts before its units.

@@ -48,14 +48,24 @@ pub fn push_read(alloc: Global, asked: Asked<'_>, digest: &mut Digest) -> Result
     let mut random = Random::new(asked.seed);
     for _ in 0..asked.rounds {
         let mut site = Sim::new(alloc, Toy);
-        put_cmake(alloc, &mut site, asked.size, &mut random)?;
-        add_read(alloc, &mut site, digest)?;
-        put_gn(alloc, &mut site, asked.size, &mut random)?;
-        add_read(alloc, &mut site, digest)?;
-        put_long(alloc, &mut site, asked.size, &mut random)?;
-        add_read(alloc, &mut site, digest)?;
+        read_forms(alloc, &mut site, asked.size, &mut random, digest)?;
     }
     Ok(())
+}
+
+fn read_forms(
+    alloc: Global,
+    site: &mut Sim<Toy>,
+    edges: usize,
+    random: &mut Random,
+    digest: &mut Digest,
+) -> Result<(), AllocError> {
+    put_cmake(alloc, site, edges, random)?;
+    add_read(alloc, site, digest)?;
+    put_gn(alloc, site, edges, random)?;
+    add_read(alloc, site, digest)?;
+    put_long(alloc, site, edges, random)?;
+    add_read(alloc, site, digest)
 }
 
 fn put_cmake(
@@ -65,6 +75,11 @@ fn put_cmake(
     random: &mut Random,
 ) -> Result<(), AllocError> {
     let mut text = String::from_str(alloc, CMAKE)?;
+    push_cmake(edges, random, &mut text)?;
+    site.put("build.ninja", text.as_bytes())
+}
+
+fn push_cmake(edges: usize, random: &mut Random, text: &mut String) -> Result<(), AllocError> {
     for edge in 0..edges {
         let target = edge.checked_div(40).unwrap_or(0);
         let version = random.below(100_000);
@@ -86,7 +101,7 @@ fn put_cmake(
         )?;
         text.push_str("  OBJECT_DIR = src/CMakeFiles/target.dir\n\n")?;
     }
-    site.put("build.ninja", text.as_bytes())
+    Ok(())
 }
 
 /// A file for each target of 25 edges.
@@ -114,6 +129,11 @@ fn put_gn_target(
     random: &mut Random,
 ) -> Result<(), AllocError> {
     let mut text = String::new(alloc);
+    push_gn_target(target, random, &mut text)?;
+    site.put(path, text.as_bytes())
+}
+
+fn push_gn_target(target: usize, random: &mut Random, text: &mut String) -> Result<(), AllocError> {
     let version = random.below(100_000);
     write!(
         text,
@@ -137,8 +157,7 @@ fn put_gn_target(
     for file in 0..25_usize {
         write!(text, " obj/part{target:03}/target/file{file:02}.o")?;
     }
-    text.push('\n')?;
-    site.put(path, text.as_bytes())
+    text.push('\n')
 }
 
 /// Edges of 400 inputs, as many as there are inputs as the other forms have edges, four times over.
@@ -149,6 +168,11 @@ fn put_long(
     random: &mut Random,
 ) -> Result<(), AllocError> {
     let mut text = String::from_str(alloc, LONG)?;
+    push_long(edges, random, &mut text)?;
+    site.put("build.ninja", text.as_bytes())
+}
+
+fn push_long(edges: usize, random: &mut Random, text: &mut String) -> Result<(), AllocError> {
     for program in 0..edges.checked_div(100).unwrap_or(0) {
         write!(text, "build bin/program{program:03}: link")?;
         let first = random.below(edges);
@@ -166,7 +190,7 @@ fn put_long(
         )?;
         text.push_str("  LINK_LIBRARIES = -lpthread -ldl -lz -Wl,-rpath,/usr/local/lib\n")?;
     }
-    site.put("build.ninja", text.as_bytes())
+    Ok(())
 }
 
 fn add_read(alloc: Global, site: &mut Sim<Toy>, digest: &mut Digest) -> Result<(), AllocError> {

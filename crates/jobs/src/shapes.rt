@@ -35,18 +35,42 @@ fn build_shape(
     shape: Shape,
     digest: &mut Digest,
 ) -> Result<(), AllocError> {
-    let mut random = Random::new(asked.seed);
     let mut desk = Desk::new(alloc, 8)?;
-    put_sources(alloc, &mut desk, asked.size, &mut random)?;
-    let text = build_file(alloc, asked.size, shape)?;
-    desk.put("build.ninja", text.as_bytes())?;
+    build_on(alloc, &mut desk, asked, shape, digest)
+}
+
+/// A build from nothing, and one after each edit of the source that the last edge alone reads.
+fn build_on(
+    alloc: Global,
+    desk: &mut Desk,
+    asked: Asked<'_>,
+    shape: Shape,
+    digest: &mut Digest,
+) -> Result<(), AllocError> {
+    let mut random = Random::new(asked.seed);
+    put_sources(alloc, desk, asked.size, &mut random)?;
+    put_build_file(alloc, desk, asked.size, shape)?;
     desk.build(digest)?;
     for _ in 0..asked.rounds {
-        let content = format!(in alloc; "{}", random.below(1_000_000))?;
-        desk.put("in/late", content.as_bytes())?;
+        put_late(alloc, desk, &mut random)?;
         desk.build(digest)?;
     }
-    add_outputs(alloc, &desk, asked.size, digest)
+    add_outputs(alloc, desk, asked.size, digest)
+}
+
+fn put_build_file(
+    alloc: Global,
+    desk: &mut Desk,
+    edges: usize,
+    shape: Shape,
+) -> Result<(), AllocError> {
+    let text = build_file(alloc, edges, shape)?;
+    desk.put("build.ninja", text.as_bytes())
+}
+
+fn put_late(alloc: Global, desk: &mut Desk, random: &mut Random) -> Result<(), AllocError> {
+    let content = format!(in alloc; "{}", random.below(1_000_000))?;
+    desk.put("in/late", content.as_bytes())
 }
 
 fn put_sources(
@@ -57,11 +81,20 @@ fn put_sources(
 ) -> Result<(), AllocError> {
     desk.put("in/late", b"late")?;
     for number in 0..edges.saturating_add(6) {
-        let path = source(alloc, number)?;
-        let content = format!(in alloc; "{}", random.below(10))?;
-        desk.put(path.as_str(), content.as_bytes())?;
+        put_source(alloc, desk, number, random)?;
     }
     Ok(())
+}
+
+fn put_source(
+    alloc: Global,
+    desk: &mut Desk,
+    number: usize,
+    random: &mut Random,
+) -> Result<(), AllocError> {
+    let path = source(alloc, number)?;
+    let content = format!(in alloc; "{}", random.below(10))?;
+    desk.put(path.as_str(), content.as_bytes())
 }
 
 fn add_outputs(
@@ -89,17 +122,31 @@ fn output(alloc: Global, edge: usize) -> Result<String, AllocError> {
 /// Edges of the shape; the last one reads a source of its own besides.
 fn build_file(alloc: Global, edges: usize, shape: Shape) -> Result<String, AllocError> {
     let mut text = String::from_str(alloc, RULES)?;
-    push_files(alloc, edges, shape, &mut text)?;
+    push_edges(alloc, edges, shape, &mut text)?;
+    Ok(text)
+}
+
+fn push_edges(
+    alloc: Global,
+    edges: usize,
+    shape: Shape,
+    text: &mut String,
+) -> Result<(), AllocError> {
+    push_files(alloc, edges, shape, text)?;
     for edge in 0..edges {
-        let out = output(alloc, edge)?;
-        write!(text, "build {out}: cat")?;
-        push_inputs(alloc, edge, shape, &mut text)?;
+        push_output(alloc, edge, text)?;
+        push_inputs(alloc, edge, shape, text)?;
         if edge.saturating_add(1) == edges {
-            push_late(shape, &mut text)?;
+            push_late(shape, text)?;
         }
         text.push('\n')?;
     }
-    Ok(text)
+    Ok(())
+}
+
+fn push_output(alloc: Global, edge: usize, text: &mut String) -> Result<(), AllocError> {
+    let out = output(alloc, edge)?;
+    write!(text, "build {out}: cat")
 }
 
 /// The source that the last edge alone reads, which has a bar before it where no implicit input stands before.

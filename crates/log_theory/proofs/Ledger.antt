@@ -466,7 +466,7 @@ module _ (tells : Bool) (B : Behaviour) (format : LogFormat) (own : OwnFiles) (a
       beside = record {
         idle = idle;
         ready = λ tell. start_ready own asked.graph.edges tells tell old.history (rest.history tell).more now new (rest.history tell).grows i act (stale_command steps now idle rest i next.1.stale)
-            (others_run steps now idle rest i next.1.once) is starts (λ named. ready.depfile named tell) (λ named. ready.response named tell) (carried.beside.ready tell);
+            (others_run steps now idle rest i next.1.once) is starts (λ named other. ready.depfile named other tell) (λ named. ready.response named tell) (carried.beside.ready tell);
         ticked = λ tell.
             let tick = ready.ticked tell in
             ticked_starts old.history own asked.graph.edges tells tell now new tick.so_far tick.was i act starts tick.tick (carried.beside.ticked tell);

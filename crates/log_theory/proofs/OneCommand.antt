@@ -28,8 +28,8 @@ one : (tells : Bool) (B : Behaviour) (format : LogFormat) (own : OwnFiles) (aske
     → own.files tick ≡ true → tick ≢ own.build_log → tick ≢ own.deps_log → own.files own.build_log ≡ true
     → (edge_at asked.graph.edges i).act.depfile ≢ [] → (edge_at asked.graph.edges i).act.response_path ≢ []
     → Ticks tells tick stamp a b
-    → Writes tells (edge_at asked.graph.edges i).act.response_path (Some (edge_at asked.graph.edges i).act.response_content) b c
-    → Writes tells (edge_at asked.graph.edges i).act.depfile None c d
+    → Writes tells (edge_at asked.graph.edges i).act.depfile None b c
+    → Writes tells (edge_at asked.graph.edges i).act.response_path (Some (edge_at asked.graph.edges i).act.response_content) c d
     → WritesAt tells own.build_log d e
     → (IsTrue tells → FilesAreKept own asked.graph.edges old.history e.history → IsLoggedAt B format own asked.graph.edges (Judged i true ∷ []) (Some i) store old d → IsLoggedAt B format own asked.graph.edges (Judged i true ∷ []) (Some i) store old e)
     → HasNoRecord tells format own asked.graph.edges i old e
@@ -44,7 +44,7 @@ one : (tells : Bool) (B : Behaviour) (format : LogFormat) (own : OwnFiles) (aske
     → (IsTrue tells → FilesAreKept own asked.graph.edges old.history l.history → IsLoggedAt B format own asked.graph.edges (Judged i true ∷ Started i ∷ Ended i true ∷ []) (Some i) store old k
     → IsLoggedAt B format own asked.graph.edges (Judged i true ∷ Started i ∷ Ended i true ∷ []) None store old l)
     → IsRunOf tells B format own asked store (Judged i true ∷ Started i ∷ Ended i true ∷ []) None old l
-one tells B format own asked store old a b c d e f g h j k l m i stamp tick seen idle once unloaded others no_load looks found judge verdict mine t1 t2 log_mine dep resp ticks writes removes begin begin_log none looks_f start starts no_judge no_start finish looks_j looks_k sees says done done_log =
+one tells B format own asked store old a b c d e f g h j k l m i stamp tick seen idle once unloaded others no_load looks found judge verdict mine t1 t2 log_mine dep resp ticks removes writes begin begin_log none looks_f start starts no_judge no_start finish looks_j looks_k sees says done done_log =
     ledger.run_of tells B format own asked store old [] (Judged i true ∷ Started i ∷ Ended i true ∷ []) None l
     (ledger.cut_off tells B format own asked store old [] true (Judged i true ∷ Started i ∷ Ended i true ∷ []) None l at_l) (inl once)
   where
@@ -69,17 +69,17 @@ one tells B format own asked store old a b c d e f g h j k l m i stamp tick seen
     at_b : IsCarried tells B format own asked store [] true (Judged i true ∷ []) (Some i) old b
     at_b = ledger.carried_ticks tells B format own asked store old [] true (Judged i true ∷ []) (Some i) a b tick mine t1 t2 stamp ticks judged
 
-    resp_c : WritesAt tells (edge_at asked.graph.edges i).act.response_path b c
-    resp_c = writing.writes_at tells (edge_at asked.graph.edges i).act.response_path (Some (edge_at asked.graph.edges i).act.response_content) b c writes
+    dep_c : WritesAt tells (edge_at asked.graph.edges i).act.depfile b c
+    dep_c = writing.writes_at tells (edge_at asked.graph.edges i).act.depfile None b c removes
 
     at_c : IsCarried tells B format own asked store [] true (Judged i true ∷ []) (Some i) old c
-    at_c = ledger.carried_response tells B format own asked store old [] true (Judged i true ∷ []) (Some i) b c i stale refl resp_c at_b
+    at_c = ledger.carried_depfile tells B format own asked store old [] true (Judged i true ∷ []) (Some i) b c i stale refl (inr removes) at_b
 
-    dep_d : WritesAt tells (edge_at asked.graph.edges i).act.depfile c d
-    dep_d = writing.writes_at tells (edge_at asked.graph.edges i).act.depfile None c d removes
+    resp_d : WritesAt tells (edge_at asked.graph.edges i).act.response_path c d
+    resp_d = writing.writes_at tells (edge_at asked.graph.edges i).act.response_path (Some (edge_at asked.graph.edges i).act.response_content) c d writes
 
     at_d : IsCarried tells B format own asked store [] true (Judged i true ∷ []) (Some i) old d
-    at_d = ledger.carried_depfile tells B format own asked store old [] true (Judged i true ∷ []) (Some i) c d i stale refl (inr removes) at_c
+    at_d = ledger.carried_response tells B format own asked store old [] true (Judged i true ∷ []) (Some i) c d i stale refl resp_d at_c
 
     at_e : IsCarried tells B format own asked store [] true (Judged i true ∷ []) (Some i) old e
     at_e = ledger.carried_log tells B format own asked store old [] true (Judged i true ∷ []) (Some i) (Some i) d e own.build_log log_mine begin begin_log at_d
@@ -87,14 +87,14 @@ one tells B format own asked store old a b c d e f g h j k l m i stamp tick seen
     ready_e : IsReadyToStart tells format own asked.graph.edges i old e
     ready_e = record {
       ticked = readying.tick_kept tells B format own asked store old [] true (Judged i true ∷ []) (Some i) d e at_d own.build_log begin
-          (readying.tick_kept tells B format own asked store old [] true (Judged i true ∷ []) (Some i) c d at_c (edge_at asked.graph.edges i).act.depfile dep_d
-          (readying.tick_kept tells B format own asked store old [] true (Judged i true ∷ []) (Some i) b c at_b (edge_at asked.graph.edges i).act.response_path resp_c
+          (readying.tick_kept tells B format own asked store old [] true (Judged i true ∷ []) (Some i) c d at_c (edge_at asked.graph.edges i).act.response_path resp_d
+          (readying.tick_kept tells B format own asked store old [] true (Judged i true ∷ []) (Some i) b c at_b (edge_at asked.graph.edges i).act.depfile dep_c
           (readying.tick_given tells B format own asked store old [] true (Judged i true ∷ []) (Some i) a b judged tick stamp ticks)));
-      depfile = λ named. readying.holds_over_own tells B format own asked store old [] true (Judged i true ∷ []) (Some i) d e at_d i stale start.1.once (edge_at asked.graph.edges i).act.depfile (record { named = named; is = inl refl }) None own.build_log log_mine begin.history
-          (readying.holds_written tells B format own asked store old [] true (Judged i true ∷ []) (Some i) c d at_c i stale start.1.once (edge_at asked.graph.edges i).act.depfile (record { named = named; is = inl refl }) None removes);
+      depfile = λ named other. readying.holds_over_own tells B format own asked store old [] true (Judged i true ∷ []) (Some i) d e at_d i stale start.1.once (edge_at asked.graph.edges i).act.depfile (record { named = named; is = inl refl }) None own.build_log log_mine begin.history
+          (readying.depfile_over_response tells B format own asked store old [] true (Judged i true ∷ []) (Some i) c d at_c i stale start.1.once named other None resp_d
+          (readying.holds_written tells B format own asked store old [] true (Judged i true ∷ []) (Some i) b c at_b i stale start.1.once (edge_at asked.graph.edges i).act.depfile (record { named = named; is = inl refl }) None removes));
       response = λ named. readying.holds_over_own tells B format own asked store old [] true (Judged i true ∷ []) (Some i) d e at_d i stale start.1.once (edge_at asked.graph.edges i).act.response_path (record { named = named; is = inr refl }) (Some (edge_at asked.graph.edges i).act.response_content) own.build_log log_mine begin.history
-          (readying.response_over_depfile tells B format own asked store old [] true (Judged i true ∷ []) (Some i) c d at_c i stale start.1.once named (Some (edge_at asked.graph.edges i).act.response_content) dep_d
-          (readying.holds_written tells B format own asked store old [] true (Judged i true ∷ []) (Some i) b c at_b i stale start.1.once (edge_at asked.graph.edges i).act.response_path (record { named = named; is = inr refl }) (Some (edge_at asked.graph.edges i).act.response_content) writes));
+          (readying.holds_written tells B format own asked store old [] true (Judged i true ∷ []) (Some i) c d at_c i stale start.1.once (edge_at asked.graph.edges i).act.response_path (record { named = named; is = inr refl }) (Some (edge_at asked.graph.edges i).act.response_content) writes);
       begun = none;
     }
 

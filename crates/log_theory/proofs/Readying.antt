@@ -110,18 +110,12 @@ module _ (tells : Bool) (B : Behaviour) (format : LogFormat) (own : OwnFiles) (a
       pub holds_over_own : (path : List ℕ) → own.files path ≡ true → GrewWriting path → HoldsStill tells own asked.graph.edges q held old now → HoldsStill tells own asked.graph.edges q held old new
       holds_over_own path mine grew holds = holds_apart path (λ files same. not_own q private files path mine (sym same)) grew holds
 
-    -- one of the two is written while the other holds
-    pub depfile_over_response : (edge_at asked.graph.edges i).act.depfile ≢ [] → (held : Option (List ℕ)) → WritesAt tells (edge_at asked.graph.edges i).act.response_path now new
+    -- the response file is written while the depfile holds, where they are two paths
+    pub depfile_over_response : (edge_at asked.graph.edges i).act.depfile ≢ [] → (edge_at asked.graph.edges i).act.depfile ≢ (edge_at asked.graph.edges i).act.response_path → (held : Option (List ℕ)) → WritesAt tells (edge_at asked.graph.edges i).act.response_path now new
         → HoldsStill tells own asked.graph.edges (edge_at asked.graph.edges i).act.depfile held old now → HoldsStill tells own asked.graph.edges (edge_at asked.graph.edges i).act.depfile held old new
-    depfile_over_response named held writes holds =
+    depfile_over_response named other held writes holds =
         holds_apart (edge_at asked.graph.edges i).act.depfile (record { named = named; is = inl refl }) held (edge_at asked.graph.edges i).act.response_path
-        (λ files same. files.own_files.both i command named (sym same)) writes.history holds
-
-    pub response_over_depfile : (edge_at asked.graph.edges i).act.response_path ≢ [] → (held : Option (List ℕ)) → WritesAt tells (edge_at asked.graph.edges i).act.depfile now new
-        → HoldsStill tells own asked.graph.edges (edge_at asked.graph.edges i).act.response_path held old now → HoldsStill tells own asked.graph.edges (edge_at asked.graph.edges i).act.response_path held old new
-    response_over_depfile named held writes holds =
-        holds_apart (edge_at asked.graph.edges i).act.response_path (record { named = named; is = inr refl }) held (edge_at asked.graph.edges i).act.depfile
-        (λ files same. files.own_files.both i command (λ none. named (sym same ∙ none)) same) writes.history holds
+        (λ files same. other (sym same)) writes.history holds
 
     -- ---- the record of its outputs
 
@@ -170,7 +164,7 @@ module _ (tells : Bool) (B : Behaviour) (format : LogFormat) (own : OwnFiles) (a
     pub ready_looking : OnlyLooks tells now new → IsReadyToStart tells format own asked.graph.edges i old now → IsReadyToStart tells format own asked.graph.edges i old new
     ready_looking looks ready = record {
       ticked = tick_kept [] (looks_at tells [] now new looks) ready.ticked;
-      depfile = λ named. holds_looking (edge_at asked.graph.edges i).act.depfile (record { named = named; is = inl refl }) None looks (ready.depfile named);
+      depfile = λ named other. holds_looking (edge_at asked.graph.edges i).act.depfile (record { named = named; is = inl refl }) None looks (ready.depfile named other);
       response = λ named. holds_looking (edge_at asked.graph.edges i).act.response_path (record { named = named; is = inr refl }) (Some (edge_at asked.graph.edges i).act.response_content) looks (ready.response named);
       begun = no_record_looking looks ready.begun;
     }

@@ -58,7 +58,6 @@ module _ (own : OwnFiles) (few many : List Edge) (grown : HasGrown few many) whe
     outputs = λ i p h. apart.outputs i p (grown.outputs i p h);
     depfiles = λ i command. subst (λ (a : Act). (own.set a.depfile ≡ true) × (own.files a.depfile ≡ false)) (grown.act i) (apart.depfiles i (command_later i command));
     responses = λ i command. subst (λ (a : Act). (own.set a.response_path ≡ true) × (own.files a.response_path ≡ false)) (grown.act i) (apart.responses i (command_later i command));
-    both = λ i command. subst (λ (a : Act). SharesNone a.depfile a.response_path) (grown.act i) (apart.both i (command_later i command));
     apart = λ i j command_i command_j other.
         subst (λ (a : Act). SharesNone a.depfile (edge_at few j).act.depfile × SharesNone a.response_path (edge_at few j).act.response_path × SharesNone a.depfile (edge_at few j).act.response_path) (grown.act i)
         (subst (λ (b : Act). SharesNone (edge_at many i).act.depfile b.depfile × SharesNone (edge_at many i).act.response_path b.response_path × SharesNone (edge_at many i).act.depfile b.response_path) (grown.act j)

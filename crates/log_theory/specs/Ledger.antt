@@ -95,10 +95,10 @@ HasNoRecord tells format own edges i old now =
     IsTrue tells → FilesAreKept own edges old.history now.history
     → (o : List ℕ) → has (outputs (edge_at edges i)) o ≡ true → in_force (store_in format own (view_of now.history)).records o ≡ None
 
--- All is ready for the command of edge i to be started: the stamp of its start is given, its old depfile is gone, its response
--- file is written, and its outputs have no record in force.
+-- All is ready for the command of edge i to be started: the stamp of its start is given, its old depfile is gone, unless that is its
+-- response file, its response file is written, and its outputs have no record in force.
 pub record IsReadyToStart (tells : Bool) (format : LogFormat) (own : OwnFiles) (edges : List Edge) (i : ℕ) (old now : World) : Type 0 where
   pub ticked : IsTrue tells → IsTickedNow old now
-  pub depfile : (edge_at edges i).act.depfile ≢ [] → HoldsStill tells own edges (edge_at edges i).act.depfile None old now
+  pub depfile : (edge_at edges i).act.depfile ≢ [] → (edge_at edges i).act.depfile ≢ (edge_at edges i).act.response_path → HoldsStill tells own edges (edge_at edges i).act.depfile None old now
   pub response : (edge_at edges i).act.response_path ≢ [] → HoldsStill tells own edges (edge_at edges i).act.response_path (Some (edge_at edges i).act.response_content) old now
   pub begun : HasNoRecord tells format own edges i old now

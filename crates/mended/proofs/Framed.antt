@@ -133,7 +133,7 @@ module _ (es : List Edge) (steps : List Step) where
           let b = and_parts (is_empty_text act.depfile) (is_empty_text act.response_path || same_content (view_of (old ++ before) act.response_path) (Some act.response_content)) a.1 in (
             a.0,
             record {
-              depfile = λ some. absurd (some (empty_text act.depfile b.0));
+              depfile = λ some two. absurd (some (empty_text act.depfile b.0));
               response = λ some. elim (or_cases (is_empty_text act.response_path) (same_content (view_of (old ++ before) act.response_path) (Some act.response_content)) b.1) [
                 | inl nothing ↦ absurd (some (empty_text act.response_path nothing))
                 | inr same ↦ contents_same (view_of (old ++ before) act.response_path) (Some act.response_content) same

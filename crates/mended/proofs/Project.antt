@@ -234,7 +234,6 @@ own_files = record {
   outputs = outputs_apart;
   depfiles = λ i command. subst (λ (p : List ℕ). LiesIn own p) (sym (no_depfile i)) (refl, refl);
   responses = λ i command. responses_lie i;
-  both = λ i command some. absurd (some (no_depfile i));
   apart = λ i j command1 command2 other. ((λ some. absurd (some (no_depfile i))), shares_none i j other, (λ some. absurd (some (no_depfile i))));
 }
 

@@ -82,10 +82,10 @@ JudgedUntouched old new before (Started i) = Unit {0}
 JudgedUntouched old new before (Ended i well) = Unit {0}
 
 pub ready_scan : (files : View) → files (codes "b.d") ≡ None → IsReadyFor scan files
-ready_scan files none = record { depfile = λ some. none; response = λ some. absurd (some refl) }
+ready_scan files none = record { depfile = λ some two. none; response = λ some. absurd (some refl) }
 
 pub ready_cat : (files : View) → IsReadyFor cat files
-ready_cat files = record { depfile = λ some. absurd (some refl); response = λ some. absurd (some refl) }
+ready_cat files = record { depfile = λ some two. absurd (some refl); response = λ some. absurd (some refl) }
 
 -- an output is as it was
 pub h_is : (old now : List Moment) → file_at now (codes "h") ≡ file_at old (codes "h") → (o : List ℕ) → has (outputs (edge_at edges 1)) o ≡ true → file_at now o ≡ file_at old o
@@ -251,7 +251,6 @@ own_files = record {
   outputs = of_outputs;
   depfiles = λ i command. of_depfiles i;
   responses = λ i command. of_responses i;
-  both = λ i command some same. some (same ∙ no_response i);
   apart = λ i j command1 command2 other.
       (shares_depfile i j other, (λ some. absurd (some (no_response i))), λ some same. some (same ∙ no_response j));
 }

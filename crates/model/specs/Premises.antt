@@ -121,8 +121,8 @@ LiesIn own p = (own.set p ≡ true) × (own.files p ≡ false)
 abbrev pub SharesNone : List ℕ → List ℕ → Type 0
 SharesNone p q = p ≢ [] → p ≢ q
 
--- The program's own files, depfiles and response files lie in one set of paths that holds no input and no output; no two
--- edges share one, and no edge has one path for both.
+-- The program's own files, depfiles and response files lie in one set of paths that holds no input and no output; and no two
+-- edges share one. (An edge may have one path for both: then its response file stands there at its start, `IsReadyFor`.)
 pub record OwnFilesApart (own : OwnFiles) (edges : List Edge) : Type 0 where
   pub within : (p : List ℕ) → own.files p ≡ true → own.set p ≡ true
   pub build_log : own.files own.build_log ≡ true
@@ -131,7 +131,6 @@ pub record OwnFilesApart (own : OwnFiles) (edges : List Edge) : Type 0 where
   pub outputs : (i : ℕ) (p : List ℕ) → has (outputs (edge_at edges i)) p ≡ true → own.set p ≡ false
   pub depfiles : (i : ℕ) → IsCommand edges i → LiesIn own (edge_at edges i).act.depfile
   pub responses : (i : ℕ) → IsCommand edges i → LiesIn own (edge_at edges i).act.response_path
-  pub both : (i : ℕ) → IsCommand edges i → SharesNone (edge_at edges i).act.depfile (edge_at edges i).act.response_path
   pub apart : (i j : ℕ) → IsCommand edges i → IsCommand edges j → i ≢ j →
       SharesNone (edge_at edges i).act.depfile (edge_at edges j).act.depfile
       × SharesNone (edge_at edges i).act.response_path (edge_at edges j).act.response_path

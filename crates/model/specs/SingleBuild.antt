@@ -366,9 +366,10 @@ MayChange own edges steps p =
     ⊎ ((i : ℕ) × (has_number (out_of_date_in steps) i ≡ true) × (p ≡ (edge_at edges i).act.depfile))
     ⊎ ((i : ℕ) × (has_number (out_of_date_in steps) i ≡ true) × (p ≡ (edge_at edges i).act.response_path))
 
--- where the act names a depfile it is absent, and where it names a response file that holds the act's content
+-- where the act names a response file that holds the act's content, and where it names a depfile that is absent, unless that is its
+-- response file, too
 pub record IsReadyFor (act : Act) (files : View) : Type 0 where
-  pub depfile : act.depfile ≢ [] → files act.depfile ≡ None
+  pub depfile : act.depfile ≢ [] → act.depfile ≢ act.response_path → files act.depfile ≡ None
   pub response : act.response_path ≢ [] → files act.response_path ≡ Some act.response_content
 
 -- the path is an output of the edge, or the depfile that it names
@@ -377,7 +378,7 @@ IsMadeBy e p = (has (outputs e) p ≡ true) ⊎ ((p ≢ []) × (p ≡ e.act.depf
 
 -- No file changes but outputs of started commands, depfiles and response files of edges judged out of date, the
 -- program's own files, and free paths; up to its judgement an edge's outputs and its depfile are as at the entry, up to its start its outputs;
--- and at its start there is no old depfile, and the response file is written.
+-- and at its start the response file is written, and no old depfile is there.
 pub record IsFrame (own : OwnFiles) (edges : List Edge) (steps : List Step) (old new : List Moment) : Type 0 where
   pub more : List Moment
   pub grows : new ≡ old ++ more

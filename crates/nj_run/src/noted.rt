@@ -13,8 +13,8 @@ use std::io::Write;
 use terminal::Look;
 use text::Path;
 
-/// How a run looks to somebody who watches it, and the notes of it. Where nobody reads notes, nothing is looked for. They are found as well as it goes: one for which
-/// there is no memory, or that would need a file which cannot be read, is left out.
+/// How a run looks to somebody who watches it, and the notes of it. Where nobody reads notes, nothing is looked for. They are found as well
+/// as it goes: one for which there is no memory, or that would need a file which cannot be read, is left out.
 #[derive(Drop)]
 pub struct Noted<'a> {
     rt: &'a HostRuntime,
@@ -31,7 +31,7 @@ pub struct Noted<'a> {
 }
 
 impl<'a> Noted<'a> {
-    /// No notes yet, and whether somebody watches. This takes no memory.
+    /// No notes yet, and whether somebody reads them. This takes no memory.
     fn new(rt: &'a HostRuntime, is_wanted: bool) -> Noted<'a> {
         Noted {
             rt,
@@ -44,12 +44,12 @@ impl<'a> Noted<'a> {
         }
     }
 
-    /// Nobody watches. This takes no memory.
+    /// Nobody reads notes. This takes no memory.
     pub fn unwanted(rt: &'a HostRuntime) -> Noted<'a> {
         Noted::new(rt, false)
     }
 
-    /// Somebody watches. This takes no memory.
+    /// Somebody reads notes. This takes no memory.
     pub fn wanted(rt: &'a HostRuntime) -> Noted<'a> {
         Noted::new(rt, true)
     }

@@ -10,7 +10,12 @@ use tables::{Table, word};
 pub struct Rows;
 
 impl Table for Rows {
-    fn answer(&mut self, alloc: Global, row: &str, answer: &mut String) -> Result<bool, AllocError> {
+    fn answer(
+        &mut self,
+        alloc: Global,
+        row: &str,
+        answer: &mut String,
+    ) -> Result<bool, AllocError> {
         let (kind, rest) = word(row);
         match kind {
             "live" => push_live(alloc, rest, answer)?,

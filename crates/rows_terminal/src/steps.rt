@@ -76,7 +76,12 @@ pub fn written(alloc: Global, steps: &mut Steps, step: &str) -> Result<Vec<u8>, 
 }
 
 /// What a step writes that writes.
-fn written_by(steps: &mut Steps, word: &str, job: usize, text: Vec<u8>) -> Result<Vec<u8>, AllocError> {
+fn written_by(
+    steps: &mut Steps,
+    word: &str,
+    job: usize,
+    text: Vec<u8>,
+) -> Result<Vec<u8>, AllocError> {
     let now = steps.now;
     match word {
         "hold" => steps.live.hold(job, now),

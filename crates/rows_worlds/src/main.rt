@@ -1,4 +1,4 @@
-//! Tells what graphs, sites, runs of the program, scripts and histories of builds come to.
+//! Tells what graphs, sites in memory, scripts and histories of builds come to.
 //!
 //! A row `part NAME` begins a part, whose rows are said where `worlds` names what answers them. In all of them a text is as `tables`
 //! says: `\n` ends a line of it, and a blank within a path or a word is `\x20`.
@@ -7,21 +7,15 @@
 mod answers;
 mod asked_graph;
 mod clean_site;
-mod documented;
 mod driven;
 mod each_call;
 mod ends;
-mod folder;
 mod graph_texts;
 mod graphs;
 mod harm;
 mod histories;
-mod host_calls;
-mod host_commands;
 mod lines;
 mod moves;
-mod nj_rows;
-mod nj_runs;
 mod one_file;
 mod places;
 mod script_asked;
@@ -37,13 +31,7 @@ use std::io;
 use worlds::Worlds;
 
 fn main(rt: HostRuntime) -> io::Result<()> {
-    let mut worlds = Worlds::new(&rt)?;
-    let told = tables::run(
-        rt.alloc(),
-        &mut worlds,
-        &mut rt.reader(),
-        &mut io::writer(&rt),
-    );
-    worlds.leave();
-    told
+    let alloc = rt.alloc();
+    let mut worlds = Worlds::new(alloc);
+    tables::run(alloc, &mut worlds, &mut rt.reader(), &mut io::writer(&rt))
 }

@@ -307,14 +307,14 @@ module _ (tells : Bool) (course : Course) (tick : List ℕ) (graph : Graph) (sui
             not_before came = false≢true (sym (running_parts on.steps (suc e) edge.running).1 ∙ well_before tells course graph on.steps None now on.carried (suc e) came)
 
         end_stay : DepfilesStay tells course.own (edges_of course) more course.entry new
-        end_stay i is unset named = elim (cases_Bool (suc e == i)) [
+        end_stay i is unset named two = elim (cases_Bool (suc e == i)) [
           | inl here ↦
               let one : suc e ≡ i = eqb-true (suc e) i here in
               subst (λ (n : ℕ). StaysSinceEnd tells course.own (edges_of course) course.entry n new) one
               (own_stay (subst (λ (n : ℕ). has_number (well_in more) n ≡ true) (sym one) is) (subst (λ (n : ℕ). (edge_at (edges_of course) n).act.depfile ≢ []) (sym one) named))
           | inr apart ↦ stay_adds tells course.own (edges_of course) on.steps course.entry now new (grown tells course graph on.steps None now on.carried) (well_rest tells course graph on.steps None now on.carried)
               None on.removed more (in_hand_after (suc e) well) rest_new (Finish (suc e) ok) ends.history i
-              (sym (well_others on.steps (suc e) i well (other i apart)) ∙ is) is (λ same. other i apart (same_job i same)) unset named
+              (sym (well_others on.steps (suc e) i well (other i apart)) ∙ is) is (λ same. other i apart (same_job i same)) unset named two
         ]
           where
             other : (i : ℕ) → (suc e == i) ≡ false → suc e ≡ i → ⊥

@@ -154,8 +154,8 @@ module _ (tells : Bool) (course : Course) (graph : Graph) where
     pub start_removed : AreRemoved tells course.own (edges_of course) more None course.entry new
     start_removed = removed_adds tells course.own (edges_of course) on.steps course.entry now new (grown tells course graph on.steps (Some (suc e)) now on.carried) (well_rest tells course graph on.steps (Some (suc e)) now on.carried)
         (Some (suc e)) on.removed more None (well_rest tells course graph more None new start_carried) (Start (suc e) act now.ticked) starts.history before
-        (λ i well unset named. stay_adds tells course.own (edges_of course) on.steps course.entry now new (grown tells course graph on.steps (Some (suc e)) now on.carried) (well_rest tells course graph on.steps (Some (suc e)) now on.carried)
-        (Some (suc e)) on.removed more None (well_rest tells course graph more None new start_carried) (Start (suc e) act now.ticked) starts.history i (was i well) well (no_finish i) unset named)
+        (λ i well unset named two. stay_adds tells course.own (edges_of course) on.steps course.entry now new (grown tells course graph on.steps (Some (suc e)) now on.carried) (well_rest tells course graph on.steps (Some (suc e)) now on.carried)
+        (Some (suc e)) on.removed more None (well_rest tells course graph more None new start_carried) (Start (suc e) act now.ticked) starts.history i (was i well) well (no_finish i) unset named two)
       where
         was : (i : ℕ) → has_number (well_in more) i ≡ true → has_number (well_in on.steps) i ≡ true
         was i well = ap (λ (l : List ℕ). has_number l i) (sym (well_started on.steps (suc e))) ∙ well
@@ -243,16 +243,16 @@ module _ (tells : Bool) (course : Course) (graph : Graph) where
     holds_ticked q private held =
         holds_over_own tells course.behaviour course.format course.own course.asked course.store course.entry course.phases (goes_on course) on.steps (Some i) mid new carried_mid i next.1.stale next.1.once q private held tick suits.owned tick_grew
 
-    depfile_holds : depfile ≢ [] → HoldsStill tells course.own (edges_of course) depfile None course.entry mid
-    depfile_holds named =
-        depfile_over_response tells course.behaviour course.format course.own course.asked course.store course.entry course.phases (goes_on course) on.steps (Some i) gone mid on_gone.carried i next.1.stale next.1.once named None response_at
+    depfile_holds : depfile ≢ [] → depfile ≢ response → HoldsStill tells course.own (edges_of course) depfile None course.entry mid
+    depfile_holds named other =
+        depfile_over_response tells course.behaviour course.format course.own course.asked course.store course.entry course.phases (goes_on course) on.steps (Some i) gone mid on_gone.carried i next.1.stale next.1.once named other None response_at
         (holds_written tells course.behaviour course.format course.own course.asked course.store course.entry course.phases (goes_on course) on.steps (Some i) now gone on.carried i next.1.stale next.1.once depfile
         (record { named = named; is = inl refl }) None (depfile_gone named))
 
     pub ready_to_start : IsReadyToStart tells course.format course.own (edges_of course) i course.entry new
     ready_to_start = record {
       ticked = tick_given tells course.behaviour course.format course.own course.asked course.store course.entry course.phases (goes_on course) on.steps (Some i) mid new carried_mid tick stamp ticks;
-      depfile = λ named. holds_ticked depfile (record { named = named; is = inl refl }) None (depfile_holds named);
+      depfile = λ named other. holds_ticked depfile (record { named = named; is = inl refl }) None (depfile_holds named other);
       response = λ named. holds_ticked response (record { named = named; is = inr refl }) (Some (edge_at (edges_of course) i).act.response_content)
           (holds_written tells course.behaviour course.format course.own course.asked course.store course.entry course.phases (goes_on course) on.steps (Some i) gone mid on_gone.carried i next.1.stale next.1.once response
           (record { named = named; is = inr refl }) (Some (edge_at (edges_of course) i).act.response_content) (response_written named));

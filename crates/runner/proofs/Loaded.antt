@@ -310,9 +310,10 @@ module _ (tells : Bool) (course : Course) (tick : List ℕ) (graph grown : Graph
     depfiles = λ i well free gcc named tell files.
         ap (λ (edge : Edge). view_of now.history edge.act.depfile) (well_same i well)
         ∙ on.removed.depfiles i well free (ap (λ (edge : Edge). edge.deps) (sym (well_same i well)) ∙ gcc) (subst (λ (edge : Edge). edge.act.depfile ≢ []) (well_same i well) named) tell (before tell files);
-    stay = λ i well unset named at ended tell files.
+    stay = λ i well unset named other at ended tell files.
         ap (λ (edge : Edge). view_of now.history edge.act.depfile) (well_same i well)
-        ∙ (on.removed.stay i well (ap (λ (edge : Edge). edge.deps) (sym (well_same i well)) ∙ unset) (subst (λ (edge : Edge). edge.act.depfile ≢ []) (well_same i well) named) at ended tell (before tell files)
+        ∙ (on.removed.stay i well (ap (λ (edge : Edge). edge.deps) (sym (well_same i well)) ∙ unset) (subst (λ (edge : Edge). edge.act.depfile ≢ []) (well_same i well) named)
+        (subst (λ (edge : Edge). edge.act.depfile ≢ edge.act.response_path) (well_same i well) other) at ended tell (before tell files)
         ∙ ap (λ (edge : Edge). view_of at edge.act.depfile) (sym (well_same i well)));
   }
 

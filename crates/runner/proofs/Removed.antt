@@ -1,5 +1,5 @@
 -- What becomes of the files of commands that ended well goes on over the calls of a site.
-use Rattle.std.proofs.Common.{◌≡◌, ◌≢◌, inl, inr, ℕ, ◌==◌, Bool, true, false, IsTrue, List, [], ◌∷◌, ◌++◌, Option, Some, None, refl, sym, ◌∙◌, ap, subst}
+use Rattle.std.proofs.Common.{◌≡◌, ◌≢◌, inl, inr, ℕ, ◌==◌, Bool, true, false, IsTrue, List, [], ◌∷◌, ◌++◌, Option, Some, None, bytes_eq, refl, sym, ◌∙◌, ap, subst}
 use Rattle.std.specs.List.{AllByRecursion}
 use Rattle.std.proofs.lemmas.Bool.{false≢true, cases_Bool, eqb-true, eq-eqb}
 use Rattle.model.specs.declared.event.Event.{Event}
@@ -14,7 +14,7 @@ use Rattle.model.specs.Graph.{has_number, edge_at, IsCommand}
 use Rattle.model.specs.Records.{OwnFiles}
 use Rattle.model.specs.Schedule.{Step as Done, well_in}
 use Rattle.model.specs.Premises.{FilesAreKept, OwnFilesApart, IsWithinEdge, IsNoEdit, EndedAt}
-use Rattle.build_theory.proofs.Lists.{all_parts, all_append}
+use Rattle.build_theory.proofs.Lists.{all_parts, all_append, same_bytes, bytes_same}
 use Rattle.build_theory.proofs.Files.{IsElsewhere, file_stays}
 use Rattle.build_theory.proofs.Looks.{kept_before}
 use Rattle.build_theory.proofs.Moments.{events_in-append}
@@ -101,14 +101,9 @@ none_ends i (x ∷ xs) ys is = cc
 abbrev pub WellRest : List Edge → List Done → World → Type 0
 WellRest edges steps now = (i : ℕ) → has_number (well_in steps) i ≡ true → IsCommand edges i × OthersRun edges i (IsRunning now.events)
 
--- no response file is a depfile
-no_depfile : (own : OwnFiles) (edges : List Edge) → OwnFilesApart own edges → (j : ℕ) → IsCommand edges j → (i : ℕ) → IsCommand edges i → (edge_at edges i).act.depfile ≢ [] → (edge_at edges j).act.response_path ≢ (edge_at edges i).act.depfile
-no_depfile own edges files j command i theirs named same = elim (cases_Bool (i == j)) [
-  | inl here ↦
-      let one : i ≡ j = eqb-true i j here in
-      files.both i theirs named (sym same ∙ ap (λ (n : ℕ). (edge_at edges n).act.response_path) (sym one))
-  | inr apart ↦ (files.apart i j theirs command (λ one. false≢true (sym apart ∙ eq-eqb i j one))).2 named (sym same)
-]
+-- no response file is the depfile of another edge
+no_depfile : (own : OwnFiles) (edges : List Edge) → OwnFilesApart own edges → (j : ℕ) → IsCommand edges j → (i : ℕ) → IsCommand edges i → i ≢ j → (edge_at edges i).act.depfile ≢ [] → (edge_at edges j).act.response_path ≢ (edge_at edges i).act.depfile
+no_depfile own edges files j command i theirs other named same = (files.apart i j theirs command other).2 named (sym same)
 
 module _ (tells : Bool) (own : OwnFiles) (edges : List Edge) (steps : List Done) (first now new : World) (grown : IsTrue tells → (so_far : List Moment) × (now.history ≡ first.history ++ so_far)) (rest : WellRest edges steps now) where
   abbrev response : ℕ → List ℕ
@@ -154,10 +149,10 @@ module _ (tells : Bool) (own : OwnFiles) (edges : List Edge) (steps : List Done)
 
     -- the program writes at a path that is none of those
     removed_at : (path : List ℕ) → Grew path → ((i : ℕ) → Well i → response i ≢ [] → Kept → path ≢ response i) → ((i : ℕ) → Well i → depfile i ≢ [] → Kept → path ≢ depfile i) → Removed hand new
-    removed_at path grew no_response no_depfile = record {
+    removed_at path grew no_response none_told = record {
       responses = λ i well free named. responses_at path grew i well free named (no_response i well named);
-      depfiles = λ i well free gcc named. depfiles_at path grew i well free gcc named (no_depfile i well named);
-      stay = λ i well unset named. stay_at path grew i well named (no_depfile i well named) (removed.stay i well unset named);
+      depfiles = λ i well free gcc named. depfiles_at path grew i well free gcc named (none_told i well named);
+      stay = λ i well unset named two. stay_at path grew i well named (none_told i well named) (removed.stay i well unset named two);
     }
 
     -- calls that only look
@@ -178,21 +173,32 @@ module _ (tells : Bool) (own : OwnFiles) (edges : List Edge) (steps : List Done)
       other_responses : (i : ℕ) → Well i → Free i → response i ≢ [] → Kept → response j ≢ response i
       other_responses i well free named files same = (files.own_files.apart j i command (rest i well).0 (other_than i free)).1 (λ none. named (sym same ∙ none)) same
 
+      -- which is no depfile of another edge
+      told_elsewhere : (i : ℕ) → Well i → Free i → depfile i ≢ [] → Kept → response j ≢ depfile i
+      told_elsewhere i well free named files = no_depfile own edges files.own_files j command i (rest i well).0 (λ one. other_than i free (sym one)) named
+
+      -- and not its own, where they are two paths
+      told_apart : (i : ℕ) → Well i → depfile i ≢ [] → depfile i ≢ response i → Kept → response j ≢ depfile i
+      told_apart i well named two files same = elim (cases_Bool (j == i)) [
+        | inl here ↦ two (sym same ∙ ap response (eqb-true j i here))
+        | inr apart ↦ no_depfile own edges files.own_files j command i (rest i well).0 (λ one. false≢true (sym apart ∙ eq-eqb j i (sym one))) named same
+      ]
+
       pub removed_response : Grew (response j) → Removed hand new
       removed_response grew = record {
         responses = λ i well free named. responses_at (response j) grew i well free named (other_responses i well free named);
-        depfiles = λ i well free gcc named. depfiles_at (response j) grew i well free gcc named (λ files. no_depfile own edges files.own_files j command i (rest i well).0 named);
-        stay = λ i well unset named. stay_at (response j) grew i well named (λ files. no_depfile own edges files.own_files j command i (rest i well).0 named) (removed.stay i well unset named);
+        depfiles = λ i well free gcc named. depfiles_at (response j) grew i well free gcc named (told_elsewhere i well free named);
+        stay = λ i well unset named two. stay_at (response j) grew i well named (told_apart i well named two) (removed.stay i well unset named two);
       }
 
       -- it removes the depfile of the edge in hand, or not, but leaves one alone that is to stay behind a good end
       pub removed_depfile : (Well j → (edge_at edges j).deps ≡ Unset → new ≡ now) → Grew (depfile j) → Removed hand new
       removed_depfile spares grew = record {
-        responses = λ i well free named. responses_at (depfile j) grew i well free named (λ files same. no_depfile own edges files.own_files i (rest i well).0 j command (λ none. named (sym same ∙ none)) (sym same));
+        responses = λ i well free named. responses_at (depfile j) grew i well free named (λ files same. no_depfile own edges files.own_files i (rest i well).0 j command (other_than i free) (λ none. named (sym same ∙ none)) (sym same));
         depfiles = λ i well free gcc named. depfiles_at (depfile j) grew i well free gcc named (other_depfiles i well (other_than i free) named);
-        stay = λ i well unset named. elim (cases_Bool (j == i)) [
-          | inl here ↦ left_alone i (eqb-true j i here) well unset (removed.stay i well unset named)
-          | inr apart ↦ stay_at (depfile j) grew i well named (other_depfiles i well (λ one. false≢true (sym apart ∙ eq-eqb j i one)) named) (removed.stay i well unset named)
+        stay = λ i well unset named two. elim (cases_Bool (j == i)) [
+          | inl here ↦ left_alone i (eqb-true j i here) well unset (removed.stay i well unset named two)
+          | inr apart ↦ stay_at (depfile j) grew i well named (other_depfiles i well (λ one. false≢true (sym apart ∙ eq-eqb j i one)) named) (removed.stay i well unset named two)
         ];
       }
         where
@@ -212,7 +218,7 @@ module _ (tells : Bool) (own : OwnFiles) (edges : List Edge) (steps : List Done)
         ];
         depfiles = λ i well none gcc named. elim (cases_Bool (j == i)) [
           | inl here ↦ depfile_gone i (eqb-true j i here) well gcc named
-          | inr apart ↦ depfiles_at (response j) grew i well (free i apart) gcc named (λ files. no_depfile own edges files.own_files j command i (rest i well).0 named)
+          | inr apart ↦ depfiles_at (response j) grew i well (free i apart) gcc named (told_elsewhere i well (free i apart) named)
         ];
         stay = (removed_response grew).stay;
       }
@@ -230,17 +236,23 @@ module _ (tells : Bool) (own : OwnFiles) (edges : List Edge) (steps : List Done)
               (subst (λ (n : ℕ). response n ≢ [] → Writes tells (response n) None now new) one writes named)
 
           depfile_gone : (i : ℕ) → j ≡ i → Well i → (edge_at edges i).deps ≡ Gcc → depfile i ≢ [] → HoldsStill tells own edges (depfile i) None first new
-          depfile_gone i one well gcc named = stays_at tells own edges first now new grown i (rest i well).0 (rest i well).1 (depfile i) (depfile_of i named) None (response j)
-              (λ files. no_depfile own edges files.own_files j command i (rest i well).0 named) grew
-              (subst (λ (n : ℕ). (edge_at edges n).deps ≡ Gcc → depfile n ≢ [] → HoldsStill tells own edges (depfile n) None first now) one gone gcc named)
+          depfile_gone i one well gcc named = elim (cases_Bool (bytes_eq (response j) (depfile i))) [
+            | inl here ↦
+                let same : response j ≡ depfile i = same_bytes (response j) (depfile i) here in
+                is_removed tells own edges first now new grown i (rest i well).0 (rest i well).1 (depfile i) (depfile_of i named)
+                (subst (λ (q : List ℕ). Writes tells q None now new) same (writes (λ none. named (sym same ∙ none))))
+            | inr two ↦ stays_at tells own edges first now new grown i (rest i well).0 (rest i well).1 (depfile i) (depfile_of i named) None (response j)
+                (λ files same. false≢true (sym two ∙ subst (λ (q : List ℕ). bytes_eq (response j) q ≡ true) same (bytes_same (response j)))) grew
+                (subst (λ (n : ℕ). (edge_at edges n).deps ≡ Gcc → depfile n ≢ [] → HoldsStill tells own edges (depfile n) None first now) one gone gcc named)
+          ]
 
     -- a command is started or taken in
     module _ (many : List Done) (next : Option ℕ) (after : WellRest edges many new) (event : Event) (adds : IsTrue tells → Adds (IsRunning now.events) (IsRunning new.events) (Happened event) now.history new.history) where
       -- the depfile of one that ended well before stays
-      pub stay_adds : (i : ℕ) → Well i → has_number (well_in many) i ≡ true → (event ≡ Finish i true → ⊥) → (edge_at edges i).deps ≡ Unset → depfile i ≢ [] → StaysSinceEnd tells own edges first i new
-      stay_adds i well still other unset named =
+      pub stay_adds : (i : ℕ) → Well i → has_number (well_in many) i ≡ true → (event ≡ Finish i true → ⊥) → (edge_at edges i).deps ≡ Unset → depfile i ≢ [] → depfile i ≢ response i → StaysSinceEnd tells own edges first i new
+      stay_adds i well still other unset named two =
           stays_since tells own edges first now new grown i (event ∷ []) one_other (λ tell. grew_adding own edges (IsRunning now.events) (IsRunning new.events) event now.history new.history (adds tell))
-          (λ held. stays_adds tells own edges first now new grown i (rest i well).0 (rest i well).1 (depfile i) (depfile_of i named) held (after i still).1 event adds) (removed.stay i well unset named)
+          (λ held. stays_adds tells own edges first now new grown i (rest i well).0 (rest i well).1 (depfile i) (depfile_of i named) held (after i still).1 event adds) (removed.stay i well unset named two)
         where
           one_other : (xs ys : List Event) → event ∷ [] ≡ xs ++ Finish i true ∷ ys → ⊥
           one_other [] ys is =

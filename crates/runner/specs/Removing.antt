@@ -39,10 +39,11 @@ AreDepfilesRemoved tells own edges steps hand old now =
     (i : ℕ) → has_number (well_in steps) i ≡ true → (hand ≡ Some i → ⊥) → (edge_at edges i).deps ≡ Gcc → (edge_at edges i).act.depfile ≢ []
     → HoldsStill tells own edges (edge_at edges i).act.depfile None old now
 
--- Without `deps` the depfile of each holds what it held when the command ended.
+-- Without `deps` the depfile of each holds what it held when the command ended, where it is not its response file, too.
 abbrev pub DepfilesStay : Bool → OwnFiles → List Edge → List Done → World → World → Type 0
 DepfilesStay tells own edges steps old now =
     (i : ℕ) → has_number (well_in steps) i ≡ true → (edge_at edges i).deps ≡ Unset → (edge_at edges i).act.depfile ≢ []
+    → (edge_at edges i).act.depfile ≢ (edge_at edges i).act.response_path
     → (at : List Moment) → EndedAt i old.history now.history at → HoldsStill tells own edges (edge_at edges i).act.depfile (view_of at (edge_at edges i).act.depfile) old now
 
 -- The files of commands that ended well are removed where they are not to stay, but for those of the edge in hand, where files are

@@ -6,14 +6,31 @@ use Rattle.std.specs.List.{flat_map}
 use Rattle.terminal.specs.Screen.{Bytes, Draws, Over, Screen, Shows, drawing, piece_text, screen, up, written}
 
 pub draws : (above old_rows stays new_rows : List ℕ) → Draws (drawing old_rows stays new_rows) (screen above old_rows) (screen (above ++ stays) new_rows)
-draws above old_rows stays new_rows =
-    (record { above = above; below = old_rows; cuts = true }, refl,
-    (record { above = above; below = []; cuts = true }, (refl, refl),
-    (record { above = above; below = []; cuts = false }, refl,
-    (record { above = above ++ stays; below = []; cuts = false }, (refl, refl),
-    (record { above = above ++ stays; below = []; cuts = true }, refl,
-    (record { above = above ++ stays; below = new_rows; cuts = true }, refl,
-    (record { above = above ++ stays; below = new_rows; cuts = false }, refl, refl)))))))
+draws above old_rows stays new_rows = (
+  record { above = above; below = old_rows; cuts = true },
+  refl,
+  (
+    record { above = above; below = []; cuts = true },
+    (refl, refl),
+    (
+      record { above = above; below = []; cuts = false },
+      refl,
+      (
+        record { above = above ++ stays; below = []; cuts = false },
+        (refl, refl),
+        (
+          record { above = above ++ stays; below = []; cuts = true },
+          refl,
+          (
+            record { above = above ++ stays; below = new_rows; cuts = true },
+            refl,
+            (record { above = above ++ stays; below = new_rows; cuts = false }, refl, refl),
+          ),
+        ),
+      ),
+    ),
+  ),
+)
 
 -- a drawing shows what it is to show
 pub drawn : (old_rows bytes stays new_rows : List ℕ) → bytes ≡ written (drawing old_rows stays new_rows) → Shows old_rows bytes stays new_rows

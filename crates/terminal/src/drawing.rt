@@ -60,7 +60,10 @@ fn drawing(
 {
     let mut bytes = Vec::with_capacity(
         alloc,
-        stays.len().saturating_add(new_rows.len()).saturating_add(64),
+        stays
+            .len()
+            .saturating_add(new_rows.len())
+            .saturating_add(64),
     )?;
     bytes.extend_from_slice(CUT)?;
     push_over(&mut bytes, old_rows)?;

@@ -57,7 +57,6 @@ own_files = record {
   outputs = of_outputs;
   depfiles = λ i command. subst (λ (p : List ℕ). LiesIn own p) (sym (none_named i).0) (refl, refl);
   responses = λ i command. subst (λ (p : List ℕ). LiesIn own p) (sym (none_named i).1) (refl, refl);
-  both = λ i command some. absurd (some (none_named i).0);
   apart = λ i j command1 command2 other. ((λ some. absurd (some (none_named i).0)), (λ some. absurd (some (none_named i).1)), (λ some. absurd (some (none_named i).0)));
 }
 

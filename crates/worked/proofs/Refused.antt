@@ -1,28 +1,33 @@
 -- The rows that are refused.
 use Rattle.std.proofs.Common.{◌≡◌, inl, inr, ℕ, zero, suc, ◌<◌, Bool, true, false, List, [], ◌∷◌, ◌++◌, Option, Some, None, refl, sym, ◌∙◌, ap, subst, bytes_eq, arith, append_assoc}
-use Rattle.std.proofs.lemmas.Bool.{false≢true}
+use Rattle.std.proofs.lemmas.Bool.{false≢true, cases_Bool}
 use Rattle.std.proofs.lemmas.List.{append_cancel_left}
 use Rattle.std.specs.Prelude.{codes}
 use Rattle.std.specs.List.{AllByRecursion}
+use Rattle.model.specs.declared.act.Act.{Act}
 use Rattle.model.specs.declared.event.Event.TheVariants.{Start, Finish}
+use Rattle.model.specs.declared.graph.Edge.{Edge}
 use Rattle.model.specs.declared.event.Moment.{Moment}
 use Rattle.model.specs.declared.event.Moment.TheVariants.{Wrote, Happened}
 use Rattle.model.specs.declared.event.Writer.{Writer}
 use Rattle.model.specs.declared.event.Writer.TheVariants.{Program}
 use Rattle.model.specs.declared.moves.Move.{Move}
 use Rattle.model.specs.declared.moves.Move.TheVariants.{Write, Delete, Build}
-use Rattle.model.specs.World.{World, view_of, events_in}
+use Rattle.model.specs.World.{World, file_at, view_of, events_in}
 use Rattle.model.specs.Graph.{has, edge_at, inputs, outputs, IsCommand}
 use Rattle.model.specs.Outcome.{Behaviour, read_depfile, is_accepted}
 use Rattle.model.specs.Records.{LogFormat, OwnFiles, Told, in_force, deps_in_force, read_log}
 use Rattle.model.specs.Judgement.{start_of}
-use Rattle.model.specs.Schedule.{Step, Judged}
-use Rattle.model.specs.Premises.{none_free, IsWithinEdge, IsNoEdit, OwnFilesApart, LiesIn, SharesNone, FilesAreKept}
-use Rattle.model.specs.SingleBuild.{Answer, is_fault, IsFrame, IsReadyFor, HeldAt, PassesNoFault}
+use Rattle.model.specs.Schedule.{Step, Judged, Started}
+use Rattle.model.specs.Phases.{IsPointAfter}
+use Rattle.model.specs.Premises.{none_free, IsWithinEdge, IsNoEdit, OwnFilesApart, LiesIn, FilesAreKept}
+use Rattle.model.specs.SingleBuild.{Answer, is_fault, IsFrame, IsMadeBy, IsReadyFor, HeldAt, PassesNoFault}
 use Rattle.model.specs.History.{Visit, Edited, Built, Unread, Restarted, IsHistoryFrom, IsEdit}
 use Rattle.model.specs.Driven.{CarriesOut, RestartsFrom, Does, is_restart, answers_in}
-use Rattle.worked.specs.Small.{copy, edges, copies, words, done_under}
-use Rattle.worked.specs.Refused.{RefusedRecords, RefusedFaults, RefusedMoves, RefusedFiles, RefusedStarts, RefusedLoads, RefusedEnds, RefusedRows, naming, dd_there, refuses_depfiles, anything, own, with_both, start_of_both, response, old_depfile, starts_one, too_early}
+use Rattle.build_theory.proofs.Files.{IsElsewhere, file_stays}
+use Rattle.build_theory.proofs.Lists.{all_parts, same_bytes}
+use Rattle.worked.specs.Small.{act_with, copy, edge_with, edges, copies, words, done_under}
+use Rattle.worked.specs.Refused.{RefusedRecords, RefusedFaults, RefusedMoves, RefusedFiles, RefusedStarts, RefusedLoads, RefusedEnds, RefusedRows, naming, dd_there, refuses_depfiles, anything, own, with_both, start_of_both, response, old_depfile, starts_one, one_path, start_of_one, over_depfile, too_early}
 use Rattle.model.specs.Faithful.{IsFaithfulStore}
 use Rattle.worked.proofs.Lists.{all_has, bytes_same, none_some, no_more}
 
@@ -172,67 +177,127 @@ moves = record {
 
 -- ---- files
 
-of_inputs : (i : ℕ) (p : List ℕ) → has (inputs (edge_at with_both i)) p ≡ true → own.set p ≡ false
-of_inputs zero p h = absurd (false≢true h)
-of_inputs (suc zero) p h = all_has (λ q. own.set q ≡ false) (codes "a" ∷ []) p (refl, tt) h
-of_inputs (suc (suc i)) p h = absurd (false≢true h)
-
-of_outputs : (i : ℕ) (p : List ℕ) → has (outputs (edge_at with_both i)) p ≡ true → own.set p ≡ false
-of_outputs zero p h = absurd (false≢true h)
-of_outputs (suc zero) p h = all_has (λ q. own.set q ≡ false) (codes "b" ∷ []) p (refl, tt) h
-of_outputs (suc (suc i)) p h = absurd (false≢true h)
-
-of_depfiles : (i : ℕ) → IsCommand with_both i → LiesIn own (edge_at with_both i).act.depfile
-of_depfiles zero command = (refl, refl)
-of_depfiles (suc zero) command = (refl, refl)
-of_depfiles (suc (suc i)) command = (refl, refl)
-
-of_responses : (i : ℕ) → IsCommand with_both i → LiesIn own (edge_at with_both i).act.response_path
-of_responses zero command = (refl, refl)
-of_responses (suc zero) command = (refl, refl)
-of_responses (suc (suc i)) command = (refl, refl)
-
-only_one : (i : ℕ) → IsCommand with_both i → i ≡ 1
-only_one zero command = absurd (false≢true (sym command))
-only_one (suc zero) command = refl
-only_one (suc (suc i)) command = absurd (false≢true (sym command))
-
 d_is_not_r : codes "d" ≡ codes "r" → ⊥
 d_is_not_r same = false≢true (ap (λ (p : List ℕ). bytes_eq p (codes "r")) same)
 
-own_files : OwnFilesApart own with_both
-own_files = record {
-  within = λ p h. all_has (λ q. own.set q ≡ true) (codes "l" ∷ codes "m" ∷ codes "t" ∷ []) p (refl, (refl, (refl, tt))) h;
-  build_log = refl;
-  deps_log = refl;
-  inputs = of_inputs;
-  outputs = of_outputs;
-  depfiles = of_depfiles;
-  responses = of_responses;
-  both = λ i command. subst (λ (n : ℕ). SharesNone (edge_at with_both n).act.depfile (edge_at with_both n).act.response_path) (sym (only_one i command)) (λ some same. d_is_not_r same);
-  apart = λ i j command1 command2 other. absurd (other (only_one i command1 ∙ sym (only_one j command2)));
-}
+-- the command has this path for its response file
+abbrev with_response : List ℕ → List Edge
+with_response r = edge_with (act_with (codes "copy") (codes "d") r) ∷ []
 
--- what came after these moments
-kept_after : (old added : List Moment) → AllByRecursion (IsWithinEdge none_free with_both) added → AllByRecursion (IsNoEdit none_free) added → FilesAreKept own with_both old (old ++ added)
-kept_after old added within edits = record {
-  free = none_free;
-  free_apart = record { set = λ p is. refl; outputs = λ i p makes is. refl };
-  commands = λ more is. subst (AllByRecursion (IsWithinEdge none_free with_both)) (append_cancel_left old added more is) within;
-  own_files = own_files;
-  edits = λ more is. subst (AllByRecursion (IsNoEdit none_free)) (append_cancel_left old added more is) edits;
-}
+module _ (r : List ℕ) (lies : LiesIn own r) where
+  of_inputs : (i : ℕ) (p : List ℕ) → has (inputs (edge_at (with_response r) i)) p ≡ true → own.set p ≡ false
+  of_inputs zero p h = absurd (false≢true h)
+  of_inputs (suc zero) p h = all_has (λ q. own.set q ≡ false) (codes "a" ∷ []) p (refl, tt) h
+  of_inputs (suc (suc i)) p h = absurd (false≢true h)
 
--- the frame of a build that did just this
-ready_at : (old before after : List Moment) → FilesAreKept own with_both old (old ++ (before ++ start_of_both ∷ after)) → IsFrame own with_both starts_one old (old ++ (before ++ start_of_both ∷ after))
-    → IsReadyFor (edge_at with_both 1).act (view_of (old ++ before))
-ready_at old before after kept frame = frame.at_start kept 1 9 (edge_at with_both 1).act before after (append_cancel_left old frame.more (before ++ start_of_both ∷ after) (sym frame.grows))
+  of_outputs : (i : ℕ) (p : List ℕ) → has (outputs (edge_at (with_response r) i)) p ≡ true → own.set p ≡ false
+  of_outputs zero p h = absurd (false≢true h)
+  of_outputs (suc zero) p h = all_has (λ q. own.set q ≡ false) (codes "b" ∷ []) p (refl, tt) h
+  of_outputs (suc (suc i)) p h = absurd (false≢true h)
+
+  of_depfiles : (i : ℕ) → IsCommand (with_response r) i → LiesIn own (edge_at (with_response r) i).act.depfile
+  of_depfiles zero command = (refl, refl)
+  of_depfiles (suc zero) command = (refl, refl)
+  of_depfiles (suc (suc i)) command = (refl, refl)
+
+  of_responses : (i : ℕ) → IsCommand (with_response r) i → LiesIn own (edge_at (with_response r) i).act.response_path
+  of_responses zero command = (refl, refl)
+  of_responses (suc zero) command = lies
+  of_responses (suc (suc i)) command = (refl, refl)
+
+  only_one : (i : ℕ) → IsCommand (with_response r) i → i ≡ 1
+  only_one zero command = absurd (false≢true (sym command))
+  only_one (suc zero) command = refl
+  only_one (suc (suc i)) command = absurd (false≢true (sym command))
+
+  own_files : OwnFilesApart own (with_response r)
+  own_files = record {
+    within = λ p h. all_has (λ q. own.set q ≡ true) (codes "l" ∷ codes "m" ∷ codes "t" ∷ []) p (refl, (refl, (refl, tt))) h;
+    build_log = refl;
+    deps_log = refl;
+    inputs = of_inputs;
+    outputs = of_outputs;
+    depfiles = of_depfiles;
+    responses = of_responses;
+    apart = λ i j command1 command2 other. absurd (other (only_one i command1 ∙ sym (only_one j command2)));
+  }
+
+  -- what came after these moments
+  kept_after : (old added : List Moment) → AllByRecursion (IsWithinEdge none_free (with_response r)) added → AllByRecursion (IsNoEdit none_free) added → FilesAreKept own (with_response r) old (old ++ added)
+  kept_after old added within edits = record {
+    free = none_free;
+    free_apart = record { set = λ p is. refl; outputs = λ i p makes is. refl };
+    commands = λ more is. subst (AllByRecursion (IsWithinEdge none_free (with_response r))) (append_cancel_left old added more is) within;
+    own_files = own_files;
+    edits = λ more is. subst (AllByRecursion (IsNoEdit none_free)) (append_cancel_left old added more is) edits;
+  }
+
+  -- the frame of a build that did just this
+  ready_at : (old before after : List Moment) → FilesAreKept own (with_response r) old (old ++ (before ++ Happened (Start 1 (edge_at (with_response r) 1).act 9) ∷ after))
+      → IsFrame own (with_response r) starts_one old (old ++ (before ++ Happened (Start 1 (edge_at (with_response r) 1).act 9) ∷ after)) → IsReadyFor (edge_at (with_response r) 1).act (view_of (old ++ before))
+  ready_at old before after kept frame =
+      frame.at_start kept 1 9 (edge_at (with_response r) 1).act before after (append_cancel_left old frame.more (before ++ Happened (Start 1 (edge_at (with_response r) 1).act 9) ∷ after) (sym frame.grows))
 
 kept_alone : FilesAreKept own with_both [] (start_of_both ∷ [])
-kept_alone = kept_after [] (start_of_both ∷ []) (tt, tt) (tt, tt)
+kept_alone = kept_after (codes "r") (refl, refl) [] (start_of_both ∷ []) (tt, tt) (tt, tt)
 
 kept_behind : FilesAreKept own with_both old_depfile (old_depfile ++ response ∷ start_of_both ∷ [])
-kept_behind = kept_after old_depfile (response ∷ start_of_both ∷ []) (tt, (tt, tt)) (tt, (tt, tt))
+kept_behind = kept_after (codes "r") (refl, refl) old_depfile (response ∷ start_of_both ∷ []) (tt, (tt, tt)) (tt, (tt, tt))
+
+-- ---- one path for both
+
+kept_unwritten : FilesAreKept own one_path [] (start_of_one ∷ [])
+kept_unwritten = kept_after (codes "d") (refl, refl) [] (start_of_one ∷ []) (tt, tt) (tt, tt)
+
+kept_over : FilesAreKept own one_path [] (over_depfile ∷ start_of_one ∷ [])
+kept_over = kept_after (codes "d") (refl, refl) [] (over_depfile ∷ start_of_one ∷ []) (tt, (tt, tt)) (tt, (tt, tt))
+
+no_output : (i : ℕ) (o : List ℕ) → has (outputs (edge_at one_path i)) o ≡ true → bytes_eq (codes "d") o ≡ false
+no_output zero o h = absurd (false≢true h)
+no_output (suc zero) o h = all_has (λ q. bytes_eq (codes "d") q ≡ false) (codes "b" ∷ []) o (refl, tt) h
+no_output (suc (suc i)) o h = absurd (false≢true h)
+
+one_judgement : (step : Step) (before after : List Step) (i : ℕ) (b : Bool) → Judged 1 true ∷ Started 1 ∷ [] ≡ step ∷ (before ++ Judged i b ∷ after) → ⊥
+one_judgement step [] after i b is = cc
+one_judgement step (other ∷ []) after i b is = cc
+one_judgement step (other ∷ third ∷ before) after i b is = cc
+
+judged_first : (before after : List Step) (i : ℕ) (b : Bool) → Judged 1 true ∷ Started 1 ∷ [] ≡ before ++ Judged i b ∷ after
+    → (at : List Moment) × IsPointAfter before [] (over_depfile ∷ start_of_one ∷ []) at × ((p : List ℕ) → IsMadeBy (edge_at one_path i) p → file_at at p ≡ file_at [] p)
+judged_first [] after i b is =
+    ([], record { so_far = []; later = over_depfile ∷ start_of_one ∷ []; is = refl; grows = refl; happened = refl; entry = λ none. refl; behind = tt }, λ p made. refl)
+judged_first (step ∷ before) after i b is = absurd (one_judgement step before after i b is)
+
+no_start : (after : List Moment) (i stamp : ℕ) (act : Act) → over_depfile ∷ start_of_one ∷ [] ≡ Happened (Start i act stamp) ∷ after → ⊥
+no_start after i stamp act is = cc
+
+no_third : (m n : Moment) (before after : List Moment) (event : Moment) → over_depfile ∷ start_of_one ∷ [] ≡ m ∷ n ∷ (before ++ event ∷ after) → ⊥
+no_third m n [] after event is = cc
+no_third m n (k ∷ before) after event is = cc
+
+ready_one : (before after : List Moment) (i stamp : ℕ) (act : Act) → over_depfile ∷ start_of_one ∷ [] ≡ before ++ Happened (Start i act stamp) ∷ after → IsReadyFor act (view_of before)
+ready_one [] after i stamp act is = absurd (no_start after i stamp act is)
+ready_one (m ∷ []) after i stamp act is =
+    let first : over_depfile ≡ m = cc in
+    let same : (edge_at one_path 1).act ≡ act = cc in
+    subst (λ (a : Act). IsReadyFor a (view_of (m ∷ []))) same
+    (subst (λ (n : Moment). IsReadyFor (edge_at one_path 1).act (view_of (n ∷ []))) first (record { depfile = λ named two. absurd (two refl); response = λ named. refl }))
+ready_one (m ∷ n ∷ before) after i stamp act is = absurd (no_third m n before after (Happened (Start i act stamp)) is)
+
+frame_over : IsFrame own one_path starts_one [] (over_depfile ∷ start_of_one ∷ [])
+frame_over = record {
+  more = over_depfile ∷ start_of_one ∷ [];
+  grows = refl;
+  writes = (inr (inr (1, refl, refl)), (tt, tt));
+  unchanged = λ files p. elim (cases_Bool (bytes_eq (codes "d") p)) [
+    | inl same ↦ inr (inl (inr (inr (inr (1, refl, sym (same_bytes (codes "d") p same))))))
+    | inr other ↦ inl (file_stays p [] (over_depfile ∷ start_of_one ∷ []) (other, (tt, tt)))
+  ];
+  until_start = λ files i stamp act o before after is h. file_stays o [] before
+      (all_parts (IsElsewhere o) before (Happened (Start i act stamp) ∷ after) (subst (λ (l : List Moment). AllByRecursion (IsElsewhere o) l) is (no_output i o h, (tt, tt)))).0;
+  until_judged = λ files before after i out_of_date is. judged_first before after i out_of_date is;
+  at_start = λ files i stamp act before after is. ready_one before after i stamp act is;
+}
 
 -- the deps log is read as the world has it
 no_future : (all : OwnFiles) → IsFaithfulStore copies words all [] (too_early all) → ⊥
@@ -246,10 +311,11 @@ no_future all faithful =
 files : RefusedFiles
 files = record {
   future = λ all faithful. absurd (no_future all faithful);
-  one_for_both = λ all apart. apart.both 1 refl (λ none. let no : ⊥ = cc in no) refl;
   log_as_input = λ all recorded apart has_log recorded_apart. false≢true (sym (recorded_apart 1 all.build_log has_log) ∙ apart.within all.build_log apart.build_log);
-  no_response_file = (kept_alone, λ frame. none_some _ ((ready_at [] [] [] kept_alone frame).response (λ none. let no : ⊥ = cc in no)));
-  depfile_left = (kept_behind, λ frame. some_none _ ((ready_at old_depfile (response ∷ []) [] kept_behind frame).depfile (λ none. let no : ⊥ = cc in no)));
+  no_response_file = (kept_alone, λ frame. none_some _ ((ready_at (codes "r") (refl, refl) [] [] [] kept_alone frame).response (λ none. let no : ⊥ = cc in no)));
+  depfile_left = (kept_behind, λ frame. some_none _ ((ready_at (codes "r") (refl, refl) old_depfile (response ∷ []) [] kept_behind frame).depfile (λ none. let no : ⊥ = cc in no) d_is_not_r));
+  one_unwritten = (kept_unwritten, λ frame. none_some _ ((ready_at (codes "d") (refl, refl) [] [] [] kept_unwritten frame).response (λ none. let no : ⊥ = cc in no)));
+  one_for_both = (kept_over, frame_over, λ none. some_none _ none);
 }
 
 -- ---- starts

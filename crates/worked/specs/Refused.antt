@@ -106,10 +106,6 @@ pub record RefusedMoves : Type 0 where
 abbrev pub too_early : OwnFiles → World
 too_early own = world_with (Wrote Program own.deps_log (Some (codes "future")) 3 ∷ []) [] 0
 
--- the command has one path for its depfile and its response file
-abbrev pub one_path : List Edge
-one_path = edge_with (act_with (codes "copy") (codes "d") (codes "d")) ∷ []
-
 -- the command has a depfile and a response file
 abbrev pub with_both : List Edge
 with_both = edge_with (act_with (codes "copy") (codes "d") (codes "r")) ∷ []
@@ -134,17 +130,30 @@ old_depfile = Wrote Program (codes "d") (Some (codes "y")) 7 ∷ []
 abbrev pub starts_one : List Step
 starts_one = Judged 1 true ∷ Started 1 ∷ []
 
+-- the command has one path for its depfile and its response file
+abbrev pub one_path : List Edge
+one_path = edge_with (act_with (codes "copy") (codes "d") (codes "d")) ∷ []
+
+abbrev pub start_of_one : Moment
+start_of_one = Happened (Start 1 (act_with (codes "copy") (codes "d") (codes "d")) 9)
+
+-- its response file is written, where a depfile would stand
+abbrev pub over_depfile : Moment
+over_depfile = Wrote Program (codes "d") (Some (codes "x")) 8
+
 pub record RefusedFiles : Type 0 where
   -- a deps record of a start that is still to come
   pub future : (all : OwnFiles) → IsFaithfulStore copies words all [] (too_early all) → ⊥
-  -- one path for a depfile and a response file
-  pub one_for_both : (all : OwnFiles) → OwnFilesApart all one_path → ⊥
   -- a log among the recorded inputs
   pub log_as_input : (all : OwnFiles) (recorded : ℕ → List (List ℕ)) → OwnFilesApart all edges → has (recorded 1) all.build_log ≡ true → RecordedApart all recorded → ⊥
   -- a start without its response file, or with an old depfile, though only commands write outputs and nothing is edited
   pub no_response_file : FilesAreKept own with_both [] (start_of_both ∷ []) × (IsFrame own with_both starts_one [] (start_of_both ∷ []) → ⊥)
   pub depfile_left : FilesAreKept own with_both old_depfile (old_depfile ++ response ∷ start_of_both ∷ [])
       × (IsFrame own with_both starts_one old_depfile (old_depfile ++ response ∷ start_of_both ∷ []) → ⊥)
+  -- with one path for both no premise is broken: the response file has to be there at the start, and so the depfile is not absent
+  pub one_unwritten : FilesAreKept own one_path [] (start_of_one ∷ []) × (IsFrame own one_path starts_one [] (start_of_one ∷ []) → ⊥)
+  pub one_for_both : FilesAreKept own one_path [] (over_depfile ∷ start_of_one ∷ []) × IsFrame own one_path starts_one [] (over_depfile ∷ start_of_one ∷ [])
+      × (view_of (over_depfile ∷ []) (codes "d") ≡ None → ⊥)
 
 -- ---- starts
 

@@ -10,9 +10,9 @@ ghost use Rattle.worked.specs.Stricter.{LogsAreLeftByBoth, StricterSuffice};
 ghost use Rattle.worked.specs.Unsaid.{UnsaidRows};
 
 /// The definitions refuse these: records made up or dropped, a fault passed over, moves skipped, restarts that are missing or
-/// needless, answers that no build gave, a deps record of a start to come, one path for a depfile and a response file, a
-/// start that is not prepared or of a command that was judged clean, an end that is told wrong, commands that run after an
-/// answer, or after a fault that does not excuse them, and want of memory that is answered in the place of a refusal.
+/// needless, answers that no build gave, a deps record of a start to come, a start that is not prepared (where one path is depfile
+/// and response file: without the response file) or of a command that was judged clean, an end that is told wrong, commands that
+/// run after an answer, or after a fault that does not excuse them, and want of memory that is answered in the place of a refusal.
 pub fn refused_rows()
     ensures { RefusedRows }
 {}

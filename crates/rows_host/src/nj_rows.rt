@@ -80,11 +80,11 @@ impl<'a> Rows<'a> {
     ) -> Result<(), AllocError> {
         let (one, other) = word(rest);
         match first {
-            "run" => push_ran(alloc, &self.ran(rest)?, told),
-            "front" => push_front(alloc, &self.ran(other)?, number(one), told),
-            "status" => push_status(alloc, self.ran(rest)?.status, told),
-            "under" => push_ran(alloc, &self.ran_under(one, other)?, told),
-            "words" => push_ran(alloc, &run_of(&self.folder, None, rest)?, told),
+            "run" => push_ran(&self.ran(rest)?, told),
+            "front" => push_front(&self.ran(other)?, number(one), told),
+            "status" => push_status(self.ran(rest)?.status, told),
+            "under" => push_ran(&self.ran_under(one, other)?, told),
+            "words" => push_ran(&run_of(&self.folder, None, rest)?, told),
             _ => self.push_part(alloc, first, rest, told),
         }
     }
@@ -100,9 +100,9 @@ impl<'a> Rows<'a> {
         told: &mut String,
     ) -> Result<(), AllocError> {
         match first {
-            "length" => push_length(alloc, &self.ran_under("", rest)?, told),
-            "refused" => push_refused(alloc, &run_of(&self.folder, None, rest)?, told),
-            "help" => push_help(alloc, &run_of(&self.folder, None, "--help")?, rest, told),
+            "length" => push_length(&self.ran_under("", rest)?, told),
+            "refused" => push_refused(&run_of(&self.folder, None, rest)?, told),
+            "help" => push_help(&run_of(&self.folder, None, "--help")?, rest, told),
             "same" => self.push_same(alloc, rest, told),
             "documented" | "version" => self.push_page(alloc, first, rest, told),
             _ => self.push_file(alloc, first, rest, told),
@@ -160,7 +160,7 @@ impl<'a> Rows<'a> {
         let (one, wanted) = word(rest);
         let wanted = plain(alloc, wanted)?;
         let mut found = String::new(alloc);
-        push_ran(alloc, &self.ran(one)?, &mut found)?;
+        push_ran(&self.ran(one)?, &mut found)?;
         if found.as_str() == wanted.as_str() {
             return told.push_str("as told");
         }
@@ -247,18 +247,14 @@ fn push_answer(told: &mut String, holds: bool) -> Result<(), AllocError> {
     told.push_str(if holds { "yes" } else { "no" })
 }
 
-fn push_length(alloc: Global, ran: &Ran, told: &mut String) -> Result<(), AllocError> {
-    push_status(alloc, ran.status, told)?;
-    let length = format!(in alloc;
-        ", {} bytes and {}",
-        ran.out.as_str().len(),
-        ran.err.as_str().len()
-    )?;
-    told.push_str(length.as_str())
+fn push_length(ran: &Ran, told: &mut String) -> Result<(), AllocError> {
+    push_status(ran.status, told)?;
+    let (out, err) = (ran.out.len(), ran.err.len());
+    write!(told, ", {out} bytes and {err}")
 }
 
-fn push_refused(alloc: Global, ran: &Ran, told: &mut String) -> Result<(), AllocError> {
-    push_status(alloc, ran.status, told)?;
+fn push_refused(ran: &Ran, told: &mut String) -> Result<(), AllocError> {
+    push_status(ran.status, told)?;
     told.push_str(if ran.out.is_empty() {
         " "
     } else {
@@ -268,8 +264,8 @@ fn push_refused(alloc: Global, ran: &Ran, told: &mut String) -> Result<(), Alloc
     told.push_str(first)
 }
 
-fn push_help(alloc: Global, ran: &Ran, part: &str, told: &mut String) -> Result<(), AllocError> {
-    push_status(alloc, ran.status, told)?;
+fn push_help(ran: &Ran, part: &str, told: &mut String) -> Result<(), AllocError> {
+    push_status(ran.status, told)?;
     told.push(' ')?;
     push_answer(told, ran.err.is_empty() && ran.out.as_str().contains(part))
 }

@@ -20,7 +20,7 @@ impl<'a> Folder<'a> {
         let number = process::id(rt.process());
         let temp = env::temp_dir(rt)?;
         let temp = temp.display();
-        let path = format!(in rt.alloc(); "{temp}/rows_worlds_{number}")?;
+        let path = format!(in rt.alloc(); "{temp}/rows_host_{number}")?;
         Ok(Folder { rt, path })
     }
 

@@ -1,7 +1,7 @@
 //! The calls of a site of real files. A row `folder` begins a site in an empty folder, and each row behind it is one call of it,
 //! or what somebody does beside it. Rows that `host_commands` names run real commands on sites of their own there.
 
-use crate::answers::{number, push_number};
+use crate::answers::number;
 use crate::folder::enter;
 use crate::host_commands::told_of;
 use host::Host;
@@ -49,7 +49,7 @@ impl<'a> Calls<'a> {
         match first {
             "read" => push_found(self.host.read(rest).map(|content| content.is_some()), told),
             "stat" => self.push_stat(rest, told),
-            "failures" => push_number(alloc, self.host.failures(), told),
+            "failures" => write!(told, "{}", self.host.failures()),
             "trouble" => self.push_trouble(told),
             _ => self.push_run(alloc, first, rest, told),
         }
@@ -65,7 +65,7 @@ impl<'a> Calls<'a> {
     ) -> Result<(), AllocError> {
         match first {
             "whichever" | "printed" | "restarted" => push_text(told_of(self.rt, first, rest), told),
-            "ticks" => self.push_ticks(alloc, rest, told),
+            "ticks" => self.push_ticks(rest, told),
             _ => self.push_stamp(alloc, first, rest, told),
         }
     }
@@ -81,7 +81,7 @@ impl<'a> Calls<'a> {
     ) -> Result<(), AllocError> {
         match first {
             "stamp" => match self.host.stat(rest) {
-                Ok(Some(stamp)) => push_number(alloc, stamp, told),
+                Ok(Some(stamp)) => write!(told, "{stamp}"),
                 found => push_found(found.map(|stamp| stamp.is_some()), told),
             },
             "stat_long" => {
@@ -133,19 +133,14 @@ impl<'a> Calls<'a> {
 
     /// `ticks COUNT`: how many ticks were no earlier than what was written before them, and no later than what was written
     /// after them.
-    fn push_ticks(
-        &mut self,
-        alloc: Global,
-        count: &str,
-        told: &mut String,
-    ) -> Result<(), AllocError> {
+    fn push_ticks(&mut self, count: &str, told: &mut String) -> Result<(), AllocError> {
         let mut between = 0u64;
         for _ in 0..number(count) {
             if self.ticks_between() == Some(true) {
                 between = between.saturating_add(1);
             }
         }
-        push_number(alloc, between, told)
+        write!(told, "{between}")
     }
 
     fn ticks_between(&mut self) -> Option<bool> {

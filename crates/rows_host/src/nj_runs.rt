@@ -1,6 +1,6 @@
 //! Runs of the program.
 
-use crate::answers::{plain, push_number};
+use crate::answers::plain;
 use crate::folder::Folder;
 use nj_run::run;
 use std::alloc::{AllocError, Global};
@@ -56,14 +56,14 @@ fn word_of(folder: &Folder<'_>, word: &str) -> Result<String, AllocError> {
 }
 
 /// Puts the status, what was told on the standard output, and behind `!` what was told on the standard error.
-pub fn push_ran(alloc: Global, ran: &Ran, told: &mut String) -> Result<(), AllocError> {
-    push_status(alloc, ran.status, told)?;
+pub fn push_ran(ran: &Ran, told: &mut String) -> Result<(), AllocError> {
+    push_status(ran.status, told)?;
     push_behind(told, " ", ran.out.as_str())?;
     push_behind(told, " ! ", ran.err.as_str())
 }
 
-pub fn push_status(alloc: Global, status: u8, told: &mut String) -> Result<(), AllocError> {
-    push_number(alloc, u64::from(status), told)
+pub fn push_status(status: u8, told: &mut String) -> Result<(), AllocError> {
+    write!(told, "{status}")
 }
 
 fn push_behind(told: &mut String, mark: &str, text: &str) -> Result<(), AllocError> {
@@ -75,13 +75,8 @@ fn push_behind(told: &mut String, mark: &str, text: &str) -> Result<(), AllocErr
 }
 
 /// Puts the same, but of the standard output the first lines alone, so many.
-pub fn push_front(
-    alloc: Global,
-    ran: &Ran,
-    lines: usize,
-    told: &mut String,
-) -> Result<(), AllocError> {
-    push_status(alloc, ran.status, told)?;
+pub fn push_front(ran: &Ran, lines: usize, told: &mut String) -> Result<(), AllocError> {
+    push_status(ran.status, told)?;
     told.push(' ')?;
     for line in ran.out.as_str().split('\n').take(lines) {
         told.push_str(line)?;
