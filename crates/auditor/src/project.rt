@@ -221,8 +221,8 @@ impl Auditor {
         for place in 0..uses.len() {
             let path = uses.path(place).unwrap_or("");
             let maker = self.other_maker(edge, path);
-            let above = is_listed(lists, path) || is_marked(is_above.as_slice(), maker);
-            arounds.push(self.names.around(path, maker.is_some(), above))?;
+            let is_upper = is_listed(lists, path) || is_marked(is_above.as_slice(), maker);
+            arounds.push(self.names.around(path, maker.is_some(), is_upper))?;
         }
         Ok(arounds)
     }
