@@ -1,4 +1,3 @@
 mod Listed
 mod Refused
 mod Blocks
-mod Tracing

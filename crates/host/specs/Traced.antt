@@ -2,10 +2,11 @@
 use Rattle.std.specs.Prelude.{◌≡◌, ℕ, ℤ, List, [], ◌∷◌, ◌++◌, Option, Some, None, codes, decimal}
 use Rattle.os.specs.Paths.{HasNoNul}
 use Rattle.host.specs.declared.process.Handed.{Handed}
-use Rattle.host.specs.Process.{IsHanded, words_of}
+use Rattle.host.specs.Process.{IsHanded, shell}
 
-abbrev pub word : List ℕ → List ℕ
-word text = text ++ 0 ∷ []
+-- a word, and the NUL that ends it
+abbrev pub ended : List ℕ → List ℕ
+ended word = word ++ 0 ∷ []
 
 -- which calls of the system are written down
 abbrev pub calls : List ℕ
@@ -13,11 +14,15 @@ calls = codes "trace=%file,fork,vfork,clone,clone3,execveat,fchdir,getdents,getd
 
 -- Processes that are started are followed, descriptors come with their paths, names in hexadecimal digits, and no signal is told. Of
 -- structures those are written that tell a folder from a file, and whether a process shares its folder with another.
-abbrev pub tracing : List ℕ
-tracing =
-    word (codes "strace") ++ word (codes "-f") ++ word (codes "-y") ++ word (codes "-xx") ++ word (codes "-s") ++ word (codes "65536")
-    ++ word (codes "--seccomp-bpf") ++ word (codes "-e") ++ word (codes "signal=none") ++ word (codes "-e")
-    ++ word (codes "verbose=stat,lstat,newfstatat,statx,clone3") ++ word (codes "-e") ++ word calls ++ word (codes "-o")
+abbrev pub first_words : List ℕ
+first_words =
+    ended (codes "strace") ++ ended (codes "-f") ++ ended (codes "-y") ++ ended (codes "-xx") ++ ended (codes "-s") ++ ended (codes "65536")
+    ++ ended (codes "--seccomp-bpf") ++ ended (codes "-e") ++ ended (codes "signal=none") ++ ended (codes "-e")
+    ++ ended (codes "verbose=stat,lstat,newfstatat,statx,clone3") ++ ended (codes "-e") ++ ended calls ++ ended (codes "-o")
+
+-- the words by which the shell runs a command, but for that
+abbrev pub shell_words : List ℕ
+shell_words = ended (codes "--") ++ ended shell ++ ended (codes "-c")
 
 -- where the trace of a job is written
 abbrev pub trace_file : ℕ → List ℕ
@@ -25,7 +30,7 @@ trace_file job = codes ".nj_trace." ++ decimal job
 
 -- the same words of the shell as without, behind those of the tracer
 abbrev pub traced_words : ℕ → List ℕ → List ℕ
-traced_words job command = (tracing ++ word (trace_file job)) ++ (word (codes "--") ++ words_of command)
+traced_words job command = ((first_words ++ ended (trace_file job)) ++ shell_words) ++ ended command
 
 -- what is handed over so that this command is traced by this program
 pub record IsTraced (program : List ℕ) (job : ℕ) (command variables : List ℕ) (fds : List ℤ) (handed : Handed) : Type 0 where

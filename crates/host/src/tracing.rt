@@ -1,10 +1,10 @@
 //! What is handed over so that a command runs, and where that is asked for is traced: the words of `strace` stand before those by which the
 //! shell runs it.
 
-ghost use Rattle.std.specs.Prelude.{◌≡◌, IfOk, string_bytes};
+ghost use Rattle.std.specs.Prelude.{◌≡◌, ◌++◌, IfOk, OnOk, string_bytes};
 ghost use Rattle.std.specs.Option.{option_map};
 ghost use Rattle.os.specs.Paths.{HasNoNul};
-ghost use Rattle.host.specs.Traced.{IsHandedBy, trace_file, traced_words};
+ghost use Rattle.host.specs.Traced.{IsHandedBy, ended, first_words, shell_words, trace_file, traced_words};
 
 use crate::process::{Handed, Streams, handed_over};
 use crate::words::push_word;
@@ -74,11 +74,34 @@ fn words_traced(alloc: Global, job: usize, command: &str) -> io::Result<Vec<u8>>
     ensures words { IfOk result (λ words. words.items ≡ traced_words job command.now) }
 {
     let file = trace_file(alloc, job)?;
-    let mut words = Vec::from_slice(alloc, WORDS)?;
-    push_word(&mut words, file.as_bytes())?;
-    words.extend_from_slice(SHELL_WORDS)?;
-    push_word(&mut words, command.as_bytes())?;
+    let mut words = Vec::from_slice(alloc, first_words())?;
+    push_ended(&mut words, file.as_bytes())?;
+    words.extend_from_slice(shell_words())?;
+    push_ended(&mut words, command.as_bytes())?;
     Ok(words)
+}
+
+/// Adds a word with the NUL that ends it. One with a NUL cannot be handed over: `InvalidInput`.
+fn push_ended(words: &mut Vec<u8>, word: &[u8]) -> io::Result<()>
+    ensures whole { OnOk result (HasNoNul word.now) }
+    ensures pushed { OnOk result (words.new.items ≡ words.old.items ++ ended word.now) }
+{
+    push_word(words, word)?;
+    Ok(())
+}
+
+/// The words before the file into which it writes.
+fn first_words() -> &'static [u8]
+    ensures { result.now ≡ first_words }
+{
+    WORDS
+}
+
+/// The words between that file and the command.
+fn shell_words() -> &'static [u8]
+    ensures { result.now ≡ shell_words }
+{
+    SHELL_WORDS
 }
 
 /// The file into which the trace of a job is written.
