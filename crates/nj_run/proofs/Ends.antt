@@ -55,11 +55,6 @@ untraced asked on_out on_err out old_err new_err (Ok status) audit one said =
     record { ending = NoTracer; may = audit; tells = (one, record { shown = out; before = refl; out = untouched (on_out out); err = said }) }
 untraced asked on_out on_err out old_err new_err (Err fault) audit one said = record { ending = NoTracer; may = audit; tells = tt }
 
--- no folder, or no memory, before an audit began
-pub unbegun : {W E F : Type 0} (asked : Options) (on_out : W → Option Text) (on_err : E → Option Text) (old_out new_out : W) (old_err new_err : E) (fault : F)
-    → audits asked ≡ true → Comes (EndsFor asked) on_out on_err old_out new_out old_err new_err (Err fault)
-unbegun asked on_out on_err old_out new_out old_err new_err fault audit = record { ending = NoTracer; may = audit; tells = tt }
-
 -- what a build reported that was audited
 pub audited : {W E F : Type 0} (asked : Options) (on_out : W → Option Text) (on_err : E → Option Text) (old_out new_out : W) (old_err new_err : E) (report : Report) (told : Result ℕ F)
     → audits asked ≡ true → ((later : World) × BuildsAlone false any_outcome asked fresh later report)

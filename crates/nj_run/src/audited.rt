@@ -117,7 +117,14 @@ fn tell_all<W: Write, E: Write>(
 {
     let status = told::report(&audited.report, audited.trouble.as_ref(), out, err)?;
     let keeps = tell(alloc, audited.tally.as_ref(), is_listed, out)?;
-    if keeps { Ok(status) } else { Ok(1) }
+    Ok(status_after(status, keeps))
+}
+
+/// The status of a run whose build ended with this one, where all commands were looked at and keep all premises, or not.
+fn status_after(status: u8, keeps: bool) -> u8
+    ensures { result ≡ (if keeps then status else 1) }
+{
+    if keeps { status } else { 1 }
 }
 
 /// Tells what was found: whether each command was looked at and keeps all premises. Files outside of the folder are listed, or counted by
