@@ -4,6 +4,7 @@
 mod above;
 mod around;
 mod dyndeps;
+mod given;
 mod graphs;
 mod listed;
 mod outside;

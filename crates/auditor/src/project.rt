@@ -2,6 +2,7 @@
 
 use crate::above::above;
 use crate::around::Names;
+use crate::given::by_given_names;
 use crate::graphs::{is_command, outputs_of, text_of};
 use crate::listed::{Declared, lists_of};
 use crate::tally::Tally;
@@ -117,14 +118,15 @@ impl Auditor {
         }
     }
 
-    /// The same, and that the command began in the working folder, which is a folder.
+    /// The same, by the names that were given, and that the command began in the working folder, which is a folder.
     fn with_folder(
         &self,
         wholes: Option<Items<Whole>>,
     ) -> Result<Option<Items<Whole>>, AllocError> {
-        let Some(mut wholes) = wholes else {
+        let Some(wholes) = wholes else {
             return Ok(None);
         };
+        let mut wholes = by_given_names(self.alloc, &self.names, wholes)?;
         wholes.push(Whole {
             deed: Deed::Folder,
             path: Path::from_str(self.alloc, self.names.folder())?,
