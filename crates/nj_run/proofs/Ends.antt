@@ -43,9 +43,9 @@ pub reported : {W E F : Type 0} (asked : Options) (on_out : W → Option Text) (
     → OnOk told (Adds (on_out shown) (on_out new_out) (out_of report)) → OnOk told (Adds (on_err old_err) (on_err new_err) (err_of report refused))
     → Comes (EndsFor asked) on_out on_err old_out new_out old_err new_err told
 reported asked on_out on_err old_out shown new_out old_err new_err report refused (Ok status) no so is out err =
-    record { ending = Built report refused; may = (no, so); tells = (is, record { shown = shown; before = tt; out = out; err = err }) }
+    record { ending = Built report refused; may = (no, so.0, so.1); tells = (is, record { shown = shown; before = tt; out = out; err = err }) }
 reported asked on_out on_err old_out shown new_out old_err new_err report refused (Err fault) no so is out err =
-    record { ending = Built report refused; may = (no, so); tells = tt }
+    record { ending = Built report refused; may = (no, so.0, so.1); tells = tt }
 
 -- nothing traces commands here
 pub untraced : {W E F : Type 0} (asked : Options) (on_out : W → Option Text) (on_err : E → Option Text) (out : W) (old_err new_err : E) (told : Result ℕ F)
@@ -61,9 +61,9 @@ pub audited : {W E F : Type 0} (asked : Options) (on_out : W → Option Text) (o
     → IfOk told (λ status. (keeps : Bool) × (status ≡ (if keeps then status_of report else 1)))
     → Comes (EndsFor asked) on_out on_err old_out new_out old_err new_err told
 audited asked on_out on_err old_out new_out old_err new_err report (Ok status) audit so is =
-    record { ending = Audited report is.0; may = (audit, so); tells = (is.1, record { shown = old_out; before = tt; out = tt; err = tt }) }
+    record { ending = Audited report is.0; may = (audit, so.0, so.1); tells = (is.1, record { shown = old_out; before = tt; out = tt; err = tt }) }
 audited asked on_out on_err old_out new_out old_err new_err report (Err fault) audit so is =
-    record { ending = Audited report true; may = (audit, so); tells = tt }
+    record { ending = Audited report true; may = (audit, so.0, so.1); tells = tt }
 
 -- the status of an audit is none but 0 and 1
 pub within_one : {F : Type 0} (report : Report) (told : Result ℕ F) → IfOk told (λ status. (keeps : Bool) × (status ≡ (if keeps then status_of report else 1))) → IfOk told (λ status. status ≤ 1)
