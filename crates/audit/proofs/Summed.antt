@@ -1,5 +1,5 @@
 -- What was done at each path, one thing after another.
-use Rattle.std.proofs.Common.{◌≡◌, ℕ, zero, suc, ◌+◌, ◌<◌, ◌≤◌, Bool, true, false, if◌then◌else◌, List, [], ◌∷◌, length, drop, slice_get, slice_index_or, slice_set, refl, sym, ap, ◌∙◌, Some, None, arith, bytes_eq}
+use Rattle.std.proofs.Common.{◌≡◌, ℕ, zero, suc, ◌+◌, ◌<◌, ◌≤◌, Bool, true, false, if◌then◌else◌, List, [], ◌∷◌, length, drop, slice_get, slice_index_or, slice_set, refl, sym, ap, ◌∙◌, Some, arith, bytes_eq}
 use Rattle.std.proofs.lemmas.Slice.Eq.{bytes_eq-Decides}
 use Rattle.model.specs.Graph.{has}
 use Rattle.paths.specs.Numbers.{HaveOnePlace}
@@ -8,7 +8,7 @@ use Rattle.audit.specs.declared.used.Use.{Use}
 use Rattle.audit.specs.declared.seen.Whole.{Whole}
 use Rattle.audit.specs.Uses.{unused, with_deed}
 use Rattle.audit.specs.Seen.{Sums, again_at, put_last, use_again, with_all_done, with_done, with_untouched}
-use Rattle.audit.proofs.Members.{in_has, next, past}
+use Rattle.audit.proofs.Members.{in_has, next, past_all}
 
 abbrev sums_of : List (List ℕ) → List Use → Sums
 sums_of paths uses = record { paths = paths; uses = uses }
@@ -57,8 +57,8 @@ none_left : (sums : Sums) (wholes : List Whole) → with_all_done sums wholes []
 none_left sums [] = refl
 none_left sums (whole ∷ wholes) = refl
 
-pub done_early : (sums : Sums) (wholes : List Whole) (reals : List Bool) (n : ℕ) → slice_get reals n ≡ None → with_all_done sums (drop n wholes) (drop n reals) ≡ sums
-done_early sums wholes reals n at = ap (λ (rs : List Bool). with_all_done sums (drop n wholes) rs) (past reals n at) ∙ none_left sums (drop n wholes)
+pub done_early : (sums : Sums) (wholes : List Whole) (reals : List Bool) (n : ℕ) → length reals ≤ n → with_all_done sums (drop n wholes) (drop n reals) ≡ sums
+done_early sums wholes reals n at = ap (λ (rs : List Bool). with_all_done sums (drop n wholes) rs) (past_all reals n at) ∙ none_left sums (drop n wholes)
 
 pub touched_next : (sums : Sums) (paths : List (List ℕ)) (n : ℕ) (path : List ℕ) → slice_get paths n ≡ Some path
     → with_untouched sums (drop n paths) ≡ with_untouched (if has sums.paths path then sums else put_last sums path unused) (drop (n + 1) paths)
