@@ -90,6 +90,7 @@ pub record AsksWhy (asked : Options) : Type 0 where
   pub asks : asked.why ≡ true
   pub later : World
   pub looks : OnlyLooks false fresh later
+
 EndsBy kind NoTracer = ⊥
 EndsBy kind (Audited report keeps) = ⊥
 
