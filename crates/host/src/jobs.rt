@@ -185,11 +185,12 @@ impl Jobs {
 fn start_alone(alloc: Global, command: &str, environment: &[u8]) -> io::Result<Vec<Running>>
     ensures { IfOk result (λ commands. 0 < vec_len commands) }
 {
+    let tracing = Tracing::none(alloc);
     let mut commands = Vec::new(alloc);
     reserve(&mut commands, 1)?;
     push_reserved(
         &mut commands,
-        commands::start(alloc, 0, command, environment, &mut None)?,
+        commands::start(&tracing, 0, command, environment, &mut None)?,
     );
     Ok(commands)
 }
