@@ -6,6 +6,7 @@ mod around;
 mod dyndeps;
 mod given;
 mod graphs;
+mod later;
 mod listed;
 mod outside;
 mod project;

@@ -1,6 +1,5 @@
 //! The paths of an edge, as an audit compares them with what its command did.
 
-use crate::above::marks;
 use crate::around::Names;
 use crate::graphs::{action_of, order_only_inputs_of, outputs_of, regular_inputs_of, text_of};
 use audit::Lists;
@@ -118,37 +117,33 @@ fn push_paths(
     Ok(())
 }
 
-/// Takes in these paths, and where a phony edge makes one its inputs too, and so on.
+/// Takes in these paths, into a table that has none, and where a phony edge makes one its inputs too, and so on.
 fn push_through(
     alloc: Global,
     declared: Declared<'_>,
     inputs: &[PathId],
     table: &mut Paths,
 ) -> Result<(), AllocError> {
-    let Declared { graph, .. } = declared;
     let mut open = Vec::from_slice(alloc, inputs)?;
-    let mut is_seen = vec![in alloc; false; graph.edges()]?;
     for _ in 0..usize::MAX {
         let Some(path) = open.pop() else {
             return Ok(());
         };
-        declared.names.add_to(alloc, table, text_of(graph, path))?;
-        push_behind(graph, path, &mut is_seen, &mut open)?;
+        let before = table.len();
+        declared
+            .names
+            .add_to(alloc, table, text_of(declared.graph, path))?;
+        if before < table.len() {
+            push_behind(declared.graph, path, &mut open)?;
+        }
     }
     Ok(())
 }
 
-/// Where a phony edge makes the path, its inputs are put at the end, unless that was done before.
-fn push_behind(
-    graph: &Graph,
-    path: PathId,
-    is_seen: &mut Vec<bool>,
-    open: &mut Vec<PathId>,
-) -> Result<(), AllocError> {
+/// Where a phony edge makes the path, its inputs are put at the end.
+fn push_behind(graph: &Graph, path: PathId, open: &mut Vec<PathId>) -> Result<(), AllocError> {
     if let Some(alias) = graph.alias(path) {
-        if marks(is_seen, alias.index()) {
-            open.extend_from_slice(graph.regular_inputs(alias))?;
-        }
+        open.extend_from_slice(regular_inputs_of(graph, alias))?;
     }
     Ok(())
 }

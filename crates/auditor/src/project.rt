@@ -4,6 +4,7 @@ use crate::above::above;
 use crate::around::Names;
 use crate::given::by_given_names;
 use crate::graphs::{is_command, outputs_of, text_of};
+use crate::later::Later;
 use crate::listed::{Declared, lists_of};
 use crate::tally::Tally;
 use crate::twins::Twins;
@@ -277,10 +278,11 @@ impl Auditor {
         uses: &Uses,
         tally: &mut Tally,
     ) -> Result<(), AllocError> {
+        let later = Later::of(self.alloc, lists, uses)?;
         for place in 0..uses.len() {
             let missed = uses.path(place).unwrap_or("");
             if is_missing(uses.used(place)) && self.names.counts(missed) {
-                if let Some(found) = found_later(lists, uses, place, name_in(missed)) {
+                if let Some(found) = later.at(uses, place) {
                     self.tell_first(edge, missed, found, tally)?;
                 }
             }
@@ -344,31 +346,5 @@ fn is_missing(used: Option<Use>) -> bool {
             used.misses && !used.reads && !used.asks && !used.writes && !used.is_folder
         }
         None => false,
-    }
-}
-
-/// The first reported path of this name that was read, among those from this place on.
-fn found_later<'u>(lists: &Lists, uses: &'u Uses, place: usize, name: &str) -> Option<&'u str> {
-    for later in place..uses.len() {
-        let path = uses.path(later)?;
-        if name_in(path) == name && is_read(uses.used(later)) && has(&lists.reported, path) {
-            return Some(path);
-        }
-    }
-    None
-}
-
-fn is_read(used: Option<Use>) -> bool {
-    match used {
-        Some(used) => used.reads,
-        None => false,
-    }
-}
-
-/// The last part of a path.
-fn name_in(path: &str) -> &str {
-    match path.rsplit_once('/') {
-        Some((_, name)) => name,
-        None => path,
     }
 }
