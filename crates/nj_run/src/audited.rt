@@ -11,13 +11,14 @@ ghost use Rattle.nj_run.specs.Texts.{Adds, no_tracer};
 
 use crate::looked::look;
 use crate::noted::Noted;
-use crate::program::{build_on, build_options};
+use crate::program::{build_on, build_options, recall};
 use crate::told;
 use crate::tracer::tracer;
 use auditor::Tally;
 use builder::{Options, Report};
 use command_line::Options as Asked;
 use host::{Host, Trouble};
+use status::Pattern;
 use std::alloc::Global;
 use std::io::Write;
 use std::{env, io};
@@ -81,7 +82,13 @@ fn audit_here<W: Write>(
     let folder = env::current_dir(rt)?;
     let (options, targets) = build_options(alloc, asked, pattern)?;
     let mut host = traced_host(rt, program, out);
+    host.draw(
+        noted.look(asked.verbose),
+        pattern.unwrap_or(Pattern::DEFAULT),
+    );
     let report = build_on(alloc, &mut host, asked, pattern, noted);
+    host.finish_screen();
+    recall(&mut host, asked.keep, &report);
     noted.waited(host.wait_for_clock());
     noted.built(&mut host, asked.file, &report);
     let tally = match folder.to_str() {

@@ -188,7 +188,7 @@ fn build_here<W: Write>(
 }
 
 /// Tells once more which outputs failed, where rows are drawn and more than one command may fail.
-fn recall<W: Write>(host: &mut Host<'_, W>, keep: u32, report: &Report) {
+pub(crate) fn recall<W: Write>(host: &mut Host<'_, W>, keep: u32, report: &Report) {
     if keep == 1 {
         return;
     }
