@@ -4,6 +4,7 @@
 mod above;
 mod around;
 mod dyndeps;
+mod folders;
 mod given;
 mod graphs;
 mod later;

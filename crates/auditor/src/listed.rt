@@ -42,13 +42,9 @@ fn fill(
     let Declared { graph, .. } = declared;
     let order_only = order_only_inputs_of(graph, edge);
     push_paths(alloc, declared, outputs_of(graph, edge), &mut lists.outputs)?;
-    push_through(
-        alloc,
-        declared,
-        regular_inputs_of(graph, edge),
-        &mut lists.inputs,
-    )?;
-    push_through(alloc, declared, order_only, &mut lists.order_only)?;
+    let inputs = regular_inputs_of(graph, edge);
+    push_through(alloc, declared, inputs, false, &mut lists.inputs)?;
+    push_through(alloc, declared, order_only, true, &mut lists.order_only)?;
     push_all_reported(alloc, declared, edge, &mut lists.reported)?;
     lists.restat = push_sides(alloc, declared, edge, &mut lists.sides)?;
     Ok(())
@@ -117,11 +113,13 @@ fn push_paths(
     Ok(())
 }
 
-/// Takes in these paths, into a table that has none, and where a phony edge makes one its inputs too, and so on.
+/// Takes in these paths, into a table that has none, and where a phony edge makes one its inputs too, and so on; with the order-only ones of
+/// phony edges, or without.
 fn push_through(
     alloc: Global,
     declared: Declared<'_>,
     inputs: &[PathId],
+    with_order_only: bool,
     table: &mut Paths,
 ) -> Result<(), AllocError> {
     let mut open = Vec::from_slice(alloc, inputs)?;
@@ -134,16 +132,25 @@ fn push_through(
             .names
             .add_to(alloc, table, text_of(declared.graph, path))?;
         if before < table.len() {
-            push_behind(declared.graph, path, &mut open)?;
+            push_behind(declared.graph, path, with_order_only, &mut open)?;
         }
     }
     Ok(())
 }
 
 /// Where a phony edge makes the path, its inputs are put at the end.
-fn push_behind(graph: &Graph, path: PathId, open: &mut Vec<PathId>) -> Result<(), AllocError> {
-    if let Some(alias) = graph.alias(path) {
-        open.extend_from_slice(regular_inputs_of(graph, alias))?;
+fn push_behind(
+    graph: &Graph,
+    path: PathId,
+    with_order_only: bool,
+    open: &mut Vec<PathId>,
+) -> Result<(), AllocError> {
+    let Some(alias) = graph.alias(path) else {
+        return Ok(());
+    };
+    open.extend_from_slice(regular_inputs_of(graph, alias))?;
+    if with_order_only {
+        open.extend_from_slice(order_only_inputs_of(graph, alias))?;
     }
     Ok(())
 }

@@ -2,6 +2,7 @@
 
 use crate::above::above;
 use crate::around::Names;
+use crate::folders::push_folders;
 use crate::given::by_given_names;
 use crate::graphs::{is_command, outputs_of, text_of};
 use crate::later::Later;
@@ -15,7 +16,7 @@ use links::Graph;
 use paths::{EdgeId, PathId, Paths};
 use std::alloc::{AllocError, Global};
 use text::{Items, Path};
-use trace::{Deed, Told, read};
+use trace::{Told, read};
 
 /// What is declared and recorded, all of it as it is after the build.
 #[derive(Drop)]
@@ -114,13 +115,13 @@ impl Auditor {
     /// What a trace tells of a command, if it is understood.
     fn told_in(&self, trace: &[u8]) -> Result<Option<Items<Whole>>, AllocError> {
         match read(self.alloc, self.names.folder().as_bytes(), trace)? {
-            Told::Facts(facts) => self.with_folder(wholes_of(self.alloc, facts.as_slice())?),
+            Told::Facts(facts) => self.with_folders(wholes_of(self.alloc, facts.as_slice())?),
             Told::NotUnderstood => Ok(None),
         }
     }
 
-    /// The same, by the names that were given, and that the command began in the working folder, which is a folder.
-    fn with_folder(
+    /// The same, by the names that were given, and which folders that shows.
+    fn with_folders(
         &self,
         wholes: Option<Items<Whole>>,
     ) -> Result<Option<Items<Whole>>, AllocError> {
@@ -128,11 +129,7 @@ impl Auditor {
             return Ok(None);
         };
         let mut wholes = by_given_names(self.alloc, &self.names, wholes)?;
-        wholes.push(Whole {
-            deed: Deed::Folder,
-            path: Path::from_str(self.alloc, self.names.folder())?,
-            real: None,
-        })?;
+        push_folders(self.alloc, self.names.folder(), &mut wholes)?;
         Ok(Some(wholes))
     }
 
