@@ -8,7 +8,7 @@ invariant_of-self c = record {
   restart = c.self.invariant.restart;
   room =
       let room = c.self.invariant.room in
-      let same = as_many c.self.inside.commands.items c.some_runs.new.commands.items c.some_runs.ensures in
+      let same = as_many c.self.inside.commands.items c.some_runs.new.commands.items c.some_runs.ensures.jobs in
       omega (arith, room, same);
-  listed = λ job. ap (times job) c.some_runs.ensures ∙ c.self.invariant.listed job;
+  listed = λ job. ap (times job) c.some_runs.ensures.jobs ∙ c.self.invariant.listed job;
 }
