@@ -4,7 +4,7 @@ use crate::found::deed_of;
 use audit::{Around, Lists, Uses, Whole, breaches, uses_of};
 use paths::Paths;
 use std::alloc::{AllocError, Global};
-use tables::word;
+use tables::{push_word, word};
 use text::{Items, Path};
 use trace::Deed;
 
@@ -84,8 +84,7 @@ fn push_breaches(
         arounds.push(around(path, &made, &above))?;
     }
     for breach in breaches(alloc, lists, arounds.as_slice(), uses)?.as_slice() {
-        told.push(' ')?;
-        told.push_str(breach.finding.verb())?;
+        push_word(told, breach.finding.verb())?;
         told.push(' ')?;
         told.push_str(uses.path(breach.place).unwrap_or(""))?;
         told.push_str(breach.finding.why())?;
