@@ -1,5 +1,5 @@
 -- Lists of what is said, one for each.
-use Rattle.std.proofs.Common.{List, [], ◌∷◌, ◌++◌, tt, absurd}
+use Rattle.std.proofs.Common.{List, [], ◌∷◌, ◌++◌}
 use Rattle.std.specs.List.{AllZip}
 
 -- one more of each

@@ -1,5 +1,5 @@
 -- What is told of the commands that are due.
-use Rattle.std.specs.Prelude.{◌≡◌, Bool, List, ℕ, Option}
+use Rattle.std.specs.Prelude.{◌≡◌, Bool, List, ℕ}
 use Rattle.std.specs.List.{AllZip}
 use Rattle.std.specs.Option.{option_map}
 use Rattle.model.specs.declared.graph.BuildGraph.{BuildGraph}

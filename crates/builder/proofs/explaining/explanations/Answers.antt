@@ -6,6 +6,9 @@ use Rattle.reasons.specs.declared.told.DueCommand.{DueCommand}
 use Rattle.builder.proofs.Said.{one_more}
 use Rattle.builder.proofs.explaining.explanations.Goals as goal
 
+pub loop-command-init : goal.loop-command-init
+loop-command-init c = subst (λ (all : List Explanation). AreSaid c.args.graph.now [] all) (sym {A = List Explanation} c.new-all.ensures.items) tt
+
 pub explanation-requires : goal.explanation-requires
 explanation-requires c =
     subst (λ (command : DueCommand). command.edge < length c.args.graph.now.manifest.lines) (sym {A = DueCommand} c.command-item.is)

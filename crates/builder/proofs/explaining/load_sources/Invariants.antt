@@ -4,7 +4,6 @@ use Rattle.model.specs.Calls.{OnlyLooks}
 use Rattle.model.specs.Phases.{Phase}
 use Rattle.links.specs.Told.{declared_by}
 use Rattle.runner.specs.Course.{Course}
-use Rattle.runner.specs.Going.{AreSet}
 use Rattle.builder.specs.Going.{BeginsAt, files_left}
 use Rattle.builder.proofs.explaining.load_sources.Given as goal
 

@@ -1,4 +1,4 @@
-use Rattle.std.proofs.Common.{List, ℕ, ◌<◌, length, subst}
+use Rattle.std.proofs.Common.{◌<◌, length, subst}
 use Rattle.std.specs.List.{flat_map}
 use Rattle.links.specs.Links.{links_of}
 use Rattle.reasons.specs.Why.{HaveAsked}

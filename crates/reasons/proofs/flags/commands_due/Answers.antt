@@ -1,5 +1,4 @@
 use Rattle.std.proofs.Common.{◌≡◌, ◌∙◌, ◌&&◌, ◌+◌, ◌∷◌, [], ℕ, Bool, List, not, length, sym, ap, subst, arith}
-use Rattle.std.proofs.lemmas.List.{length-append}
 use Rattle.links.specs.Links.{links_of}
 use Rattle.dues.specs.Dues.{due_at}
 use Rattle.reasons.specs.Why.{AreCommands}

@@ -1,5 +1,5 @@
 use Rattle.std.proofs.Common.{◌≡◌, ◌<◌, ℕ, Bool, true, false, [], Some, length, get_or, sym, ◌∙◌, ap, subst, arith}
-use Rattle.reasons.specs.Why.{seen_output, holds_of_output, output_tells}
+use Rattle.reasons.specs.Why.{seen_output, holds_of_output}
 use Rattle.reasons.proofs.Firsts.{at_has, found_at, passed_at, none_past}
 use Rattle.reasons.proofs.Taking.{tells_alone}
 use Rattle.reasons.proofs.outputs.first_output.Goals as goal
