@@ -5,11 +5,19 @@ use audit::{Use, Uses};
 use paths::{PathId, Paths};
 use std::alloc::{AllocError, Global};
 
-/// Files outside of the folder that no build line names, each once: those that were read, and those that were written and left.
+const READ: &str = "read outside of the folder";
+
+const WRITTEN: &str = "written outside of the folder";
+
+const LOOKED: &str = "looked for, and then found outside of the folder";
+
+/// Files outside of the folder that no build line names, each once: those that were read, and those that were written and left. Beside them those
+/// of the folder that were looked for and were not there, before such a one was read that was reported.
 #[derive(Drop)]
 pub struct Outside {
     read: Paths,
     written: Paths,
+    looked: Paths,
 }
 
 /// Folders, and how many files were seen in each.
@@ -25,7 +33,14 @@ impl Outside {
         Outside {
             read: Paths::new(alloc),
             written: Paths::new(alloc),
+            looked: Paths::new(alloc),
         }
+    }
+
+    /// Takes in that a file was looked for before one outside of the folder.
+    pub fn look(&mut self, alloc: Global, path: &str) -> Result<(), AllocError> {
+        self.looked.add(alloc, path)?;
+        Ok(())
     }
 
     /// Takes in what a command did.
@@ -58,11 +73,13 @@ impl Outside {
         lines: &mut String,
     ) -> Result<(), AllocError> {
         if is_listed {
-            push_files(alloc, "read", &self.read, lines)?;
-            return push_files(alloc, "written", &self.written, lines);
+            push_files(alloc, READ, &self.read, lines)?;
+            push_files(alloc, WRITTEN, &self.written, lines)?;
+            return push_files(alloc, LOOKED, &self.looked, lines);
         }
-        push_folders(alloc, "read", &self.read, lines)?;
-        push_folders(alloc, "written", &self.written, lines)
+        push_folders(alloc, READ, &self.read, lines)?;
+        push_folders(alloc, WRITTEN, &self.written, lines)?;
+        push_folders(alloc, LOOKED, &self.looked, lines)
     }
 }
 
@@ -74,7 +91,7 @@ fn push_files(
 ) -> Result<(), AllocError> {
     for place in 0..files.len() {
         let path = path_at(files, place);
-        let line = format!(in alloc; "note: {done} outside of the folder: {path}\n")?;
+        let line = format!(in alloc; "note: {done}: {path}\n")?;
         lines.push_str(line.as_str())?;
     }
     Ok(())
@@ -90,9 +107,7 @@ fn push_folders(
     for place in 0..counts.folders.len() {
         let folder = path_at(&counts.folders, place);
         let count = counts.counts.get(place).copied().unwrap_or(0);
-        let line = format!(in alloc;
-            "note: {done} outside of the folder: {folder}/, files: {count}\n"
-        )?;
+        let line = format!(in alloc; "note: {done}: {folder}/, files: {count}\n")?;
         lines.push_str(line.as_str())?;
     }
     Ok(())

@@ -267,7 +267,7 @@ impl Auditor {
     }
 
     /// Notes of each file that was looked for and is not there, where a reported one of the same name was read after it: made later, it
-    /// would change the outcome.
+    /// would change the outcome. Where that one stands outside of the folder, as headers of a compiler do, the note is told in sum.
     fn tell_looked(
         &self,
         edge: EdgeId,
@@ -294,6 +294,9 @@ impl Auditor {
         found: &str,
         tally: &mut Tally,
     ) -> Result<(), AllocError> {
+        if !self.names.counts(found) {
+            return tally.outside.look(self.alloc, missed);
+        }
         let missed = self.names.short(missed);
         let found = self.names.short(found);
         let note = format!(in self.alloc;
