@@ -39,6 +39,9 @@ class Ground:
         os.chmod(self.folder, 0o755)
         # Whoever is not root can run a copy here, wherever the program stands.
         self.nj = os.path.join(self.folder, "nj")
+        # What stands in ninja's place, and a part of the names of trees: it is tried on these alone.
+        self.stand_in = self.nj
+        self.only = ""
         shutil.copy(nj, self.nj)
         os.chmod(self.nj, 0o755)
         self.ninja = shutil.which("ninja")

@@ -106,7 +106,7 @@ module _ (edges : List Edge) (steps : List Done) (kept : IsKept edges steps) whe
 pub outputs_untouched : (tells : Bool) (own : OwnFiles) (task : Task) (steps : List Done) (old now : World) → IsIdle old.events → IsRunOrRest tells own task steps old now → IsTrue tells
     → FilesAreKept own task.graph.edges old.history now.history → IsMadeOnce task.graph.edges → (i : ℕ) → IsCommand task.graph.edges i → has_number (judged_in steps) i ≡ false
     → AreUntouched task.graph.edges old.history now.history i
-outputs_untouched tells own task steps old now idle rest tell files once i command fresh o h = ap stamp_of (elim (unchanged tells own task steps old now idle rest tell files o) [
+outputs_untouched tells own task steps old now idle rest tell files once i command fresh o h = ap stamp_of (elim (unchanged tells own task steps old now idle rest tell files.free files.commands files.edits o) [
   | inl same ↦ same
   | inr (inl may) ↦ absurd (may_not own task.graph.edges steps (kept_orderly task.graph.edges steps rest.orderly) files.own_files once i command fresh o (inl h) may)
   | inr (inr free) ↦ absurd (false≢true (sym (files.free_apart.outputs i o (inl command) h) ∙ free))
