@@ -15,3 +15,4 @@ mod whys;
 pub use alone::{Alone, build_alone, explain_alone};
 pub use noted::Noted;
 pub use program::{build_on, explain_on, run, run_watched};
+pub use whys::tell_why;

@@ -21,7 +21,7 @@ pub(crate) fn tell<W: Write>(alloc: Global, explained: &Explained, out: &mut W) 
 
 fn tell_all<W: Write>(alloc: Global, explained: &Explained, out: &mut W) -> io::Result<()> {
     for explanation in &explained.commands {
-        tell_one(alloc, explanation, out)?;
+        tell_why(alloc, explanation, out)?;
     }
     if let Some(file) = &explained.unloaded {
         return writeln!(out, "nj: more may follow: {file} is yet to be loaded");
@@ -32,8 +32,8 @@ fn tell_all<W: Write>(alloc: Global, explained: &Explained, out: &mut W) -> io::
     Ok(())
 }
 
-/// Tells why the command is due.
-fn tell_one<W: Write>(alloc: Global, explanation: &Explanation, out: &mut W) -> io::Result<()> {
+/// Tells why the command is due, in one line.
+pub fn tell_why<W: Write>(alloc: Global, explanation: &Explanation, out: &mut W) -> io::Result<()> {
     let output = &explanation.output;
     write!(out, "{output}: ")?;
     tell_reason(alloc, explanation, out)?;
@@ -195,7 +195,7 @@ fn is_same(first: Option<&&str>, second: Option<&&str>) -> bool {
 }
 
 /// The words but so many at the end.
-fn without_last<'a, 'b>(words: &'a [&'b str], count: usize) -> &'a [&'b str] {
+fn without_last<'a>(words: &'a [&'a str], count: usize) -> &'a [&'a str] {
     words
         .get(..words.len().saturating_sub(count))
         .unwrap_or(&[])

@@ -126,13 +126,13 @@ impl<'a> Rows<'a> {
             let (heading, words) = word(rest);
             let heading = plain(alloc, heading)?;
             let ran = stand_in_run_of(&self.folder, Some(heading.as_str()), words)?;
-            return push_ran(alloc, &ran, told);
+            return push_ran(&ran, told);
         }
         let ran = stand_in_run_of(&self.folder, None, rest)?;
         if first == "status_ninja" {
-            return push_status(alloc, ran.status, told);
+            return push_status(ran.status, told);
         }
-        push_ran(alloc, &ran, told)
+        push_ran(&ran, told)
     }
 
     /// `documented PAGE`: the options of the help, where the page has the same. `version PAGE`: the version of the help, where the page has

@@ -6,4 +6,5 @@ pub mod Looking
 pub mod Opening
 pub mod Ready
 pub mod Stages
+pub mod Telling
 pub mod Turning

@@ -8,6 +8,8 @@ use Rattle.model.specs.World.{IsIdle, View, World}
 use Rattle.build_theory.specs.Seen.{Looked}
 use Rattle.build_theory.proofs.Looks.{looks_nothing}
 use Rattle.tools.specs.declared.declared.Declared.{Declared}
+use Rattle.tools.specs.declared.fault.Fault.{Fault as Refusal}
+use Rattle.tools.specs.declared.fault.Fault.TheVariants as no_memory
 use Rattle.builder.specs.declared.report.Options.{Options}
 use Rattle.builder.specs.declared.report.Report.{Report}
 use Rattle.builder.specs.declared.report.Report.TheVariants.{Fault, Success}
@@ -16,7 +18,7 @@ use Rattle.stand_in.specs.declared.build.Ended.{Ended}
 use Rattle.stand_in.specs.declared.build.Next.{Next}
 use Rattle.stand_in.specs.declared.build.Next.TheVariants.{Build, ReadAnew, End as EndsBy}
 use Rattle.stand_in.specs.declared.build.Outcome.{Outcome as End}
-use Rattle.stand_in.specs.declared.build.Outcome.TheVariants.{Built, NotRebuilt, Refused, WouldRun}
+use Rattle.stand_in.specs.declared.build.Outcome.TheVariants.{Built}
 use Rattle.stand_in.proofs.Stages.{alone_looks, end_by, fault_end, next_by, prepared_at, prepared_by}
 
 module _ (tells : Bool) (outcome : Act → View → Outcome) (options : Options) where
@@ -42,10 +44,28 @@ module _ (tells : Bool) (outcome : Act → View → Outcome) (options : Options)
     none_ran new first next looked (inl is) none same = subst (λ (n : Next). IsNext tells outcome options entry old new (Ok n)) (sym is) (subst (λ (w : World). Looked tells w new) (same (none is)) looked)
     none_ran new first next looked (inr is) none same = subst (λ (n : Next). IsNext tells outcome options entry old new (Ok n)) (sym is) (turned new looked.looks)
 
-  -- what is told where nothing is run
-  pub said_end : (entry new : World) → IsPrepared tells outcome options entry new → OnlyLooks tells entry new → (end : End) → (end ≡ WouldRun) ⊎ (end ≡ Built (Success 0)) → IsEndOf tells outcome options entry new end
-  said_end entry new prepared looks end (inl is) = subst (λ (e : End). IsEndOf tells outcome options entry new e) (sym is) looks
-  said_end entry new prepared looks end (inr is) = subst (λ (e : End). IsEndOf tells outcome options entry new e) (sym is) (inr (refl, prepared))
+  -- what comes next, by what that is
+  pub next_end : (entry old new : World) (next : Next) (end : End) → next ≡ EndsBy end → IsNext tells outcome options entry old new (Ok next) → IsEndOf tells outcome options entry new end
+  next_end entry old new next end is comes = subst (λ (n : Next). IsNext tells outcome options entry old new (Ok n)) is comes
 
+  pub next_build : (entry old new : World) (next : Next) → next ≡ Build → IsNext tells outcome options entry old new (Ok next) → Looked tells old new
+  next_build entry old new next is comes = subst (λ (n : Next). IsNext tells outcome options entry old new (Ok n)) is comes
+
+  pub next_anew : (entry old new : World) (next : Next) (is_old : Bool) → next ≡ ReadAnew is_old → IsNext tells outcome options entry old new (Ok next) → IsPrepared tells outcome options entry new
+  next_anew entry old new next is_old is comes = subst (λ (n : Next). IsNext tells outcome options entry old new (Ok n)) is comes
+
+  -- an outcome that is known
   pub end_as : (entry new : World) (ended : Ended) (end : End) → ended.outcome ≡ end → IsEndOf tells outcome options entry new end → IsEndOf tells outcome options entry new (end_in (Ok ended))
   end_as entry new ended end is ends = subst (λ (e : End). IsEndOf tells outcome options entry new e) (sym is) ends
+
+-- what is said where there was no memory
+pub goes_by : {A : Type 0} {P : Type 0} (r : Result A Refusal) (fault : Refusal) → r ≡ Err fault → fault ≡ no_memory.Memory → IfErr r (λ (told : Refusal). told ≡ no_memory.Memory → P) → P
+goes_by {A = A} (Ok value) fault is none so = absurd (ok_err value fault is)
+  where
+    ok_err : (value : A) (fault : Refusal) → Ok value ≡ Err fault → ⊥
+    ok_err value fault is = cc
+goes_by {A = A} (Err told) fault is none so = so (ap (err_of told) is ∙ none)
+  where
+    err_of : Refusal → Result A Refusal → Refusal
+    err_of other (Ok value) = other
+    err_of other (Err error) = error

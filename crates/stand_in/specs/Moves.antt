@@ -19,7 +19,7 @@ use Rattle.stand_in.specs.declared.build.Ended.{Ended}
 use Rattle.stand_in.specs.declared.build.Next.{Next}
 use Rattle.stand_in.specs.declared.build.Next.TheVariants.{Build, ReadAnew, End as EndsBy}
 use Rattle.stand_in.specs.declared.build.Outcome.{Outcome as End}
-use Rattle.stand_in.specs.declared.build.Outcome.TheVariants.{Built, Refused, NotRebuilt, WouldRun}
+use Rattle.stand_in.specs.declared.build.Outcome.TheVariants.{Built, Refused, NotRebuilt}
 
 -- it only looked, and the last call was answered by this fault, or there was no memory for what came behind it
 pub record FailedAt (tells : Bool) (old new : World) (fault : SiteFault) : Type 0 where
@@ -102,7 +102,6 @@ IsEndOf tells outcome options old new (Refused fault) = IsPrepared tells outcome
 IsEndOf tells outcome options old new (NotRebuilt None) = IsPrepared tells outcome options old new
 IsEndOf tells outcome options old new (NotRebuilt (Some report)) =
     (entry : World) × OnlyLooks tells old entry × EndsFirst tells outcome options entry new report
-IsEndOf tells outcome options old new WouldRun = OnlyLooks tells old new
 
 -- ---- on the way
 

@@ -11,7 +11,7 @@ ghost use Rattle.stand_in.specs.Moves.{ComesNext, ComesOnceBuilt, EndsOncePrepar
 use crate::above::{Above, all_above};
 use crate::given::Options as Given;
 use crate::place::Place;
-use crate::regenerating::{Regenerated, regenerate, would_run};
+use crate::regenerating::{Regenerated, regenerate};
 use crate::targets::{Targets, left_targets};
 use builder::{Asked, Options, Report, build, build_graph_read, link, own_folder};
 use depfile::has_reading;
@@ -34,8 +34,6 @@ pub enum Outcome {
     Refused(Fault),
     /// A generator failed, or what it needs could not be built. There is a report of the second.
     NotRebuilt(Option<Report>),
-    /// Nothing was to be run, and for these targets a generator would.
-    WouldRun,
 }
 
 /// How the whole ended, and whether the file is out of date still behind its generator.
@@ -126,9 +124,6 @@ fn try_build<S: Place>(
     ensures { IsEndOf S.tells S.outcome options.now (S.world site.old) (S.world site.new) (end_in result) }
 {
     let mut declared = read_alone(alloc, site, options.file.as_str())?;
-    if given.dry {
-        return only_say(alloc, site, given, options, &mut declared);
-    }
     build_declared(alloc, site, given, options, &mut declared)
 }
 
@@ -145,11 +140,15 @@ fn build_declared<S: Place>(
     ensures { EndsOnceRead S.tells S.outcome options.now declared.old (S.world site.old) (S.world site.new) (end_in result) }
 {
     let above = all_above(alloc, declared, options.file.as_str())?;
-    match before_build(alloc, site, declared, &above, options)? {
+    let next = before_build(alloc, site, declared, &above, options)?;
+    match next {
         Next::End(outcome) => Ok(Ended::by(outcome)),
         Next::Build => {
             let outcome = build_rest(alloc, site, given, options, declared, &above)?;
-            Ok(Ended::by(outcome))
+            Ok(Ended {
+                outcome,
+                old: false,
+            })
         }
         Next::ReadAnew { old } => {
             let outcome = build_anew(alloc, site, given, options)?;
@@ -269,11 +268,8 @@ fn build_rest<S: Place>(
     ensures { EndsOnceReady S.tells S.outcome options.now declared.old (S.world site.old) (S.world site.new) (outcome_in result) }
 {
     match left_targets(alloc, site, declared, given.words.as_slice(), above) {
-        Ok(Targets::Default) => build_these(alloc, site, options, declared, &[]),
-        Ok(Targets::Named(paths)) => {
-            build_these(alloc, site, options, declared, paths.as_slice())
-        }
         Ok(Targets::Nothing) => Ok(Outcome::Built(Report::Success { started: 0 })),
+        Ok(left) => build_these(alloc, site, options, declared, left.as_slice()),
         Err(Fault::Memory) => Err(Report::Fault(SiteFault::Memory)),
         Err(fault) => Ok(Outcome::Refused(fault)),
     }
@@ -297,40 +293,4 @@ fn build_these<S: Place>(
     let graph = &mut declared.graph;
     let asked = Asked::new(alloc, options, targets, &graph.manifest.builddir)?;
     Ok(Outcome::Built(build_graph_read(alloc, site, graph, &asked, options)))
-}
-
-/// Says of targets that generators make whether one would run. Of others nothing can be said yet.
-fn only_say<S: Place>(
-    alloc: Global,
-    site: &mut S,
-    given: &Given<'_>,
-    options: &Options,
-    declared: &mut Declared,
-) -> Result<Ended, Report>
-    requires read { (entry : World) × WasReadAlone S.tells options.now.file entry (S.world site.old) declared.old }
-    ensures { EndsOnceRead S.tells S.outcome options.now declared.old (S.world site.old) (S.world site.new) (end_in result) }
-{
-    let above = all_above(alloc, declared, options.file.as_str())?;
-    match left_targets(alloc, site, declared, given.words.as_slice(), &above) {
-        Ok(Targets::Nothing) => {
-            let outcome = said_of(would_run(alloc, site, declared, &above)?);
-            Ok(Ended::by(outcome))
-        }
-        Ok(_) => Ok(Ended::by(Outcome::Refused(Fault::Expected(
-            "-n is there for targets alone that a generator of the build file makes",
-        )))),
-        Err(Fault::Memory) => Err(Report::Fault(SiteFault::Memory)),
-        Err(fault) => Ok(Ended::by(Outcome::Refused(fault))),
-    }
-}
-
-/// What is said where nothing is run.
-fn said_of(would_run: bool) -> Outcome
-    ensures { (result ≡ Outcome.WouldRun) ⊎ (result ≡ Outcome.Built (Report.Success 0)) }
-{
-    if would_run {
-        Outcome::WouldRun
-    } else {
-        Outcome::Built(Report::Success { started: 0 })
-    }
 }

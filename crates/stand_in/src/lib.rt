@@ -3,6 +3,7 @@
 
 mod above;
 mod build;
+mod due;
 mod given;
 mod heading;
 mod judge;

@@ -3,12 +3,13 @@
 ghost use Rattle.std.specs.Prelude.{◌≤◌, IfOk};
 
 use crate::build::{Ended, build_here};
+use crate::due::{Due, due_here};
 use crate::given::{Asked, Options as Given, Shown};
 use crate::heading::{Heading, HeadingFault};
 use crate::patient::Patient;
 use crate::processors::default_jobs;
 use crate::screen::{Front, PATTERN, Screen};
-use crate::told;
+use crate::told::{self, Telling};
 use crate::tools_here::{Asking, NoAnswer, answer};
 use crate::words::asked;
 use builder::{Options, Report};
@@ -102,22 +103,48 @@ fn build_under<W: Write + Drop, E: Write>(
     if !enter(rt, given, err)? {
         return Ok(1);
     }
-    if given.explain {
-        return told::error("-d explain is not there yet", err);
-    }
     if given.keeps {
         writeln!(out, "ninja: -d keepdepfile and -d keeprsp do nothing here")?;
         out.flush()?;
     }
+    if given.dry || given.explain {
+        let status = tell_due(rt, given, heading, out, err)?;
+        if given.dry {
+            return Ok(status);
+        }
+    }
     let (ended, trouble) = build_in(rt, given, heading, out)?;
-    let telling = told::Telling {
-        file: given.file,
-        keep: given.keep,
-        shown: given.shown,
-        stats: given.stats,
-        trouble: trouble.as_ref(),
+    let trouble = trouble.as_ref();
+    told::ended(&ended, Telling::new(given.file, given, trouble), out, err)
+}
+
+/// Tells what is due, and why, before anything runs. What is refused tells the build, where there is one.
+fn tell_due<W: Write + Drop, E: Write>(
+    rt: &HostRuntime,
+    given: &Given<'_>,
+    heading: &Heading,
+    out: &mut W,
+    err: &mut E,
+) -> io::Result<u8>
+    ensures { IfOk result (λ status. status ≤ 3) }
+{
+    let (due, trouble) = due_in(rt, given, heading, out)?;
+    let due = match due {
+        Ok(due) => due,
+        Err(fault) => {
+            if !given.dry {
+                return Ok(1);
+            }
+            return no_answer(&fault, trouble.as_ref(), err);
+        }
     };
-    told::ended(&ended, telling, out, err)
+    if given.explain {
+        told::why(rt.alloc(), &due, given.file, err)?;
+    }
+    if !given.dry {
+        return Ok(0);
+    }
+    told::would_run(&due, given.file, given.shown, out)
 }
 
 fn unknown_field<E: Write>(letter: u8, err: &mut E) -> io::Result<u8>
@@ -141,27 +168,45 @@ fn tell_folder<W: Write>(given: &Given<'_>, out: &mut W) -> io::Result<()> {
 }
 
 /// Builds in the working folder. With a fault of the site comes what the device refused last.
-fn build_in<W: Write + Drop>(
-    rt: &HostRuntime,
+fn build_in<'a, W: Write + Drop>(
+    rt: &'a HostRuntime,
     given: &Given<'_>,
-    heading: &Heading,
-    out: &mut W,
+    heading: &'a Heading,
+    out: &'a mut W,
 ) -> io::Result<(Ended, Option<Trouble>)> {
     let alloc = rt.alloc();
     let jobs = given.jobs.unwrap_or_else(|| jobs_here(rt));
     let options = build_options(alloc, given, jobs)?;
-    let front = Front {
-        heading,
-        shown: given.shown,
-        jobs,
-    };
-    let screen = Screen::new(rt, alloc, out, front)?;
+    let screen = Screen::new(rt, alloc, out, front_of(given, heading, jobs))?;
     let mut site = Patient::new(rt, Host::new(alloc, rt, screen), given.load);
     let ended = build_here(alloc, &mut site, given, &options);
     let mut host = site.into_site();
     // where the clock stands still for seconds there is nothing more to do about it
     let _ = host.wait_for_clock();
     Ok((ended, host.into_trouble()))
+}
+
+/// What is due in the working folder. With a fault of the site comes what the device refused last.
+fn due_in<'a, W: Write + Drop>(
+    rt: &'a HostRuntime,
+    given: &Given<'_>,
+    heading: &'a Heading,
+    out: &'a mut W,
+) -> io::Result<(Result<Due, NoAnswer>, Option<Trouble>)> {
+    let alloc = rt.alloc();
+    let options = build_options(alloc, given, 1)?;
+    let screen = Screen::new(rt, alloc, out, front_of(given, heading, 1))?;
+    let mut host = Host::new(alloc, rt, screen);
+    let due = due_here(alloc, &mut host, given, &options);
+    Ok((due, host.into_trouble()))
+}
+
+fn front_of<'a>(given: &Given<'_>, heading: &'a Heading, jobs: u32) -> Front<'a> {
+    Front {
+        heading,
+        shown: given.shown,
+        jobs,
+    }
 }
 
 fn build_options(alloc: Global, given: &Given<'_>, jobs: u32) -> Result<Options, AllocError> {

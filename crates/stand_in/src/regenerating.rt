@@ -146,12 +146,25 @@ fn show_line<S: Site>(
         running: 1,
         finished: turn.done,
     };
+    show_command(alloc, site, command, &counts, turn.options)
+}
+
+/// Shows the line of a command under these counts.
+pub fn show_command<S: Site>(
+    alloc: Global,
+    site: &mut S,
+    command: &Command,
+    counts: &Counts,
+    options: &Options,
+) -> Result<(), SiteFault>
+    ensures { AsksWell S.tells (S.world site.old) (S.world site.new) result }
+{
     let said = said_of(
-        turn.options.verbose,
+        options.verbose,
         command.description.as_str(),
         command.act.command.as_str(),
     );
-    let line = line(alloc, &turn.options.pattern, &counts, said)?;
+    let line = line(alloc, &options.pattern, counts, said)?;
     site.show(line.as_slice())
 }
 

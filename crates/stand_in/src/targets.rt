@@ -24,6 +24,20 @@ pub enum Targets {
     Nothing,
 }
 
+impl Targets {
+    pub fn is_nothing(&self) -> bool {
+        matches!(self, Targets::Nothing)
+    }
+
+    /// Those that are named; none stands for what the build files say.
+    pub fn as_slice(&self) -> &[Text] {
+        match self {
+            Targets::Named(paths) => paths.as_slice(),
+            Targets::Default | Targets::Nothing => &[],
+        }
+    }
+}
+
 /// The targets that words ask for, without the file that was read and without what its generators make.
 pub fn left_targets<S: Site>(
     alloc: Global,

@@ -4,10 +4,13 @@ ghost use Rattle.std.specs.Prelude.{◌≡◌, ◌≤◌, IfOk};
 ghost use Rattle.stand_in.specs.Ends.{why_stopped};
 
 use crate::build::{Ended, Outcome};
-use crate::given::{Information, Shown, WordFault};
-use builder::Report;
+use crate::due::Due;
+use crate::given::{Information, Options, Shown, WordFault};
+use builder::{Explained, Report};
 use host::Trouble;
+use nj_run::tell_why;
 use site::SiteFault;
+use std::alloc::Global;
 use std::io;
 use std::io::Write;
 use tools::Tool;
@@ -137,6 +140,18 @@ pub struct Telling<'a> {
     pub trouble: Option<&'a Trouble>,
 }
 
+impl<'a> Telling<'a> {
+    pub fn new(file: &'a str, given: &Options<'_>, trouble: Option<&'a Trouble>) -> Telling<'a> {
+        Telling {
+            file,
+            keep: given.keep,
+            shown: given.shown,
+            stats: given.stats,
+            trouble,
+        }
+    }
+}
+
 /// Tells how the whole ended, and answers the status.
 pub fn ended<W: Write, E: Write>(
     ended: &Ended,
@@ -170,10 +185,6 @@ pub fn ended<W: Write, E: Write>(
         Outcome::NotRebuilt(_) => {
             writeln!(err, "ninja: error: rebuilding '{file}': subcommand failed")?;
             1
-        }
-        Outcome::WouldRun => {
-            writeln!(out, "ninja: '{file}' would be rebuilt")?;
-            0
         }
     };
     out.flush()?;
@@ -209,6 +220,49 @@ fn built<W: Write, E: Write>(
         Report::Fault(_) => failed_site(telling.trouble, err)?,
     }
     Ok(1)
+}
+
+/// Tells why commands are due, before they run.
+pub fn why<E: Write>(alloc: Global, due: &Due, file: &str, err: &mut E) -> io::Result<()> {
+    match due {
+        Due::Generator => writeln!(
+            err,
+            "ninja explain: {file}: it is out of date, and made by a generator"
+        )?,
+        Due::Commands(explained) => whys(alloc, explained, err)?,
+    }
+    err.flush()
+}
+
+fn whys<E: Write>(alloc: Global, explained: &Explained, err: &mut E) -> io::Result<()> {
+    for explanation in &explained.commands {
+        write!(err, "ninja explain: ")?;
+        tell_why(alloc, explanation, err)?;
+    }
+    Ok(())
+}
+
+/// Tells what would run, behind the lines of commands that are shown already.
+pub fn would_run<W: Write>(due: &Due, file: &str, shown: Shown, out: &mut W) -> io::Result<u8>
+    ensures { IfOk result (λ status. status ≤ 1) }
+{
+    match due {
+        Due::Generator => writeln!(out, "ninja: '{file}' would be rebuilt")?,
+        Due::Commands(explained) => rest(explained, shown, out)?,
+    }
+    out.flush()?;
+    Ok(0)
+}
+
+/// Tells that more may follow, or that there is nothing to do.
+fn rest<W: Write>(explained: &Explained, shown: Shown, out: &mut W) -> io::Result<()> {
+    if let Some(file) = &explained.unloaded {
+        return writeln!(out, "ninja: more may follow: {file} is yet to be loaded");
+    }
+    if explained.commands.is_empty() && shown != Shown::Printed {
+        return writeln!(out, "ninja: no work to do.");
+    }
+    Ok(())
 }
 
 /// Why a build stopped in which so many commands failed, as other programs look for it.

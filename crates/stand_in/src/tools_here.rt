@@ -8,6 +8,7 @@ use crate::build::{read_alone, read_here};
 use crate::given::{Options, Shown};
 use builder::Report;
 use indexmap::IndexSet;
+use model::SiteFault;
 use nj_run::Alone;
 use paths::{PathId, Paths};
 use records::Records;
@@ -42,6 +43,12 @@ impl From<Report> for NoAnswer {
 impl From<Fault> for NoAnswer {
     fn from(fault: Fault) -> NoAnswer {
         NoAnswer::Fault(fault)
+    }
+}
+
+impl From<SiteFault> for NoAnswer {
+    fn from(fault: SiteFault) -> NoAnswer {
+        NoAnswer::Fault(Fault::from(fault))
     }
 }
 

@@ -1,6 +1,7 @@
 use Rattle.model.specs.declared.fault.SiteFault.TheVariants.{Memory}
 use Rattle.builder.specs.declared.report.Report.TheVariants.{Fault}
-use Rattle.stand_in.proofs.Stages.{looked_nothing, memory_end, outcome_by, prepared_then, unread_here_end}
+use Rattle.build_theory.proofs.Looks.{looks_nothing}
+use Rattle.stand_in.proofs.Stages.{idle_then, looked_nothing, memory_end, outcome_by, prepared_at, prepared_then, unread_here_end}
 use Rattle.stand_in.proofs.build.build_anew.Goals as goal
 
 pub returns-in_err-declared : goal.returns-in_err-declared
@@ -17,6 +18,16 @@ returns-in_err-above g c = λ entry prepared.
     let looked = c.in_ok-declared.ensures.read.looked in
     outcome_by g.S.Texts.tells g.S.Site.outcome c.args.options.now entry new (Fault Memory) (memory_end g.S.Texts.tells g.S.Site.outcome c.args.options.now entry new (prepared_then g.S.Texts.tells g.S.Site.outcome c.args.options.now entry old new prepared looked.looks) looked.unrefused.goes_on)
     c.from_residual-in_err-above.result c.from_residual-in_err-above.ensures.1
+
+pub build_rest-requires-clause-idle : goal.build_rest-requires-clause-idle
+build_rest-requires-clause-idle g c = idle_then g.S.Texts.tells (g.S.Texts.world c.args.site.now) (g.S.Texts.world c.read_here.new.site) c.read_here.ensures.looks c.requires
+
+pub build_rest-requires-clause-ready : goal.build_rest-requires-clause-ready
+build_rest-requires-clause-ready g c =
+    let old = g.S.Texts.world c.args.site.now in
+    let new = g.S.Texts.world c.read_here.new.site in
+    let was = c.in_ok-declared.ensures.read in
+    (old, record { entry = old; prepared = prepared_at g.S.Texts.tells g.S.Site.outcome c.args.options.now old old (looks_nothing g.S.Texts.tells old); read = new; was_read = was; since = looked_nothing g.S.Texts.tells new was.looked.unrefused.goes_on })
 
 pub returns : goal.returns
 returns g c = λ entry prepared.

@@ -1,4 +1,4 @@
-use Rattle.stand_in.proofs.Stages.{end_by, unread_end}
+use Rattle.stand_in.proofs.Stages.{end_by, idle_then, unread_end}
 use Rattle.stand_in.proofs.build.try_build.Goals as goal
 
 pub returns-in_err-declared : goal.returns-in_err-declared
@@ -8,8 +8,11 @@ returns-in_err-declared g c =
     let report = c.in_err-declared.field-0.0 in
     end_by g.S.Texts.tells g.S.Site.outcome c.args.options.now old new report (unread_end g.S.Texts.tells g.S.Site.outcome c.args.options.now old new report c.requires c.in_err-declared.ensures.unread) c.from_residual.result c.from_residual.ensures.1
 
-pub returns-then-dry : goal.returns-then-dry
-returns-then-dry g c = c.only_say.ensures (g.S.Texts.world c.args.site.now) c.in_ok-declared.ensures.read
+pub build_declared-requires-clause-idle : goal.build_declared-requires-clause-idle
+build_declared-requires-clause-idle g c = idle_then g.S.Texts.tells (g.S.Texts.world c.args.site.now) (g.S.Texts.world c.read_alone.new.site) c.read_alone.ensures.looks c.requires
+
+pub build_declared-requires-clause-read : goal.build_declared-requires-clause-read
+build_declared-requires-clause-read g c = (g.S.Texts.world c.args.site.now, c.in_ok-declared.ensures.read)
 
 pub returns : goal.returns
 returns g c = c.build_declared.ensures (g.S.Texts.world c.args.site.now) c.in_ok-declared.ensures.read

@@ -1,6 +1,6 @@
 use Rattle.std.proofs.Common.{ℕ, Bool, true, false, Option, None, Some, Result, Ok, Err, IsSome, ◌≡◌, refl, sym, ap, ◌∙◌}
 use Rattle.stand_in.proofs.Calls.{asks_call, still_memory, still_nothing}
-use Rattle.stand_in.proofs.regenerating.show_line.Goals as goal
+use Rattle.stand_in.proofs.regenerating.show_command.Goals as goal
 
 pub returns-in_err-line : goal.returns-in_err-line
 returns-in_err-line g c = still_memory g.S.Texts.tells (λ (u : Unit {0}). Unit {0}) (g.S.Texts.world c.args.site.now) (g.S.Texts.world c.args.site.now) c.from_residual.result (still_nothing g.S.Texts.tells (g.S.Texts.world c.args.site.now)) c.from_residual.ensures.1

@@ -1,0 +1,5 @@
+use Rattle.stand_in.proofs.Stages.{idle_then}
+use Rattle.stand_in.proofs.due.due_here.Goals as goal
+
+pub due_of-requires-clause-idle : goal.due_of-requires-clause-idle
+due_of-requires-clause-idle g c = idle_then g.S.Texts.tells (g.S.Texts.world c.args.site.now) (g.S.Texts.world c.read_for.new.site) c.read_for.ensures.looks c.requires
