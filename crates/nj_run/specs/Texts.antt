@@ -17,6 +17,9 @@ stopped count = line (codes "nj: build stopped, failed commands: " ++ decimal co
 abbrev pub no_memory : List ℕ
 no_memory = line (codes "nj: error: N61: out of memory")
 
+abbrev pub no_tracer : List ℕ
+no_tracer = line (codes "nj: error: no strace in PATH that traces a program here; nothing was started")
+
 abbrev pub site_failed : List ℕ
 site_failed = line (codes "nj: error: N60: the site failed")
 

@@ -2,10 +2,14 @@
 #![tactic(auto)]
 
 mod alone;
+mod anew;
+mod audited;
+mod looked;
 mod named;
 mod noted;
 mod program;
 mod told;
+mod tracer;
 mod whys;
 
 pub use alone::{Alone, build_alone, explain_alone};
