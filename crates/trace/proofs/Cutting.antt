@@ -1,5 +1,5 @@
 -- Cutting at the first place where a mark stands, and lines.
-use Rattle.std.proofs.Common.{◌≡◌, ℕ, ◌+◌, ◌-◌, ◌<◌, Bool, true, false, List, [], ◌∷◌, ◌++◌, length, take, drop, refl, sym, ap, subst, ◌∙◌, Option, Some, None, arith, add-one, append-nil}
+use Rattle.std.proofs.Common.{◌≡◌, ℕ, ◌+◌, ◌-◌, ◌<◌, Bool, true, false, List, [], ◌∷◌, length, take, drop, refl, sym, ap, subst, ◌∙◌, Option, Some, None, arith, add-one, append-nil}
 use Rattle.std.proofs.lemmas.List.{take_all, length-drop}
 use Prim.Native.Nat.{zero, suc}
 use Rattle.std.specs.Prelude.{nat_eq, option_map}

@@ -3,7 +3,6 @@ use Rattle.std.proofs.Common.{◌≡◌, ◌⊎◌, inl, inr, ℕ, Bool, true, f
 use Rattle.std.specs.Prelude.{◌&&◌, not, option_map, option_and_then, codes, if◌then◌else◌}
 use Rattle.trace.specs.declared.fact.Fact.{Fact}
 use Rattle.trace.specs.declared.processes.Known.{Known}
-use Rattle.trace.specs.declared.steps.Step.{Step}
 use Rattle.trace.specs.declared.lines.Reached.{Reached}
 use Rattle.trace.specs.Marks.{cut}
 use Rattle.trace.specs.Arguments.{is_nothing}
@@ -11,8 +10,8 @@ use Rattle.trace.specs.Calls.{begins}
 use Rattle.trace.specs.Facts.{call_of}
 use Rattle.trace.specs.Processes.{is_calling, is_none, known_or_new, without}
 use Rattle.trace.specs.Steps.{step_of}
-use Rattle.trace.specs.Lines.{after, after_all, after_body, after_call, after_end, after_step, after_text, after_text_of, after_whole, all_done, begins_call, is_undone, lines_of, nothing_yet, numbered, told, whole}
-use Rattle.trace.specs.Kept.{AllTold, EachLineIsTold, TellsLine}
+use Rattle.trace.specs.Lines.{after, after_all, after_body, after_call, after_end, after_step, after_text, after_text_of, after_whole, all_done, begins_call, is_undone, lines_of, nothing_yet, numbered, whole}
+use Rattle.trace.specs.Kept.{EachLineIsTold, TellsLine}
 
 some_same : {A : Type 0} (x y : A) → Some x ≡ Some y → x ≡ y
 some_same x y e = cc

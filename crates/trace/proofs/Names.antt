@@ -1,6 +1,6 @@
 -- Names in hexadecimal digits.
-use Rattle.std.proofs.Common.{◌≡◌, ◌≢◌, ℕ, ◌+◌, ◌<◌, ◌≤◌, Bool, true, false, List, [], ◌∷◌, ◌++◌, length, get_or, drop, refl, sym, ap, ◌∙◌, subst, Option, Some, None, arith, append_assoc, eq-eqb}
-use Rattle.std.specs.Prelude.{◌&&◌, nat_eq, option_map, option_and_then}
+use Rattle.std.proofs.Common.{◌≡◌, ◌≢◌, ℕ, ◌<◌, ◌≤◌, true, false, List, [], ◌∷◌, ◌++◌, length, get_or, drop, refl, sym, ap, Option, Some, None, arith, append_assoc, eq-eqb}
+use Rattle.std.specs.Prelude.{◌&&◌, nat_eq, option_map}
 use Rattle.trace.specs.Hex.{unhex, byte_of, in_front_of}
 
 -- nothing was read yet

@@ -1,7 +1,7 @@
 -- The processes that run.
-use Rattle.std.proofs.Common.{◌≡◌, ℕ, ◌+◌, ◌<◌, Bool, true, false, List, [], ◌∷◌, ◌++◌, length, get_or, take, drop, refl, sym, ap, ◌∙◌, Option, Some, None, arith, add-one}
+use Rattle.std.proofs.Common.{◌≡◌, ℕ, ◌+◌, ◌<◌, true, false, List, [], ◌∷◌, ◌++◌, length, get_or, take, drop, refl, sym, ap, ◌∙◌, arith, add-one}
 use Prim.Native.Nat.{zero, suc}
-use Rattle.std.specs.Prelude.{bytes_eq, remove}
+use Rattle.std.specs.Prelude.{bytes_eq}
 use Rattle.trace.specs.declared.processes.Known.{Known}
 use Rattle.trace.specs.Processes.{without}
 

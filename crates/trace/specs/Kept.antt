@@ -1,5 +1,5 @@
 -- That nothing is lost of a trace that tells something.
-use Rattle.std.specs.Prelude.{◌≡◌, ℕ, List, [], ◌∷◌, ◌++◌, Option, Some}
+use Rattle.std.specs.Prelude.{◌≡◌, ℕ, List, ◌∷◌, ◌++◌, Some}
 use Rattle.trace.specs.declared.fact.Fact.{Fact}
 use Rattle.trace.specs.declared.lines.Reached.{Reached}
 use Rattle.trace.specs.Lines.{after, lines_of, told}

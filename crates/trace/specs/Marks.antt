@@ -1,5 +1,5 @@
 -- Texts cut at marks.
-use Rattle.std.specs.Prelude.{◌≡◌, ℕ, ◌==◌, Bool, List, [], ◌∷◌, ◌++◌, drop, length, Option, Some, None, option_map, option_and_then, is_some, nat_eq, if◌then◌else◌}
+use Rattle.std.specs.Prelude.{ℕ, ◌==◌, Bool, List, [], ◌∷◌, ◌++◌, drop, length, Option, Some, None, option_map, option_and_then, is_some, nat_eq, if◌then◌else◌}
 use Rattle.std.specs.List.{starts_with}
 use denote.Ref.{Bor}
 

@@ -1,5 +1,5 @@
 -- What a call did, and what is known of its process then.
-use Rattle.std.specs.Prelude.{ℕ, ◌&&◌, ◌||◌, not, Bool, true, false, List, [], ◌∷◌, Option, Some, None, option_map, option_and_then, codes, if◌then◌else◌}
+use Rattle.std.specs.Prelude.{ℕ, ◌&&◌, ◌||◌, not, Bool, List, [], ◌∷◌, Option, Some, None, option_and_then, codes, if◌then◌else◌}
 use Rattle.trace.specs.declared.fact.Deed.TheVariants.{Connected}
 use Rattle.trace.specs.declared.facts.Paths.{Paths}
 use Rattle.trace.specs.declared.processes.Known.{Known}

@@ -1,7 +1,6 @@
-use Rattle.std.proofs.Common.{rules, ◌≡◌, ◌≢◌, ◌∙◌, sym, ap, true, false, List, ℕ, Some, None, length, ◌<◌, ◌==◌, arith, [], ◌∷◌}
+use Rattle.std.proofs.Common.{rules, ◌≡◌, ◌≢◌, ◌∙◌, sym, false, List, ℕ, length, ◌==◌, arith, [], ◌∷◌}
 use Rattle.std.specs.Prelude.{codes}
 use Rattle.std.proofs.lemmas.Bool.{false≢true}
-use Rattle.trace.specs.Lines.{after, after_text_of}
 use Rattle.trace.proofs.Cutting.{behind_is_shorter}
 use Rattle.trace.proofs.Rows.{row_read, row_not, row_cut}
 use Rattle.trace.proofs.reading.take_lines.Goals as goal
