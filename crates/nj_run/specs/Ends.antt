@@ -84,15 +84,14 @@ EndsBy kind (NoFolder folder) = ⊥
 EndsBy kind (Built report refused) = ⊥
 EndsBy kind ToldWhy = ⊥
 EndsBy kind (Unexplained report refused) = ⊥
+EndsBy kind NoTracer = ⊥
+EndsBy kind (Audited report keeps) = ⊥
 
 -- it was asked why commands are due, and the site of real files was only looked at: nothing was started or written
 pub record AsksWhy (asked : Options) : Type 0 where
   pub asks : asked.why ≡ true
   pub later : World
   pub looks : OnlyLooks false fresh later
-
-EndsBy kind NoTracer = ⊥
-EndsBy kind (Audited report keeps) = ⊥
 
 -- How a run ends where this is asked for: the folder could not be gone to; or there is a later world in which a build of just
 -- this, on the site of real files on which nothing had happened, is reported so.
