@@ -11,9 +11,10 @@ use Rattle.builder.specs.declared.report.Report.TheVariants.{Success, Failed, Re
 use Rattle.host.specs.World.{any_outcome, fresh}
 use Rattle.nj_run.specs.Alone.{BuildsAlone}
 use Rattle.nj_run.specs.Status.{status_of}
-use Rattle.nj_run.specs.Texts.{Adds, err_of, no_tracer, out_of}
+use Rattle.nj_run.specs.Texts.{Adds, err_of, no_tracer, out_of, traced_over}
+use Rattle.nj_run.specs.Traces.{IsTracePath}
 use Rattle.nj_run.proofs.Telling.{untouched}
-use Rattle.nj_run.specs.Ends.{AreDone, AsksWhy, Audited, Built, Comes, Ending, NoTracer, ToldWhy, Unexplained, Ends, EndsBy, EndsFor, EndsWell, Help, MayEnd, NoFolder, NoMemory, BadWords, exit_status}
+use Rattle.nj_run.specs.Ends.{AreDone, AsksWhy, Audited, Built, Comes, Ending, NoTracer, TracedOver, ToldWhy, Unexplained, Ends, EndsBy, EndsFor, EndsWell, Help, MayEnd, NoFolder, NoMemory, BadWords, exit_status}
 
 -- after a build the status is no 2
 pub built : {F : Type 0} (done told : Result ℕ F) (status : ℕ) → status ≡ result_unwrap_or told 1 → told ≡ done → IfOk done (λ given. given ≤ 1) → status ≡ 2 → ⊥
@@ -54,6 +55,14 @@ pub untraced : {W E F : Type 0} (asked : Options) (on_out : W → Option Text) (
 untraced asked on_out on_err out old_err new_err (Ok status) untold audit one said =
     record { ending = NoTracer; may = (untold, audit); tells = (one, record { shown = out; before = refl; out = untouched (on_out out); err = said }) }
 untraced asked on_out on_err out old_err new_err (Err fault) untold audit one said = record { ending = NoTracer; may = (untold, audit); tells = tt }
+
+-- build lines name what traces are written to
+pub named_over : {W E F : Type 0} (asked : Options) (on_out : W → Option Text) (on_err : E → Option Text) (old_out shown : W) (old_err new_err : E) (path : Text) (told : Result ℕ F)
+    → asked.why ≡ false → audits asked ≡ true → IsTracePath path → IfOk told (λ status. status ≡ 1) → OnOk told (Adds (on_err old_err) (on_err new_err) (Some (traced_over path)))
+    → Comes (EndsFor asked) on_out on_err old_out shown old_err new_err told
+named_over asked on_out on_err old_out shown old_err new_err path (Ok status) untold audit is one said =
+    record { ending = TracedOver path; may = (untold, audit, is); tells = (one, record { shown = shown; before = tt; out = untouched (on_out shown); err = said }) }
+named_over asked on_out on_err old_out shown old_err new_err path (Err fault) untold audit is one said = record { ending = TracedOver path; may = (untold, audit, is); tells = tt }
 
 -- what a build reported that was audited
 pub audited : {W E F : Type 0} (asked : Options) (on_out : W → Option Text) (on_err : E → Option Text) (old_out new_out : W) (old_err new_err : E) (report : Report) (told : Result ℕ F)
@@ -120,6 +129,7 @@ refused words error has (Built report told) so = absurd so
 refused words error has ToldWhy so = absurd so
 refused words error has (Unexplained report told) so = absurd so
 refused words error has NoTracer so = absurd so
+refused words error has (TracedOver path) so = absurd so
 refused words error has (Audited report keeps) so = absurd so
 
 -- words that ask for this
@@ -132,6 +142,7 @@ done words asked faultless are (Built report told) so = record { faultless = fau
 done words asked faultless are ToldWhy so = record { faultless = faultless; asked = asked; are_asked = are; so = so }
 done words asked faultless are (Unexplained report told) so = record { faultless = faultless; asked = asked; are_asked = are; so = so }
 done words asked faultless are NoTracer so = record { faultless = faultless; asked = asked; are_asked = are; so = so }
+done words asked faultless are (TracedOver path) so = record { faultless = faultless; asked = asked; are_asked = are; so = so }
 done words asked faultless are (Audited report keeps) so = record { faultless = faultless; asked = asked; are_asked = are; so = so }
 
 well_after : (words : List Text) (report : Report) (told : Bool) → AreDone words (Built report told) → 0 ≡ status_of report → EndsWell words
@@ -156,6 +167,7 @@ well_by words (Built report told) may zero = well_after words report told may ze
 well_by words ToldWhy may zero = inr (inr (inl may))
 well_by words (Unexplained report told) may zero = absurd (omega (arith, zero))
 well_by words NoTracer may zero = absurd (omega (arith, zero))
+well_by words (TracedOver path) may zero = absurd (omega (arith, zero))
 well_by words (Audited report keeps) may zero = well_audited words report keeps may zero
 
 -- where the status is 0, the run has ended well

@@ -11,7 +11,8 @@ use Rattle.builder.specs.declared.report.Report.TheVariants.{Success}
 use Rattle.host.specs.World.{any_outcome, fresh}
 use Rattle.nj_run.specs.Alone.{BuildsAlone}
 use Rattle.nj_run.specs.Status.{status_of}
-use Rattle.nj_run.specs.Texts.{Adds, err_of, no_memory, no_tracer, out_of}
+use Rattle.nj_run.specs.Texts.{Adds, err_of, no_memory, no_tracer, out_of, traced_over}
+use Rattle.nj_run.specs.Traces.{IsTracePath}
 
 -- why a run ends
 pub data Ending : Type 0 where
@@ -31,6 +32,8 @@ pub data Ending : Type 0 where
   Unexplained : Report → Bool → Ending
   -- an audit was asked for, and nothing traces commands here: nothing was started
   NoTracer : Ending
+  -- an audit was asked for, and build lines name this path, to which traces are written: nothing was started
+  TracedOver : Text → Ending
   -- a build was audited and reported so, and whether each command was looked at and keeps all premises
   Audited : Report → Bool → Ending
 
@@ -43,6 +46,7 @@ exit_status (Built report refused) = status_of report
 exit_status ToldWhy = 0
 exit_status (Unexplained report refused) = 1
 exit_status NoTracer = 1
+exit_status (TracedOver path) = 1
 exit_status (Audited report keeps) = if keeps then status_of report else 1
 
 -- What is told on the standard output, behind what the build showed there. Help is open (`None`): no contract of clap tells its
@@ -56,6 +60,7 @@ told_on_out (Built report refused) = out_of report
 told_on_out ToldWhy = None
 told_on_out (Unexplained report refused) = out_of report
 told_on_out NoTracer = Some []
+told_on_out (TracedOver path) = Some []
 told_on_out (Audited report keeps) = None
 
 -- What is told on the standard error. Open is what clap says of bad words, and of a folder why the system refuses it: that
@@ -69,6 +74,7 @@ told_on_err (Built report refused) = err_of report refused
 told_on_err ToldWhy = Some []
 told_on_err (Unexplained report refused) = err_of report refused
 told_on_err NoTracer = Some no_tracer
+told_on_err (TracedOver path) = Some (traced_over path)
 told_on_err (Audited report keeps) = None
 
 -- help, or the version, which clap shows in the same way; `nj` has no word that asks for it
@@ -85,6 +91,7 @@ EndsBy kind (Built report refused) = ⊥
 EndsBy kind ToldWhy = ⊥
 EndsBy kind (Unexplained report refused) = ⊥
 EndsBy kind NoTracer = ⊥
+EndsBy kind (TracedOver path) = ⊥
 EndsBy kind (Audited report keeps) = ⊥
 
 -- it was asked why commands are due, and the site of real files was only looked at: nothing was started or written
@@ -109,6 +116,7 @@ EndsFor asked (Built report refused) = (asked.why ≡ false) × (audits asked �
 EndsFor asked ToldWhy = AsksWhy asked
 EndsFor asked (Unexplained report refused) = AsksWhy asked
 EndsFor asked NoTracer = (asked.why ≡ false) × (audits asked ≡ true)
+EndsFor asked (TracedOver path) = (asked.why ≡ false) × (audits asked ≡ true) × IsTracePath path
 EndsFor asked (Audited report keeps) = (asked.why ≡ false) × (audits asked ≡ true) × (later : World) × BuildsAlone false any_outcome asked fresh later report
 
 -- the words have a fault for which a run may end so
@@ -134,6 +142,7 @@ MayEnd words (Built report refused) = AreDone words (Built report refused)
 MayEnd words ToldWhy = AreDone words ToldWhy
 MayEnd words (Unexplained report refused) = AreDone words (Unexplained report refused)
 MayEnd words NoTracer = AreDone words NoTracer
+MayEnd words (TracedOver path) = AreDone words (TracedOver path)
 MayEnd words (Audited report keeps) = AreDone words (Audited report keeps)
 
 -- What the standard output was where a build has ended. A build shows on it by way of the host, which keeps it as long as the
@@ -148,6 +157,7 @@ ShownBefore (Built report refused) old shown = ⊤
 ShownBefore ToldWhy old shown = ⊤
 ShownBefore (Unexplained report refused) old shown = ⊤
 ShownBefore NoTracer old shown = shown ≡ old
+ShownBefore (TracedOver path) old shown = ⊤
 ShownBefore (Audited report keeps) old shown = ⊤
 
 -- all was told: on the standard output, behind what was shown there, and on the standard error

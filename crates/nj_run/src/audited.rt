@@ -1,6 +1,6 @@
 //! A run that audits: a build in which each command is traced, and what is told of that.
 
-ghost use Rattle.std.specs.Prelude.{◌≡◌, ◌≤◌, Bool, IfOk, OnOk, Some, true, false, if◌then◌else◌};
+ghost use Rattle.std.specs.Prelude.{◌≡◌, ◌≤◌, Bool, IfOk, IfSome, OnOk, Some, true, false, if◌then◌else◌};
 ghost use Rattle.command_line.specs.Options.{audits};
 ghost use Rattle.model.specs.World.{World};
 ghost use Rattle.host.specs.World.{any_outcome, fresh, world_of};
@@ -8,18 +8,20 @@ ghost use Rattle.nj_run.specs.Alone.{BuildsAlone};
 ghost use Rattle.nj_run.specs.Ends.{Comes, EndsFor};
 ghost use Rattle.nj_run.specs.Status.{status_of};
 ghost use Rattle.nj_run.specs.Texts.{Adds, no_tracer};
+ghost use Rattle.nj_run.specs.Traces.{IsTracePath};
 
 use crate::looked::look;
 use crate::noted::Noted;
 use crate::program::{build_on, build_options, recall};
 use crate::told;
 use crate::tracer::tracer;
+use crate::traces::named_trace;
 use auditor::Tally;
-use builder::{Options, Report};
+use builder::{Report, read};
 use command_line::Options as Asked;
 use host::{Host, Trouble};
 use status::Pattern;
-use std::alloc::Global;
+use std::alloc::{AllocError, Global};
 use std::io::Write;
 use std::{env, io};
 use text::Text;
@@ -50,6 +52,9 @@ pub fn audit_asked<W: Write, E: Write>(
     let Some(program) = tracer(noted.rt()) else {
         return untraced(err);
     };
+    if let Some(path) = traced_over(asked, pattern, out, noted)? {
+        return told::traced_over(path.as_str(), err);
+    }
     let audited = audit_here(asked, pattern, program, out, noted)?;
     tell_all(noted.rt().alloc(), &audited, asked.audit_all, out, err)
 }
@@ -65,6 +70,26 @@ fn untraced<E: Write>(err: &mut E) -> io::Result<u8>
     )?;
     err.flush()?;
     Ok(1)
+}
+
+/// The first path that build lines name and to which traces are written, if there is one. Of build files with a fault there is none: the
+/// build is to tell of that. Nothing is started or written.
+fn traced_over<W: Write>(
+    asked: &Asked<'_>,
+    pattern: Option<&str>,
+    out: &mut W,
+    noted: &Noted<'_>,
+) -> Result<Option<Text>, AllocError>
+    ensures { IfOk result (λ found. IfSome found IsTracePath) }
+{
+    let rt = noted.rt();
+    let alloc = rt.alloc();
+    let (options, targets) = build_options(alloc, asked, pattern)?;
+    let mut host = Host::new(alloc, rt, out);
+    match read(alloc, &mut host, &options, targets.as_slice()) {
+        Ok(reading) => named_trace(alloc, &reading.manifest),
+        Err(_) => Ok(None),
+    }
 }
 
 /// Builds in the working folder with each command traced by this program, and looks at the traces.

@@ -8,8 +8,10 @@ mod looked;
 mod named;
 mod noted;
 mod program;
+mod reported;
 mod told;
 mod tracer;
+mod traces;
 mod whys;
 
 pub use alone::{Alone, build_alone, explain_alone};
