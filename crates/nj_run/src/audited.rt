@@ -52,7 +52,8 @@ pub fn audit_asked<W: Write, E: Write>(
     let Some(program) = tracer(noted.rt()) else {
         return untraced(err);
     };
-    if let Some(path) = traced_over(asked, pattern, out, noted)? {
+    let named = named_here(asked, pattern, out, noted)?;
+    if let Some(path) = named {
         return told::traced_over(path.as_str(), err);
     }
     let audited = audit_here(asked, pattern, program, out, noted)?;
@@ -74,7 +75,7 @@ fn untraced<E: Write>(err: &mut E) -> io::Result<u8>
 
 /// The first path that build lines name and to which traces are written, if there is one. Of build files with a fault there is none: the
 /// build is to tell of that. Nothing is started or written.
-fn traced_over<W: Write>(
+fn named_here<W: Write>(
     asked: &Asked<'_>,
     pattern: Option<&str>,
     out: &mut W,

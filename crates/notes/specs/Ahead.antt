@@ -42,3 +42,7 @@ AreFirsts ends events places = (job : ℕ) → get_or places job (length events)
 -- the place of a job was put down, and no other
 abbrev pub IsPut : Option ℕ → ℕ → ℕ → List ℕ → List ℕ → Type 0
 IsPut found place none old new = (job : ℕ) → get_or new job none ≡ (if is_job job found then place else get_or old job none)
+
+-- each job has the place that it had
+abbrev pub HasSame : ℕ → List ℕ → List ℕ → Type 0
+HasSame none old new = (job : ℕ) → get_or new job none ≡ get_or old job none

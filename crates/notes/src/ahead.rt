@@ -1,7 +1,7 @@
 //! What was reported to be read before the command that makes it had ended.
 
-ghost use Rattle.std.specs.Prelude.{◌≡◌, IfOk, OnOk, Some, filter, get_or, if◌then◌else◌};
-ghost use Rattle.notes.specs.Ahead.{AreFirsts, IsPut, ended_by, is_made_later, started_by};
+ghost use Rattle.std.specs.Prelude.{◌≡◌, ◌≤◌, [], ◌∷◌, ◌++◌, IfOk, OnOk, Some, false, filter, get_or, if◌then◌else◌, length, true};
+ghost use Rattle.notes.specs.Ahead.{AreFirsts, HasSame, IsPut, ended_by, is_made_later, started_by};
 
 use model::Event;
 use std::alloc::{AllocError, Global};
@@ -43,11 +43,20 @@ fn made_later_by(
 {
     let mut found = Vec::new(alloc);
     for report in reports {
-        if is_made_later(events, starts, ends, *report) {
-            found.push(*report)?;
-        }
+        let is_one = is_made_later(events, starts, ends, *report);
+        push_if(&mut found, *report, is_one)?;
     }
     Ok(found)
+}
+
+/// Adds the report, if it is one of those.
+fn push_if(found: &mut Vec<Reported>, report: Reported, is_one: bool) -> Result<(), AllocError>
+    ensures { OnOk result (found.new.items ≡ found.old.items ++ (if is_one then report ∷ [] else [])) }
+{
+    if is_one {
+        found.push(report)?;
+    }
+    Ok(())
 }
 
 /// Whether both commands were started, and the maker's had not ended when the reader's was started.
@@ -118,10 +127,19 @@ fn put_job(
 fn put(places: &mut Vec<usize>, job: usize, place: usize, none: usize) -> Result<(), AllocError>
     ensures { OnOk result (IsPut (Some job) place none places.old.items places.new.items) }
 {
-    let count = job.saturating_add(1);
+    let count = job.checked_add(1).ok_or(AllocError)?;
+    widen(places, count, none)?;
+    places[job] = place;
+    Ok(())
+}
+
+/// Makes room for so many jobs.
+fn widen(places: &mut Vec<usize>, count: usize, none: usize) -> Result<(), AllocError>
+    ensures same { OnOk result (HasSame none places.old.items places.new.items) }
+    ensures wide { OnOk result (count ≤ length places.new.items) }
+{
     if places.len() < count {
         places.resize(count, none)?;
     }
-    places[job] = place;
     Ok(())
 }

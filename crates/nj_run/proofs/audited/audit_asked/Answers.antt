@@ -1,10 +1,17 @@
 use Rattle.std.proofs.Common.{rules}
 use Rattle.nj_run.specs.Ends.{NoTracer}
-use Rattle.nj_run.proofs.Ends.{audited, untraced, within_one}
+use Rattle.nj_run.proofs.Ends.{audited, named_over, untraced, within_one}
 use Rattle.nj_run.proofs.audited.audit_asked.Goals as goal
 
 pub returns-in_default-clause-comes : goal.returns-in_default-clause-comes
 returns-in_default-clause-comes g c = untraced c.args.asked.now _ _ _ _ _ c.untraced.result c.requires.plain c.requires.audits c.untraced.ensures.status c.untraced.ensures.told
+
+-- no memory
+pub returns-in_err-named-clause-comes : goal.returns-in_err-named-clause-comes
+returns-in_err-named-clause-comes g c = record { ending = NoTracer; may = (c.requires.plain, c.requires.audits); tells = search rules }
+
+pub returns-in-Some-clause-comes : goal.returns-in-Some-clause-comes
+returns-in-Some-clause-comes g c = named_over c.args.asked.now _ _ _ _ _ _ c.in-Some.path c.traced_over.result c.requires.plain c.requires.audits (search rules) c.traced_over.ensures.status c.traced_over.ensures.told
 
 -- no folder, or no memory, before it began
 pub returns-in_err-audited-clause-comes : goal.returns-in_err-audited-clause-comes
