@@ -33,8 +33,8 @@ abbrev pub traced_words : ℕ → List ℕ → List ℕ
 traced_words job command = ((first_words ++ ended (trace_file job)) ++ shell_words) ++ ended command
 
 -- what is handed over so that this command is traced by this program
-pub record IsTraced (program : List ℕ) (job : ℕ) (command variables : List ℕ) (fds : List ℤ) (handed : Handed) : Type 0 where
-  pub program : handed.program.now ≡ program
+pub record IsTraced (tracer : List ℕ) (job : ℕ) (command variables : List ℕ) (fds : List ℤ) (handed : Handed) : Type 0 where
+  pub program : handed.program.now ≡ tracer
   pub words : handed.words.items ≡ traced_words job command
   pub whole : HasNoNul command
   pub environment : handed.environment.now ≡ variables
