@@ -1,5 +1,5 @@
 -- Options, taken apart.
-use Rattle.std.proofs.Common.{◌≡◌, false, Option, Some, None, IfSome, IfNone, MatchOption}
+use Rattle.std.proofs.Common.{◌≡◌, false, Option, Some, None, IfSome, IfNone, MatchOption, subst}
 use Rattle.std.specs.Option.{is_some}
 use Rattle.std.proofs.lemmas.Bool.{true≢false}
 
@@ -15,3 +15,7 @@ match_none A B (Some x) is = tt
 pub none_stands : {T P : Type 0} (o : Option T) → IfNone o P → is_some o ≡ false → P
 none_stands None is none = is
 none_stands (Some x) is none = absurd (true≢false none)
+
+-- what is so of the value that there is
+pub some_so : {T : Type 0} {P : T → Type 0} (o : Option T) (x : T) → o ≡ Some x → IfSome o P → P x
+some_so {T} {P} o x is so = subst (λ (r : Option T). IfSome r P) is so
