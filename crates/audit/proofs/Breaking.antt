@@ -4,7 +4,6 @@ use Rattle.std.proofs.lemmas.List.{append_assoc, append-nil}
 use Rattle.audit.specs.declared.place.Lists.{Lists}
 use Rattle.audit.specs.declared.place.Around.{Around}
 use Rattle.audit.specs.declared.used.Use.{Use}
-use Rattle.audit.specs.declared.finding.Finding.{Finding}
 use Rattle.audit.specs.declared.breach.Breach.{Breach}
 use Rattle.audit.specs.Places.{place_of}
 use Rattle.audit.specs.Findings.{findings}
