@@ -4,21 +4,24 @@ use Rattle.clap.specs.Words.{fault_of, Text, matches_of, takes}
 use Rattle.clap.specs.declared.error.kind.ErrorKind.TheVariants.{DisplayHelp, UnknownArgument, ValueValidation}
 use Rattle.clap.proofs.OnLiterals.{clap_on_literals}
 use Rattle.command_line.specs.Options.{AreGiven, Options, Writes, nj}
-use Rattle.command_line.specs.Worked.{AskFor, no_words, many_words, many_options, eight_jobs, asks_why}
+use Rattle.command_line.specs.Worked.{AskFor, no_words, many_words, many_options, eight_jobs, asks_why, an_audit, a_long_audit}
 
-abbrev options_of : Option Text → Text → ℕ → ℕ → Bool → Bool → List Text → Options
-options_of folder file jobs keep verbose why targets = record { folder = folder; file = file; jobs = jobs; keep = keep; verbose = verbose; why = why; targets = targets }
+abbrev options_of : Option Text → Text → ℕ → ℕ → Bool → Bool → Bool → Bool → List Text → Options
+options_of folder file jobs keep verbose why audit audit_all targets =
+    record { folder = folder; file = file; jobs = jobs; keep = keep; verbose = verbose; why = why; audit = audit; audit_all = audit_all; targets = targets }
 
 -- options with the same parts
-same_options : (a b : Options) → a.folder ≡ b.folder → a.file ≡ b.file → a.jobs ≡ b.jobs → a.keep ≡ b.keep → a.verbose ≡ b.verbose → a.why ≡ b.why → a.targets ≡ b.targets → a ≡ b
-same_options a b folder file jobs keep verbose why targets =
-    ap (λ (x : Option Text). options_of x a.file a.jobs a.keep a.verbose a.why a.targets) folder
-    ∙ ap (λ (x : Text). options_of b.folder x a.jobs a.keep a.verbose a.why a.targets) file
-    ∙ ap (λ (x : ℕ). options_of b.folder b.file x a.keep a.verbose a.why a.targets) jobs
-    ∙ ap (λ (x : ℕ). options_of b.folder b.file b.jobs x a.verbose a.why a.targets) keep
-    ∙ ap (λ (x : Bool). options_of b.folder b.file b.jobs b.keep x a.why a.targets) verbose
-    ∙ ap (λ (x : Bool). options_of b.folder b.file b.jobs b.keep b.verbose x a.targets) why
-    ∙ ap (λ (x : List Text). options_of b.folder b.file b.jobs b.keep b.verbose b.why x) targets
+same_options : (a b : Options) → a.folder ≡ b.folder → a.file ≡ b.file → a.jobs ≡ b.jobs → a.keep ≡ b.keep → a.verbose ≡ b.verbose → a.why ≡ b.why → a.audit ≡ b.audit → a.audit_all ≡ b.audit_all → a.targets ≡ b.targets → a ≡ b
+same_options a b folder file jobs keep verbose why audit audit_all targets =
+    ap (λ (x : Option Text). options_of x a.file a.jobs a.keep a.verbose a.why a.audit a.audit_all a.targets) folder
+    ∙ ap (λ (x : Text). options_of b.folder x a.jobs a.keep a.verbose a.why a.audit a.audit_all a.targets) file
+    ∙ ap (λ (x : ℕ). options_of b.folder b.file x a.keep a.verbose a.why a.audit a.audit_all a.targets) jobs
+    ∙ ap (λ (x : ℕ). options_of b.folder b.file b.jobs x a.verbose a.why a.audit a.audit_all a.targets) keep
+    ∙ ap (λ (x : Bool). options_of b.folder b.file b.jobs b.keep x a.why a.audit a.audit_all a.targets) verbose
+    ∙ ap (λ (x : Bool). options_of b.folder b.file b.jobs b.keep b.verbose x a.audit a.audit_all a.targets) why
+    ∙ ap (λ (x : Bool). options_of b.folder b.file b.jobs b.keep b.verbose b.why x a.audit_all a.targets) audit
+    ∙ ap (λ (x : Bool). options_of b.folder b.file b.jobs b.keep b.verbose b.why b.audit x a.targets) audit_all
+    ∙ ap (λ (x : List Text). options_of b.folder b.file b.jobs b.keep b.verbose b.why b.audit b.audit_all x) targets
 
 defaults_are_taken : takes nj [] ≡ true
 unfolding clap_on_literals
@@ -26,7 +29,7 @@ defaults_are_taken = refl
 
 defaults_only : (other : Options) → AreGiven (matches_of nj []) other → other ≡ no_words
 unfolding clap_on_literals
-defaults_only other given = same_options other no_words given.folder given.file given.jobs given.keep (given.verbose.1 refl) (given.why.1 refl) given.targets
+defaults_only other given = same_options other no_words given.folder given.file given.jobs given.keep (given.verbose.1 refl) (given.why.1 refl) (given.audit.1 refl) (given.audit_all.1 refl) given.targets
 
 pub no_words_ask : AskFor [] no_words
 no_words_ask = record { taken = defaults_are_taken; only = λ other asked. defaults_only other asked.given }
@@ -43,7 +46,7 @@ none = record { digits = (lit< tt, (lit< tt, tt)); value = refl }
 
 many_only : (other : Options) → AreGiven (matches_of nj many_words) other → other ≡ many_options
 unfolding clap_on_literals
-many_only other given = same_options other many_options given.folder given.file (given.jobs 3 (lit< tt) three) (given.keep 0 (lit< tt) none) (given.verbose.0 refl) (given.why.1 refl) given.targets
+many_only other given = same_options other many_options given.folder given.file (given.jobs 3 (lit< tt) three) (given.keep 0 (lit< tt) none) (given.verbose.0 refl) (given.why.1 refl) (given.audit.1 refl) (given.audit_all.1 refl) given.targets
 
 pub many_words_ask : AskFor many_words many_options
 many_words_ask = record { taken = many_are_taken; only = λ other asked. many_only other asked.given }
@@ -57,7 +60,7 @@ zero_in_front_is_taken = refl
 
 zero_in_front_only : (other : Options) → AreGiven (matches_of nj (codes "-j" ∷ codes "08" ∷ [])) other → other ≡ eight_jobs
 unfolding clap_on_literals
-zero_in_front_only other given = same_options other eight_jobs given.folder given.file (given.jobs 8 (lit< tt) zero_eight) given.keep (given.verbose.1 refl) (given.why.1 refl) given.targets
+zero_in_front_only other given = same_options other eight_jobs given.folder given.file (given.jobs 8 (lit< tt) zero_eight) given.keep (given.verbose.1 refl) (given.why.1 refl) (given.audit.1 refl) (given.audit_all.1 refl) given.targets
 
 pub zero_in_front : AskFor (codes "-j" ∷ codes "08" ∷ []) eight_jobs
 zero_in_front = record { taken = zero_in_front_is_taken; only = λ other asked. zero_in_front_only other asked.given }
@@ -68,7 +71,7 @@ why_is_taken = refl
 
 why_only : (other : Options) → AreGiven (matches_of nj (codes "--why" ∷ codes "all" ∷ [])) other → other ≡ asks_why
 unfolding clap_on_literals
-why_only other given = same_options other asks_why given.folder given.file given.jobs given.keep (given.verbose.1 refl) (given.why.0 refl) given.targets
+why_only other given = same_options other asks_why given.folder given.file given.jobs given.keep (given.verbose.1 refl) (given.why.0 refl) (given.audit.1 refl) (given.audit_all.1 refl) given.targets
 
 pub why_asked : AskFor (codes "--why" ∷ codes "all" ∷ []) asks_why
 why_asked = record { taken = why_is_taken; only = λ other asked. why_only other asked.given }
@@ -82,10 +85,32 @@ plus_in_front_is_taken = refl
 
 plus_in_front_only : (other : Options) → AreGiven (matches_of nj (codes "-j" ∷ codes "+8" ∷ [])) other → other ≡ eight_jobs
 unfolding clap_on_literals
-plus_in_front_only other given = same_options other eight_jobs given.folder given.file (given.jobs 8 (lit< tt) plus_eight) given.keep (given.verbose.1 refl) (given.why.1 refl) given.targets
+plus_in_front_only other given = same_options other eight_jobs given.folder given.file (given.jobs 8 (lit< tt) plus_eight) given.keep (given.verbose.1 refl) (given.why.1 refl) (given.audit.1 refl) (given.audit_all.1 refl) given.targets
 
 pub plus_in_front : AskFor (codes "-j" ∷ codes "+8" ∷ []) eight_jobs
 plus_in_front = record { taken = plus_in_front_is_taken; only = λ other asked. plus_in_front_only other asked.given }
+
+audit_is_taken : takes nj (codes "--audit" ∷ codes "all" ∷ []) ≡ true
+unfolding clap_on_literals
+audit_is_taken = refl
+
+audit_only : (other : Options) → AreGiven (matches_of nj (codes "--audit" ∷ codes "all" ∷ [])) other → other ≡ an_audit
+unfolding clap_on_literals
+audit_only other given = same_options other an_audit given.folder given.file given.jobs given.keep (given.verbose.1 refl) (given.why.1 refl) (given.audit.0 refl) (given.audit_all.1 refl) given.targets
+
+pub audit_asked : AskFor (codes "--audit" ∷ codes "all" ∷ []) an_audit
+audit_asked = record { taken = audit_is_taken; only = λ other asked. audit_only other asked.given }
+
+audit_all_is_taken : takes nj (codes "--audit-all" ∷ []) ≡ true
+unfolding clap_on_literals
+audit_all_is_taken = refl
+
+audit_all_only : (other : Options) → AreGiven (matches_of nj (codes "--audit-all" ∷ [])) other → other ≡ a_long_audit
+unfolding clap_on_literals
+audit_all_only other given = same_options other a_long_audit given.folder given.file given.jobs given.keep (given.verbose.1 refl) (given.why.1 refl) (given.audit.1 refl) (given.audit_all.0 refl) given.targets
+
+pub audit_all_asked : AskFor (codes "--audit-all" ∷ []) a_long_audit
+audit_all_asked = record { taken = audit_all_is_taken; only = λ other asked. audit_all_only other asked.given }
 
 pub no_number : fault_of nj (codes "-j" ∷ codes "x" ∷ []) ≡ ValueValidation ∷ []
 unfolding clap_on_literals

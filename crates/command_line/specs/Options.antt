@@ -1,5 +1,5 @@
 -- What the words of a command line ask for (this project's own; the letters are those of Ninja).
-use Rattle.std.specs.Prelude.{◌≡◌, ◌<◌, ◌^◌, ℕ, Bool, true, false, pos, List, [], Option, Some, None, codes, unwrap_or}
+use Rattle.std.specs.Prelude.{◌≡◌, ◌<◌, ◌^◌, ◌||◌, ℕ, Bool, true, false, pos, List, [], Option, Some, None, codes, unwrap_or}
 use Rattle.std.specs.Str.Parse.{IsNumeral, digits_value, without_leading_plus}
 use Rattle.clap.specs.Words.{App, Row, Rule, Text, all_of, first_of, matches_of, new_app, new_rule, one_of, with_rule}
 use Rattle.clap.specs.Simple.{on_top}
@@ -37,6 +37,14 @@ verbose_rule = record (new_rule (codes "verbose")) { short = Some 118; action = 
 abbrev pub why_rule : Rule
 why_rule = record (new_rule (codes "why")) { long = Some (codes "why"); action = Some SetTrue }
 
+-- `--audit`
+abbrev pub audit_rule : Rule
+audit_rule = record (new_rule (codes "audit")) { long = Some (codes "audit"); action = Some SetTrue }
+
+-- `--audit-all`
+abbrev pub audit_all_rule : Rule
+audit_all_rule = record (new_rule (codes "audit_all")) { long = Some (codes "audit-all"); action = Some SetTrue }
+
 -- any number of targets
 abbrev pub targets_rule : Rule
 targets_rule = record (new_rule (codes "targets")) { value_names = 1; range = Some (record { start_inclusive = 0; end_inclusive = usize_max }) }
@@ -46,7 +54,9 @@ abbrev pub bare : App
 bare = on_top (λ shape. record shape { no_binary_name = true; args_override_self = true }) (new_app (codes "nj"))
 
 abbrev pub nj : App
-nj = with_rule (with_rule (with_rule (with_rule (with_rule (with_rule (with_rule bare folder_rule) file_rule) jobs_rule) keep_rule) verbose_rule) why_rule) targets_rule
+nj =
+    with_rule (with_rule (with_rule (with_rule (with_rule (with_rule (with_rule (with_rule (with_rule bare folder_rule) file_rule) jobs_rule) keep_rule)
+    verbose_rule) why_rule) audit_rule) audit_all_rule) targets_rule
 
 -- ---- what it is asked for
 
@@ -57,7 +67,13 @@ pub record Options : Type 0 where
   pub keep : ℕ
   pub verbose : Bool
   pub why : Bool
+  pub audit : Bool
+  pub audit_all : Bool
   pub targets : List Text
+
+-- an audit is asked for: commands are traced
+abbrev pub audits : Options → Bool
+audits options = options.audit || options.audit_all
 
 -- The text writes this number: a plus sign or none, then one decimal digit or more and nothing else, which come to the number; zeros
 -- may stand in front. So `8`, `08` and `+8` all write eight.
@@ -84,6 +100,8 @@ pub record AreGiven (rows : List Row) (options : Options) : Type 0 where
   pub keep : IsNumber (one_of (codes "keep") rows) 1 options.keep
   pub verbose : IsFlag (one_of (codes "verbose") rows) options.verbose
   pub why : IsFlag (one_of (codes "why") rows) options.why
+  pub audit : IsFlag (one_of (codes "audit") rows) options.audit
+  pub audit_all : IsFlag (one_of (codes "audit_all") rows) options.audit_all
   pub targets : options.targets ≡ unwrap_or (all_of (codes "targets") rows) []
 
 -- these options are what the words ask for

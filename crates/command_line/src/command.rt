@@ -2,7 +2,7 @@
 
 ghost use Rattle.std.specs.Prelude.{◌≡◌, [], IfOk, IfErr, true, false, map};
 ghost use Rattle.clap.specs.Words.{HasKind, app_of, fault_of, found_of, kind_of, one_of, rows_of, rule_of, takes};
-ghost use Rattle.command_line.specs.Options.{AreAsked, AreGiven, IsNumber, bare, nj, folder_rule, file_rule, jobs_rule, keep_rule, verbose_rule, why_rule, targets_rule};
+ghost use Rattle.command_line.specs.Options.{AreAsked, AreGiven, IsNumber, bare, nj, folder_rule, file_rule, jobs_rule, keep_rule, verbose_rule, why_rule, audit_rule, audit_all_rule, targets_rule};
 
 use crate::given::Options;
 use clap::error::ErrorKind;
@@ -53,6 +53,8 @@ fn given<'a>(alloc: Global, matches: &ArgMatches<'a>) -> Result<Options<'a>, All
         keep: number(matches, "keep", KEEP),
         verbose: matches.get_flag("verbose"),
         why: matches.get_flag("why"),
+        audit: matches.get_flag("audit"),
+        audit_all: matches.get_flag("audit_all"),
         targets: Vec::from_slice(alloc, matches.get_strs("targets").unwrap_or(&[]))?,
     })
 }
@@ -75,6 +77,8 @@ fn command<'a>(alloc: Global) -> Result<Command<'a>, AllocError>
         .arg(keep(alloc))?
         .arg(verbose(alloc))?
         .arg(why(alloc))?
+        .arg(audit(alloc))?
+        .arg(audit_all(alloc))?
         .arg(targets(alloc))?;
     Ok(command)
 }
@@ -152,6 +156,26 @@ fn why<'a>(alloc: Global) -> Arg<'a>
         .long("why")
         .action(ArgAction::SetTrue)
         .help("Tells which commands are due, and why; starts and writes nothing")
+}
+
+fn audit<'a>(alloc: Global) -> Arg<'a>
+    ensures rule { rule_of result ≡ audit_rule }
+    ensures local { result.global ≡ false }
+{
+    Arg::new(alloc, "audit")
+        .long("audit")
+        .action(ArgAction::SetTrue)
+        .help("Traces commands, and tells what of that which they did breaks a premise")
+}
+
+fn audit_all<'a>(alloc: Global) -> Arg<'a>
+    ensures rule { rule_of result ≡ audit_all_rule }
+    ensures local { result.global ≡ false }
+{
+    Arg::new(alloc, "audit_all")
+        .long("audit-all")
+        .action(ArgAction::SetTrue)
+        .help("The same, and lists each file outside of the folder")
 }
 
 fn targets<'a>(alloc: Global) -> Arg<'a>

@@ -17,6 +17,10 @@ pub struct Options<'a> {
     pub verbose: bool,
     /// Whether it is only told which commands are due, and why.
     pub why: bool,
+    /// Whether commands are traced, and it is told what of that which they did breaks a premise.
+    pub audit: bool,
+    /// The same, and each file outside of the folder is listed.
+    pub audit_all: bool,
     /// What to build; nothing is what the build files say.
     pub targets: Vec<&'a str>,
 }
@@ -28,5 +32,17 @@ impl<'a> Model for Options<'a> {
 
     ghost Value = { Options };
 
-    ghost view = { λ options. record { folder = option_map (λ path. path.now) options.folder; file = options.file.now; jobs = options.jobs; keep = options.keep; verbose = options.verbose; why = options.why; targets = map (λ path. path.now) options.targets.items } };
+    ghost view = { λ options. record { folder = option_map (λ path. path.now) options.folder; file = options.file.now; jobs = options.jobs; keep = options.keep; verbose = options.verbose; why = options.why; audit = options.audit; audit_all = options.audit_all; targets = map (λ path. path.now) options.targets.items } };
+}
+
+impl<'a> Options<'a> {
+    ghost use Rattle.std.specs.Prelude.{◌≡◌};
+    ghost use Rattle.command_line.specs.Options.{audits};
+
+    /// Whether an audit is asked for.
+    pub fn audits(&self) -> bool
+        ensures { result ≡ audits self.now }
+    {
+        self.audit || self.audit_all
+    }
 }

@@ -1,5 +1,6 @@
 pub mod Clock
 pub mod Told
+pub mod Traced
 pub mod Inside
 pub mod Process
 pub mod World

@@ -4,7 +4,8 @@ ghost use Rattle.std.specs.Prelude.{◌≡◌, ℤ, IfOk, IsTrue, OnErr};
 ghost use Rattle.host.specs.Process.{HasEnded, HasLetGo, HasNumber, IsEndOf};
 
 use crate::files::{Opened, Printed, Taken};
-use crate::process::{Process, Streams, handed_over};
+use crate::process::{Process, Streams};
+use crate::tracing::Tracing;
 use std::alloc::Global;
 use std::io;
 use std::os::unix::process::ExitStatusExt;
@@ -34,9 +35,9 @@ pub struct End {
 }
 
 /// Starts a command for a job. It reads and prints as the opened files say, which are taken then; without them it has the program's own
-/// input and output. Where it fails, nothing was started, and the files are left.
+/// input and output. It is traced where that is asked for. Where it fails, nothing was started, and the files are left.
 pub fn start(
-    alloc: Global,
+    tracing: &Tracing,
     job: usize,
     command: &str,
     environment: &[u8],
@@ -44,7 +45,7 @@ pub fn start(
 ) -> io::Result<Running>
     ensures { IfOk result (λ running. running.job ≡ job) }
 {
-    let handed = handed_over(alloc, command, environment, streams(opened))?;
+    let handed = tracing.hand_over(job, command, environment, streams(opened))?;
     let process = Process::start(&handed)?;
     Ok(Running {
         job,

@@ -14,6 +14,7 @@ use crate::files::{Files, Made, Opened};
 use crate::jobs::Jobs;
 use crate::load::{LOAD, load_of};
 use crate::process::SHELL;
+use crate::tracing::trace_file;
 use crate::trouble::Trouble;
 use crate::watch::Watch;
 use model::{Act, Event, Finished, SiteFault};
@@ -185,6 +186,18 @@ impl<'a, W: Write> Host<'a, W> {
 }
 
 impl<'a, W: Write> Host<'a, W> {
+    /// From now on each command is traced by the program of this path, into the file of [`Host::trace_of`].
+    pub fn trace_by(&mut self, program: String)
+        ensures { world_of self.new ≡ world_of self.old }
+    {
+        self.jobs.trace_by(program);
+    }
+
+    /// The file into which the trace of a command is written, in the working folder.
+    pub fn trace_of(&self, job: usize) -> Result<String, AllocError> {
+        trace_file(self.alloc, job)
+    }
+
     /// Waits until no other build is in the working folder, and keeps others out from then on. To be called once, before anything is read.
     /// Where a command of another build in this folder has started the program, it waits for nobody: it is an inner build, whose commands
     /// read `/dev/null`.

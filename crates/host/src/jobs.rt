@@ -10,6 +10,7 @@ use crate::commands::{End, Running};
 use crate::environment::variables;
 use crate::files::{Files, Opened, Taken};
 use crate::signals::tell_signal;
+use crate::tracing::Tracing;
 use crate::waiting::{Round, some_runs, wait_all, wait_first};
 use crate::watch::Watch;
 use model::{Act, Event, Finished};
@@ -32,6 +33,8 @@ pub struct Jobs {
     round: Round,
     /// The variables that they get, once they were read.
     environment: Option<Vec<u8>>,
+    /// Whether they are traced, and by what.
+    tracing: Tracing,
 }
 
 impl Model for Jobs {
@@ -61,7 +64,15 @@ impl Jobs {
                 some_held: false,
             },
             environment: None,
+            tracing: Tracing::none(alloc),
         }
+    }
+
+    /// From now on each command is traced by the program of this path.
+    pub fn trace_by(&mut self, program: String)
+        ensures { self.new ≡ self.old }
+    {
+        self.tracing = Tracing::by(self.alloc, program);
     }
 
     /// All starts and ends, oldest first: those before the last restart, then those since.
@@ -90,7 +101,13 @@ impl Jobs {
         read_once(self.alloc, &mut self.environment)?;
         let environment = known(&self.environment);
         set_beside(opened, self.commands.len());
-        let command = commands::start(self.alloc, job, act.command.as_str(), environment, opened)?;
+        let command = commands::start(
+            &self.tracing,
+            job,
+            act.command.as_str(),
+            environment,
+            opened,
+        )?;
         push_reserved(&mut self.events, event);
         push_reserved(&mut self.commands, command);
         Ok(())
@@ -168,11 +185,12 @@ impl Jobs {
 fn start_alone(alloc: Global, command: &str, environment: &[u8]) -> io::Result<Vec<Running>>
     ensures { IfOk result (λ commands. 0 < vec_len commands) }
 {
+    let tracing = Tracing::none(alloc);
     let mut commands = Vec::new(alloc);
     reserve(&mut commands, 1)?;
     push_reserved(
         &mut commands,
-        commands::start(alloc, 0, command, environment, &mut None)?,
+        commands::start(&tracing, 0, command, environment, &mut None)?,
     );
     Ok(commands)
 }

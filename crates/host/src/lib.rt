@@ -16,6 +16,7 @@ mod number;
 mod process;
 mod rests;
 mod signals;
+mod tracing;
 mod trouble;
 mod waiting;
 mod watch;

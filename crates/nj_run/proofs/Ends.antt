@@ -1,19 +1,20 @@
 -- How the program ends.
-use Rattle.std.proofs.Common.{◌≡◌, ◌≢◌, ◌≤◌, ℕ, Bool, true, false, List, [], Option, Some, Result, Ok, Err, IfOk, OnOk, inl, inr, refl, sym, ap, ◌∙◌, arith}
+use Rattle.std.proofs.Common.{◌≡◌, ◌≢◌, ◌≤◌, ℕ, Bool, true, false, if◌then◌else◌, List, [], Option, Some, Result, Ok, Err, IfOk, OnOk, inl, inr, refl, sym, ap, ◌∙◌, arith}
 use Rattle.std.specs.Result.{result_unwrap_or}
 use Rattle.clap.specs.Words.{HasKind, IsAmong, Text, fault_of, kind_of}
 use Rattle.clap.specs.declared.error.Error.{Error}
 use Rattle.clap.specs.declared.error.kind.ErrorKind.TheVariants.{OutOfMemory}
-use Rattle.command_line.specs.Options.{AreAsked, Options, nj}
+use Rattle.command_line.specs.Options.{AreAsked, Options, audits, nj}
 use Rattle.model.specs.World.{World}
 use Rattle.builder.specs.declared.report.Report.{Report}
 use Rattle.builder.specs.declared.report.Report.TheVariants.{Success, Failed, Refused, Fault}
 use Rattle.host.specs.World.{any_outcome, fresh}
 use Rattle.nj_run.specs.Alone.{BuildsAlone}
 use Rattle.nj_run.specs.Status.{status_of}
-use Rattle.nj_run.specs.Texts.{Adds, err_of, out_of}
+use Rattle.nj_run.specs.Texts.{Adds, err_of, no_tracer, out_of, traced_over}
+use Rattle.nj_run.specs.Traces.{IsTracePath}
 use Rattle.nj_run.proofs.Telling.{untouched}
-use Rattle.nj_run.specs.Ends.{AreDone, AsksWhy, Built, Comes, Ending, ToldWhy, Unexplained, Ends, EndsBy, EndsFor, EndsWell, Help, MayEnd, NoFolder, NoMemory, BadWords, exit_status}
+use Rattle.nj_run.specs.Ends.{AreDone, AsksWhy, Audited, Built, Comes, Ending, NoTracer, TracedOver, ToldWhy, Unexplained, Ends, EndsBy, EndsFor, EndsWell, Help, MayEnd, NoFolder, NoMemory, BadWords, exit_status}
 
 -- after a build the status is no 2
 pub built : {F : Type 0} (done told : Result ℕ F) (status : ℕ) → status ≡ result_unwrap_or told 1 → told ≡ done → IfOk done (λ given. given ≤ 1) → status ≡ 2 → ⊥
@@ -39,12 +40,54 @@ no_folder asked on_out on_err out old_err new_err folder (Err fault) is one = re
 
 -- what a build reported, and what was told of it
 pub reported : {W E F : Type 0} (asked : Options) (on_out : W → Option Text) (on_err : E → Option Text) (old_out shown new_out : W) (old_err new_err : E) (report : Report) (refused : Bool) (told : Result ℕ F)
-    → ((asked.why ≡ false) × ((later : World) × BuildsAlone false any_outcome asked fresh later report)) → IfOk told (λ status. status ≡ status_of report)
+    → asked.why ≡ false → audits asked ≡ false → ((later : World) × BuildsAlone false any_outcome asked fresh later report) → IfOk told (λ status. status ≡ status_of report)
     → OnOk told (Adds (on_out shown) (on_out new_out) (out_of report)) → OnOk told (Adds (on_err old_err) (on_err new_err) (err_of report refused))
     → Comes (EndsFor asked) on_out on_err old_out new_out old_err new_err told
-reported asked on_out on_err old_out shown new_out old_err new_err report refused (Ok status) so is out err =
-    record { ending = Built report refused; may = so; tells = (is, record { shown = shown; before = tt; out = out; err = err }) }
-reported asked on_out on_err old_out shown new_out old_err new_err report refused (Err fault) so is out err = record { ending = Built report refused; may = so; tells = tt }
+reported asked on_out on_err old_out shown new_out old_err new_err report refused (Ok status) untold no so is out err =
+    record { ending = Built report refused; may = (untold, no, so.0, so.1); tells = (is, record { shown = shown; before = tt; out = out; err = err }) }
+reported asked on_out on_err old_out shown new_out old_err new_err report refused (Err fault) untold no so is out err =
+    record { ending = Built report refused; may = (untold, no, so.0, so.1); tells = tt }
+
+-- nothing traces commands here
+pub untraced : {W E F : Type 0} (asked : Options) (on_out : W → Option Text) (on_err : E → Option Text) (out : W) (old_err new_err : E) (told : Result ℕ F)
+    → asked.why ≡ false → audits asked ≡ true → IfOk told (λ status. status ≡ 1) → OnOk told (Adds (on_err old_err) (on_err new_err) (Some no_tracer))
+    → Comes (EndsFor asked) on_out on_err out out old_err new_err told
+untraced asked on_out on_err out old_err new_err (Ok status) untold audit one said =
+    record { ending = NoTracer; may = (untold, audit); tells = (one, record { shown = out; before = refl; out = untouched (on_out out); err = said }) }
+untraced asked on_out on_err out old_err new_err (Err fault) untold audit one said = record { ending = NoTracer; may = (untold, audit); tells = tt }
+
+-- build lines name what traces are written to
+pub named_over : {W E F : Type 0} (asked : Options) (on_out : W → Option Text) (on_err : E → Option Text) (old_out shown : W) (old_err new_err : E) (path : Text) (told : Result ℕ F)
+    → asked.why ≡ false → audits asked ≡ true → IsTracePath path → IfOk told (λ status. status ≡ 1) → OnOk told (Adds (on_err old_err) (on_err new_err) (Some (traced_over path)))
+    → Comes (EndsFor asked) on_out on_err old_out shown old_err new_err told
+named_over asked on_out on_err old_out shown old_err new_err path (Ok status) untold audit is one said =
+    record { ending = TracedOver path; may = (untold, audit, is); tells = (one, record { shown = shown; before = tt; out = untouched (on_out shown); err = said }) }
+named_over asked on_out on_err old_out shown old_err new_err path (Err fault) untold audit is one said = record { ending = TracedOver path; may = (untold, audit, is); tells = tt }
+
+-- what a build reported that was audited
+pub audited : {W E F : Type 0} (asked : Options) (on_out : W → Option Text) (on_err : E → Option Text) (old_out new_out : W) (old_err new_err : E) (report : Report) (told : Result ℕ F)
+    → asked.why ≡ false → audits asked ≡ true → ((later : World) × BuildsAlone false any_outcome asked fresh later report)
+    → IfOk told (λ status. (keeps : Bool) × (status ≡ (if keeps then status_of report else 1)))
+    → Comes (EndsFor asked) on_out on_err old_out new_out old_err new_err told
+audited asked on_out on_err old_out new_out old_err new_err report (Ok status) untold audit so is =
+    record { ending = Audited report is.0; may = (untold, audit, so.0, so.1); tells = (is.1, record { shown = old_out; before = tt; out = tt; err = tt }) }
+audited asked on_out on_err old_out new_out old_err new_err report (Err fault) untold audit so is =
+    record { ending = Audited report true; may = (untold, audit, so.0, so.1); tells = tt }
+
+-- the status of an audit is none but 0 and 1
+pub within_one : {F : Type 0} (report : Report) (told : Result ℕ F) → IfOk told (λ status. (keeps : Bool) × (status ≡ (if keeps then status_of report else 1))) → IfOk told (λ status. status ≤ 1)
+within_one report (Ok status) is = by is.0 is.1
+  where
+    by : (keeps : Bool) → status ≡ (if keeps then status_of report else 1) → status ≤ 1
+    by true same = so report same
+      where
+        so : (r : Report) → status ≡ status_of r → status ≤ 1
+        so (Success started) same = omega (arith, same)
+        so (Failed outputs) same = omega (arith, same)
+        so (Refused refusal) same = omega (arith, same)
+        so (Fault fault) same = omega (arith, same)
+    by false same = omega (arith, same)
+within_one report (Err fault) is = tt
 
 -- why commands are due, which was told
 pub told_why : {W E F : Type 0} (asked : Options) (on_out : W → Option Text) (on_err : E → Option Text) (old_out shown new_out : W) (err : E) (told : Result ℕ F)
@@ -85,6 +128,9 @@ refused words error has (NoFolder folder) so = absurd so
 refused words error has (Built report told) so = absurd so
 refused words error has ToldWhy so = absurd so
 refused words error has (Unexplained report told) so = absurd so
+refused words error has NoTracer so = absurd so
+refused words error has (TracedOver path) so = absurd so
+refused words error has (Audited report keeps) so = absurd so
 
 -- words that ask for this
 pub done : (words : List Text) (asked : Options) → fault_of nj words ≡ [] → AreAsked words asked → (ending : Ending) → EndsFor asked ending → MayEnd words ending
@@ -95,6 +141,9 @@ done words asked faultless are (NoFolder folder) so = record { faultless = fault
 done words asked faultless are (Built report told) so = record { faultless = faultless; asked = asked; are_asked = are; so = so }
 done words asked faultless are ToldWhy so = record { faultless = faultless; asked = asked; are_asked = are; so = so }
 done words asked faultless are (Unexplained report told) so = record { faultless = faultless; asked = asked; are_asked = are; so = so }
+done words asked faultless are NoTracer so = record { faultless = faultless; asked = asked; are_asked = are; so = so }
+done words asked faultless are (TracedOver path) so = record { faultless = faultless; asked = asked; are_asked = are; so = so }
+done words asked faultless are (Audited report keeps) so = record { faultless = faultless; asked = asked; are_asked = are; so = so }
 
 well_after : (words : List Text) (report : Report) (told : Bool) → AreDone words (Built report told) → 0 ≡ status_of report → EndsWell words
 well_after words (Success started) told done zero = inr (inl (started, told, done))
@@ -102,14 +151,24 @@ well_after words (Failed outputs) told done zero = absurd (omega (arith, zero))
 well_after words (Refused refusal) told done zero = absurd (omega (arith, zero))
 well_after words (Fault fault) told done zero = absurd (omega (arith, zero))
 
+well_audited : (words : List Text) (report : Report) (keeps : Bool) → AreDone words (Audited report keeps) → 0 ≡ (if keeps then status_of report else 1) → EndsWell words
+well_audited words report false done zero = absurd (omega (arith, zero))
+well_audited words (Success started) true done zero = inr (inr (inr (started, done)))
+well_audited words (Failed outputs) true done zero = absurd (omega (arith, zero))
+well_audited words (Refused refusal) true done zero = absurd (omega (arith, zero))
+well_audited words (Fault fault) true done zero = absurd (omega (arith, zero))
+
 well_by : (words : List Text) (ending : Ending) → MayEnd words ending → 0 ≡ exit_status ending → EndsWell words
 well_by words Help may zero = inl may
 well_by words BadWords may zero = absurd (omega (arith, zero))
 well_by words NoMemory may zero = absurd (omega (arith, zero))
 well_by words (NoFolder folder) may zero = absurd (omega (arith, zero))
 well_by words (Built report told) may zero = well_after words report told may zero
-well_by words ToldWhy may zero = inr (inr may)
+well_by words ToldWhy may zero = inr (inr (inl may))
 well_by words (Unexplained report told) may zero = absurd (omega (arith, zero))
+well_by words NoTracer may zero = absurd (omega (arith, zero))
+well_by words (TracedOver path) may zero = absurd (omega (arith, zero))
+well_by words (Audited report keeps) may zero = well_audited words report keeps may zero
 
 -- where the status is 0, the run has ended well
 pub well : {W E : Type 0} (words : List Text) (on_out : W → Option Text) (on_err : E → Option Text) (old_out new_out : W) (old_err new_err : E) (status : ℕ)

@@ -2,3 +2,4 @@ mod Passing
 mod Ends
 mod Shown
 mod Telling
+mod Optional

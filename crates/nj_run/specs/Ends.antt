@@ -1,17 +1,18 @@
 -- How a run of the program ends: why, with which status, and what it tells.
-use Rattle.std.specs.Prelude.{◌≡◌, ◌≢◌, ◌⊎◌, ℕ, Bool, true, false, List, [], Option, Some, None, Result, IfOk, ⊤}
+use Rattle.std.specs.Prelude.{◌≡◌, ◌≢◌, ◌⊎◌, ℕ, Bool, true, false, if◌then◌else◌, List, [], Option, Some, None, Result, IfOk, ⊤}
 use Rattle.clap.specs.Words.{IsAmong, Text, fault_of}
 use Rattle.clap.specs.declared.error.kind.ErrorKind.{ErrorKind}
 use Rattle.clap.specs.declared.error.kind.ErrorKind.TheVariants.{DisplayHelp, DisplayVersion, OutOfMemory}
 use Rattle.model.specs.Calls.{OnlyLooks}
 use Rattle.model.specs.World.{World}
-use Rattle.command_line.specs.Options.{AreAsked, Options, nj}
+use Rattle.command_line.specs.Options.{AreAsked, Options, audits, nj}
 use Rattle.builder.specs.declared.report.Report.{Report}
 use Rattle.builder.specs.declared.report.Report.TheVariants.{Success}
 use Rattle.host.specs.World.{any_outcome, fresh}
 use Rattle.nj_run.specs.Alone.{BuildsAlone}
 use Rattle.nj_run.specs.Status.{status_of}
-use Rattle.nj_run.specs.Texts.{Adds, err_of, no_memory, out_of}
+use Rattle.nj_run.specs.Texts.{Adds, err_of, no_memory, no_tracer, out_of, traced_over}
+use Rattle.nj_run.specs.Traces.{IsTracePath}
 
 -- why a run ends
 pub data Ending : Type 0 where
@@ -29,6 +30,12 @@ pub data Ending : Type 0 where
   ToldWhy : Ending
   -- that could not be told, as is reported so, and whether it is told what the device refused last
   Unexplained : Report → Bool → Ending
+  -- an audit was asked for, and nothing traces commands here: nothing was started
+  NoTracer : Ending
+  -- an audit was asked for, and build lines name this path, to which traces are written: nothing was started
+  TracedOver : Text → Ending
+  -- a build was audited and reported so, and whether each command was looked at and keeps all premises
+  Audited : Report → Bool → Ending
 
 abbrev pub exit_status : Ending → ℕ
 exit_status Help = 0
@@ -38,6 +45,9 @@ exit_status (NoFolder folder) = 1
 exit_status (Built report refused) = status_of report
 exit_status ToldWhy = 0
 exit_status (Unexplained report refused) = 1
+exit_status NoTracer = 1
+exit_status (TracedOver path) = 1
+exit_status (Audited report keeps) = if keeps then status_of report else 1
 
 -- What is told on the standard output, behind what the build showed there. Help is open (`None`): no contract of clap tells its
 -- text. So is what is told of commands that are due: their paths stand in it.
@@ -49,6 +59,9 @@ told_on_out (NoFolder folder) = Some []
 told_on_out (Built report refused) = out_of report
 told_on_out ToldWhy = None
 told_on_out (Unexplained report refused) = out_of report
+told_on_out NoTracer = Some []
+told_on_out (TracedOver path) = Some []
+told_on_out (Audited report keeps) = None
 
 -- What is told on the standard error. Open is what clap says of bad words, and of a folder why the system refuses it: that
 -- stands behind the line of N60 and `nj: FOLDER: `.
@@ -60,6 +73,9 @@ told_on_err (NoFolder folder) = None
 told_on_err (Built report refused) = err_of report refused
 told_on_err ToldWhy = Some []
 told_on_err (Unexplained report refused) = err_of report refused
+told_on_err NoTracer = Some no_tracer
+told_on_err (TracedOver path) = Some (traced_over path)
+told_on_err (Audited report keeps) = None
 
 -- help, or the version, which clap shows in the same way; `nj` has no word that asks for it
 abbrev pub IsShown : ErrorKind → Type 0
@@ -74,6 +90,9 @@ EndsBy kind (NoFolder folder) = ⊥
 EndsBy kind (Built report refused) = ⊥
 EndsBy kind ToldWhy = ⊥
 EndsBy kind (Unexplained report refused) = ⊥
+EndsBy kind NoTracer = ⊥
+EndsBy kind (TracedOver path) = ⊥
+EndsBy kind (Audited report keeps) = ⊥
 
 -- it was asked why commands are due, and the site of real files was only looked at: nothing was started or written
 pub record AsksWhy (asked : Options) : Type 0 where
@@ -93,9 +112,12 @@ EndsFor asked Help = ⊥
 EndsFor asked BadWords = ⊥
 EndsFor asked NoMemory = ⊥
 EndsFor asked (NoFolder folder) = asked.folder ≡ Some folder
-EndsFor asked (Built report refused) = (asked.why ≡ false) × ((later : World) × BuildsAlone false any_outcome asked fresh later report)
+EndsFor asked (Built report refused) = (asked.why ≡ false) × (audits asked ≡ false) × (later : World) × BuildsAlone false any_outcome asked fresh later report
 EndsFor asked ToldWhy = AsksWhy asked
 EndsFor asked (Unexplained report refused) = AsksWhy asked
+EndsFor asked NoTracer = (asked.why ≡ false) × (audits asked ≡ true)
+EndsFor asked (TracedOver path) = (asked.why ≡ false) × (audits asked ≡ true) × IsTracePath path
+EndsFor asked (Audited report keeps) = (asked.why ≡ false) × (audits asked ≡ true) × (later : World) × BuildsAlone false any_outcome asked fresh later report
 
 -- the words have a fault for which a run may end so
 pub record AreRefused (words : List Text) (ending : Ending) : Type 0 where
@@ -119,6 +141,9 @@ MayEnd words (NoFolder folder) = AreDone words (NoFolder folder)
 MayEnd words (Built report refused) = AreDone words (Built report refused)
 MayEnd words ToldWhy = AreDone words ToldWhy
 MayEnd words (Unexplained report refused) = AreDone words (Unexplained report refused)
+MayEnd words NoTracer = AreDone words NoTracer
+MayEnd words (TracedOver path) = AreDone words (TracedOver path)
+MayEnd words (Audited report keeps) = AreDone words (Audited report keeps)
 
 -- What the standard output was where a build has ended. A build shows on it by way of the host, which keeps it as long as the
 -- build lasts, and of what `Site::show` shows contracts tell nothing: it may hold anything then. Where nothing is built, it is
@@ -131,6 +156,9 @@ ShownBefore (NoFolder folder) old shown = shown ≡ old
 ShownBefore (Built report refused) old shown = ⊤
 ShownBefore ToldWhy old shown = ⊤
 ShownBefore (Unexplained report refused) old shown = ⊤
+ShownBefore NoTracer old shown = shown ≡ old
+ShownBefore (TracedOver path) old shown = ⊤
+ShownBefore (Audited report keeps) old shown = ⊤
 
 -- all was told: on the standard output, behind what was shown there, and on the standard error
 pub record AllTold {W E : Type 0} (on_out : W → Option Text) (on_err : E → Option Text) (ending : Ending)
@@ -149,8 +177,8 @@ pub record Comes (May : Ending → Type 0) {W E F : Type 0} (on_out : W → Opti
       (status ≡ exit_status ending) × AllTold on_out on_err ending old_out new_out old_err new_err)
 
 -- A run of these words ends with this status: that of its ending, and all was told; or 1, since a text could not be written, a
--- cause of which the kit's `Write` tells nothing. So it is 0 only after a build that succeeded, after help and after telling why
--- commands are due, and 2 only where the words have a fault.
+-- cause of which the kit's `Write` tells nothing. So it is 0 only after a build that succeeded (and keeps all premises where it was
+-- audited), after help and after telling why commands are due, and 2 only where the words have a fault.
 pub record Ends (words : List Text) {W E : Type 0} (on_out : W → Option Text) (on_err : E → Option Text)
     (old_out new_out : W) (old_err new_err : E) (status : ℕ) : Type 0 where
   pub ending : Ending
@@ -163,7 +191,9 @@ abbrev pub EndsNoted : {W E : Type 0} → List Text → (W → Option Text) → 
 EndsNoted {W} {E} words on_out on_err old_out new_out old_err status =
     (told : E) × Ends words on_out on_err old_out new_out old_err told status
 
--- help was asked for, or what the words ask for was built, with success, or it was told why commands are due
+-- help was asked for, or it was told why commands are due, or what the words ask for was built, with success, and where an audit was
+-- asked for each command keeps all premises
 abbrev pub EndsWell : List Text → Type 0
 EndsWell words =
-    AreRefused words Help ⊎ ((started : ℕ) × (refused : Bool) × AreDone words (Built (Success started) refused)) ⊎ AreDone words ToldWhy
+    AreRefused words Help ⊎ (((started : ℕ) × (refused : Bool) × AreDone words (Built (Success started) refused))
+    ⊎ (AreDone words ToldWhy ⊎ ((started : ℕ) × AreDone words (Audited (Success started) true))))

@@ -3,3 +3,4 @@ pub mod Asked
 pub mod Ends
 pub mod Status
 pub mod Texts
+pub mod Traces

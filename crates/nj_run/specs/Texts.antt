@@ -17,6 +17,13 @@ stopped count = line (codes "nj: build stopped, failed commands: " ++ decimal co
 abbrev pub no_memory : List ℕ
 no_memory = line (codes "nj: error: N61: out of memory")
 
+abbrev pub no_tracer : List ℕ
+no_tracer = line (codes "nj: error: no strace in PATH that traces a program here; nothing was started")
+
+-- where build lines name this path
+abbrev pub traced_over : List ℕ → List ℕ
+traced_over path = line (codes "nj: error: nothing was started, since traces would be written over what build lines name: " ++ path)
+
 abbrev pub site_failed : List ℕ
 site_failed = line (codes "nj: error: N60: the site failed")
 

@@ -2,10 +2,16 @@
 #![tactic(auto)]
 
 mod alone;
+mod anew;
+mod audited;
+mod looked;
 mod named;
 mod noted;
 mod program;
+mod reported;
 mod told;
+mod tracer;
+mod traces;
 mod whys;
 
 pub use alone::{Alone, build_alone, explain_alone};

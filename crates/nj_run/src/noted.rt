@@ -1,5 +1,6 @@
 //! What may help whoever watches a run, found beside it.
 
+use crate::reported::read_too_early;
 use builder::{Reading, Refusal, Report};
 use host::{Host, StandingClock};
 use manifest::ReadError;
@@ -22,6 +23,8 @@ pub struct Noted<'a> {
     /// How the screen looks, where rows are drawn on it.
     look: Option<Look>,
     notes: Vec<Note>,
+    /// Notes of what was read before it was made.
+    early: Vec<Note>,
     /// What was later than the build file when that was read. The build may write it anew.
     older: Option<Older>,
     /// What the first target that no build line names was meant to be.
@@ -38,6 +41,7 @@ impl<'a> Noted<'a> {
             is_wanted,
             look: None,
             notes: Vec::new(rt.alloc()),
+            early: Vec::new(rt.alloc()),
             older: None,
             nearest: None,
             folder: Path::new(rt.alloc()),
@@ -118,6 +122,9 @@ impl<'a> Noted<'a> {
         let alloc = self.rt.alloc();
         let found = explained(alloc, host, file, self.folder.as_str(), report);
         self.put(found);
+        if let Some(early) = read_too_early(alloc, host, file, self.folder.as_str()) {
+            self.early = early;
+        }
     }
 
     /// Puts a note after the others, if one was found and somebody watches.
@@ -132,6 +139,9 @@ impl<'a> Noted<'a> {
     /// Tells the notes, a line each.
     pub fn tell<E: Write>(self, err: &mut E) -> io::Result<()> {
         for note in &self.notes {
+            writeln!(err, "{note}")?;
+        }
+        for note in &self.early {
             writeln!(err, "{note}")?;
         }
         err.flush()

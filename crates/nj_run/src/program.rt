@@ -11,6 +11,7 @@ ghost use Rattle.nj_run.specs.Asked.{AreHandedOn, pattern_text};
 ghost use Rattle.nj_run.specs.Ends.{Comes, Ends, EndsFor, EndsNoted, EndsWell};
 
 use crate::alone::{Alone, build_alone, explain_alone};
+use crate::audited::audit_asked;
 use crate::noted::Noted;
 use crate::{told, whys};
 use builder::{Explained, Options, Report};
@@ -102,6 +103,9 @@ fn build_asked<W: Write, E: Write>(
     if asked.why {
         return explain_asked(asked, pattern, out, err, noted);
     }
+    if asked.audits() {
+        return audit_asked(asked, pattern, out, err, noted);
+    }
     let (report, trouble) = build_here(asked, pattern, out, noted);
     told::report(&report, trouble.as_ref(), out, err)
 }
@@ -184,7 +188,7 @@ fn build_here<W: Write>(
 }
 
 /// Tells once more which outputs failed, where rows are drawn and more than one command may fail.
-fn recall<W: Write>(host: &mut Host<'_, W>, keep: u32, report: &Report) {
+pub(crate) fn recall<W: Write>(host: &mut Host<'_, W>, keep: u32, report: &Report) {
     if keep == 1 {
         return;
     }
@@ -214,7 +218,7 @@ pub fn build_on<S: Alone>(
 }
 
 /// The options and the targets of a build. Where no pattern is given, lines have the default one.
-fn build_options(
+pub(crate) fn build_options(
     alloc: Global,
     asked: &Asked<'_>,
     pattern: Option<&str>,

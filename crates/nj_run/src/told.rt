@@ -4,7 +4,7 @@ ghost use Rattle.std.specs.Prelude.{◌≡◌, ◌≢◌, ◌≤◌, Some, IfOk,
 ghost use Rattle.clap.specs.Words.{kind_of};
 ghost use Rattle.nj_run.specs.Ends.{Comes, EndsBy};
 ghost use Rattle.nj_run.specs.Status.{status_of};
-ghost use Rattle.nj_run.specs.Texts.{Adds, after_failure, after_success, err_of, no_memory, out_of, stopped};
+ghost use Rattle.nj_run.specs.Texts.{Adds, after_failure, after_success, err_of, no_memory, out_of, stopped, traced_over};
 
 use builder::{Refusal, Report};
 use clap::Error;
@@ -104,6 +104,19 @@ fn failed_site<E: Write>(trouble: Option<&Trouble>, err: &mut E) -> io::Result<(
         writeln!(err, "nj: {trouble}")?;
     }
     err.flush()
+}
+
+/// Tells that build lines name this path, to which traces are written. The status is 1.
+pub fn traced_over<E: Write>(path: &str, err: &mut E) -> io::Result<u8>
+    ensures status { IfOk result (λ status. status ≡ 1) }
+    ensures told { OnOk result (Adds (E.contents err.old) (E.contents err.new) (Some (traced_over path.now))) }
+{
+    writeln!(
+        err,
+        "nj: error: nothing was started, since traces would be written over what build lines name: {path}"
+    )?;
+    err.flush()?;
+    Ok(1)
 }
 
 /// Tells that the folder in which to build cannot be gone to. The status is 1.

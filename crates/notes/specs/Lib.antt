@@ -1,3 +1,4 @@
+pub mod Ahead
 pub mod Clock
 pub mod Edges
 pub mod Found

@@ -4,6 +4,7 @@
 //! go on without it.
 #![tactic(auto)]
 
+mod ahead;
 mod alike;
 mod clock;
 mod edges;
@@ -16,10 +17,12 @@ mod program;
 mod refused;
 mod stamps;
 
+pub use ahead::{Reported, made_later};
 pub use clock::clock_went_back;
+pub use edges::makers_of;
 pub use generator::older_file;
 pub use logs::other_ninja;
 pub use nearest::nearest_target;
-pub use note::{AnotherNinja, Later, Note, Older, Recorded};
+pub use note::{AnotherNinja, Later, MadeLater, Note, Older, Recorded};
 pub use program::program_name;
 pub use refused::{no_build_file, recorded_input};

@@ -18,6 +18,10 @@ pub enum Note {
     AnotherNinja(AnotherNinja),
     /// A circle of edges is closed by an input that a command reported.
     Recorded(Recorded),
+    /// A command reported that it read what was made later.
+    MadeLater(MadeLater),
+    /// So many more did.
+    MoreMadeLater(usize),
     /// There is no build file at this path.
     NoBuildFile(Text),
     /// The path of a build line that is nearest to a target which none names.
@@ -64,6 +68,15 @@ pub struct Recorded {
     pub folder: Path,
 }
 
+/// A command reported that it read a path, and the command that makes the path had not ended when the first one was started.
+#[derive(Debug, Drop)]
+pub struct MadeLater {
+    /// The first output of the command that read.
+    pub output: Path,
+    /// What it read.
+    pub input: Path,
+}
+
 impl Older {
     /// Whether it is so still: the generator may have run since.
     pub fn is_still_older<F: Files>(&self, files: &F) -> bool {
@@ -85,6 +98,11 @@ impl fmt::Display for Note {
             Note::Older(older) => write!(f, "{older}"),
             Note::AnotherNinja(other) => write!(f, "{other}"),
             Note::Recorded(recorded) => write!(f, "{recorded}"),
+            Note::MadeLater(later) => write!(f, "{later}"),
+            Note::MoreMadeLater(count) => write!(
+                f,
+                "{count} more were read so before they were made; nj --audit tells of each command what it reads"
+            ),
             Note::NoBuildFile(file) => write!(
                 f,
                 "{file} is what a generator writes, as cmake, meson or gn: run it first, or name the folder of the file by -C DIR"
@@ -150,6 +168,17 @@ impl fmt::Display for Recorded {
         write!(
             f,
             "that '{output}' reads '{input}' was recorded when it was made: deleting {deps} forgets that"
+        )
+    }
+}
+
+impl fmt::Display for MadeLater {
+    fn fmt<W: fmt::Write>(&self, f: &mut fmt::Formatter<W>) -> fmt::Result {
+        let output = &self.output;
+        let input = &self.input;
+        write!(
+            f,
+            "'{output}' reads '{input}', which was not made when its command was started: make '{input}' an input of '{output}'"
         )
     }
 }

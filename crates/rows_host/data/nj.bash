@@ -1,7 +1,7 @@
 # Completion of nj for bash: options, folders, files, and the outputs that the build file names.
 _nj() {
     local word=${COMP_WORDS[COMP_CWORD]} before=${COMP_WORDS[COMP_CWORD - 1]}
-    local options='-C -f -j -k -v --why -h --help'
+    local options='-C -f -j -k -v --why --audit --audit-all -h --help'
     local folder=. file=build.ninja place
     COMPREPLY=()
     case $before in

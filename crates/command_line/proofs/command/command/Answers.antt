@@ -5,6 +5,8 @@ use Rattle.command_line.proofs.command.command.Goals as goal
 pub returns : goal.returns
 returns c =
     c.in_ok-command.ensures.shape c.targets.ensures.local
+    ∙ ap₂ with_rule (c.in_ok-arg-8.ensures.shape c.audit_all.ensures.local
+    ∙ ap₂ with_rule (c.in_ok-arg-7.ensures.shape c.audit.ensures.local
     ∙ ap₂ with_rule (c.in_ok-arg-6.ensures.shape c.why.ensures.local
     ∙ ap₂ with_rule (c.in_ok-arg-5.ensures.shape c.verbose.ensures.local
     ∙ ap₂ with_rule (c.in_ok-arg-4.ensures.shape c.keep.ensures.local
@@ -17,4 +19,6 @@ returns c =
     c.keep.ensures.rule)
     c.verbose.ensures.rule)
     c.why.ensures.rule)
+    c.audit.ensures.rule)
+    c.audit_all.ensures.rule)
     c.targets.ensures.rule

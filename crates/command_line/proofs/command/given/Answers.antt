@@ -16,5 +16,7 @@ returns c =
       keep = c.number-2.ensures;
       verbose = rw (← one_text-rows found (codes "verbose")) (flag_is _ c.get_flag.result c.get_flag.ensures.none c.get_flag.ensures.value c.get_flag.ensures.other);
       why = rw (← one_text-rows found (codes "why")) (flag_is _ c.get_flag-2.result c.get_flag-2.ensures.none c.get_flag-2.ensures.value c.get_flag-2.ensures.other);
+      audit = rw (← one_text-rows found (codes "audit")) (flag_is _ c.get_flag-3.result c.get_flag-3.ensures.none c.get_flag-3.ensures.value c.get_flag-3.ensures.other);
+      audit_all = rw (← one_text-rows found (codes "audit_all")) (flag_is _ c.get_flag-4.result c.get_flag-4.ensures.none c.get_flag-4.ensures.value c.get_flag-4.ensures.other);
       targets = rw (c.in_ok-from_slice.ensures.items, c.unwrap_or-2.ensures) (texts_or c.get_strs.result _ refl ∙ ap (λ (o : Option (List (List ℕ))). unwrap_or o []) (c.get_strs.ensures ∙ raw_values-rows found (codes "targets")));
     }

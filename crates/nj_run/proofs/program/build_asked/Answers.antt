@@ -9,4 +9,4 @@ returns-in-Err-clause-comes g c = no_folder c.args.asked.now _ _ _ _ _ c.in-Some
 pub returns-clause-comes : goal.returns-clause-comes
 returns-clause-comes g c =
     reported c.args.asked.now _ _ _ c.build_here-report.new.out _ _ _ c.build_here-report.result.0 (is_some c.as_ref.result) c.report.result
-    (search rules, c.build_here-report.ensures) c.report.ensures.status c.report.ensures.out c.report.ensures.err
+    (search rules) (search rules) c.build_here-report.ensures c.report.ensures.status c.report.ensures.out c.report.ensures.err

@@ -1,0 +1,5 @@
+pub mod Uses
+pub mod Places
+pub mod Findings
+pub mod Seen
+pub mod Breaches

@@ -1,0 +1,99 @@
+-- What a command did, path by path.
+use Rattle.std.specs.Prelude.{◌≡◌, ℕ, zero, suc, Bool, true, false, List, [], ◌∷◌, ◌++◌, Option, Some, None, if◌then◌else◌, codes, nat_eq, bytes_eq, unwrap_or, ⊤}
+use Rattle.std.specs.List.{AllZip, starts_with}
+use Rattle.lexer.specs.Path.{IsCanonical}
+use Rattle.trace.specs.declared.fact.Fact.{Fact}
+use Rattle.model.specs.Graph.{has}
+use Rattle.trace.specs.declared.fact.Deed.{Deed}
+use Rattle.trace.specs.declared.fact.Deed.TheVariants.{Connected}
+use Rattle.audit.specs.declared.seen.Uses.{Uses}
+use Rattle.audit.specs.declared.used.Use.{Use}
+use Rattle.audit.specs.declared.seen.Whole.{Whole}
+use Rattle.audit.specs.Uses.{unused, with_deed}
+
+abbrev pub IsPath : List ℕ → List ℕ → Type 0
+IsPath text path = IsCanonical text path
+
+-- the path of a build, from the root
+abbrev pub whole_path : List ℕ → List ℕ → List ℕ
+whole_path folder path = if starts_with nat_eq path (codes "/") then path else (folder ++ codes "/") ++ path
+
+-- its canonical form
+abbrev pub IsWhole : List ℕ → List ℕ → List ℕ → Type 0
+IsWhole folder path found = IsCanonical (whole_path folder path) found
+
+-- ---- facts in canonical form
+
+abbrev pub IsRealOf : Option (List ℕ) → Option (List ℕ) → Type 0
+IsRealOf None None = ⊤
+IsRealOf None (Some path) = ⊥
+IsRealOf (Some real) None = ⊥
+IsRealOf (Some real) (Some path) = IsCanonical real path
+
+-- the same was done, and the paths are in their canonical form
+pub record IsWholeOf (fact : Fact) (whole : Whole) : Type 0 where
+  pub deed : whole.deed ≡ fact.deed
+  pub path : IsCanonical fact.path whole.path
+  pub real : IsRealOf fact.real whole.real
+
+abbrev pub AreWhole : List Fact → List Whole → Type 0
+AreWhole = AllZip IsWholeOf
+
+-- ---- path by path
+
+-- the paths at which something was done, in the order in which each comes first, and what was done there in sum
+pub record Sums : Type 0 where
+  pub paths : List (List ℕ)
+  pub uses : List Use
+
+abbrev pub no_sums : Sums
+no_sums = record { paths = []; uses = [] }
+
+abbrev pub sums_in : Uses → Sums
+sums_in uses = record { paths = uses.paths; uses = uses.uses.items }
+
+-- the use at this path becomes one with this deed more
+abbrev pub use_again : List (List ℕ) → List Use → List ℕ → Deed → List Use
+use_again [] uses path deed = uses
+use_again (other ∷ paths) [] path deed = []
+use_again (other ∷ paths) (used ∷ uses) path deed =
+    if bytes_eq other path then with_deed used deed ∷ uses else used ∷ use_again paths uses path deed
+
+-- the use in this place becomes one with this deed more
+abbrev pub again_at : List Use → ℕ → Deed → List Use
+again_at [] place deed = []
+again_at (used ∷ uses) zero deed = with_deed used deed ∷ uses
+again_at (used ∷ uses) (suc place) deed = used ∷ again_at uses place deed
+
+-- a path at which this was done goes last
+abbrev pub put_last : Sums → List ℕ → Use → Sums
+put_last sums path used = record { paths = sums.paths ++ path ∷ []; uses = sums.uses ++ used ∷ [] }
+
+-- one thing more was done: at a path at which something was done before, or at another one, which goes last
+abbrev pub with_done : Sums → List ℕ → Deed → Sums
+with_done sums path deed =
+    if has sums.paths path then record { paths = sums.paths; uses = use_again sums.paths sums.uses path deed }
+    else put_last sums path (with_deed unused deed)
+
+-- the path by which a thing counts: the one that was given, or the one that the kernel has where that is asked for and known
+abbrev pub path_by : Whole → Bool → List ℕ
+path_by whole false = whole.path
+path_by whole true = unwrap_or whole.real whole.path
+
+-- these things were done, one after another, each by the path that is asked for
+abbrev pub with_all_done : Sums → List Whole → List Bool → Sums
+with_all_done sums [] reals = sums
+with_all_done sums (whole ∷ wholes) [] = sums
+with_all_done sums (whole ∷ wholes) (real ∷ reals) =
+    with_all_done (with_done sums (path_by whole real) whole.deed) wholes reals
+
+-- the paths at which nothing was done go last
+abbrev pub with_untouched : Sums → List (List ℕ) → Sums
+with_untouched sums [] = sums
+with_untouched sums (path ∷ paths) =
+    with_untouched (if has sums.paths path then sums else put_last sums path unused) paths
+
+-- a server was asked
+abbrev pub is_connected : Deed → Bool
+is_connected Connected = true
+is_connected _ = false

@@ -1,0 +1,36 @@
+-- What a command did at one path, in sum (this project's own).
+use Rattle.std.specs.Prelude.{◌||◌, not, true, false, List, [], ◌∷◌}
+use Rattle.trace.specs.declared.fact.Deed.{Deed}
+use Rattle.trace.specs.declared.fact.Deed.TheVariants.{Read, Wrote, Removed, Listed, Asked, Missed, Folder, Made, Connected}
+use Rattle.audit.specs.declared.used.Use.{Use}
+
+abbrev pub unused : Use
+unused = record {
+  reads = false;
+  asks = false;
+  misses = false;
+  lists = false;
+  writes = false;
+  removes = false;
+  gone = false;
+  is_folder = false;
+  made_folder = false;
+}
+
+-- The same, and this deed after it. What a command reads, asks for or removes once it has written it is its own; and what a folder that
+-- it made itself holds depends on nothing else.
+abbrev pub with_deed : Use → Deed → Use
+with_deed use_so_far Read = record use_so_far { reads = use_so_far.reads || not use_so_far.writes }
+with_deed use_so_far Asked = record use_so_far { asks = use_so_far.asks || not use_so_far.writes }
+with_deed use_so_far Missed = record use_so_far { misses = true }
+with_deed use_so_far Listed = record use_so_far { lists = use_so_far.lists || not use_so_far.made_folder }
+with_deed use_so_far Wrote = record use_so_far { writes = true; gone = false }
+with_deed use_so_far Removed = record use_so_far { removes = use_so_far.removes || not use_so_far.writes; gone = true }
+with_deed use_so_far Folder = record use_so_far { is_folder = true }
+with_deed use_so_far Made = record use_so_far { is_folder = true; made_folder = true }
+with_deed use_so_far Connected = use_so_far
+
+-- these deeds, one after another
+abbrev pub with_deeds : Use → List Deed → Use
+with_deeds so_far [] = so_far
+with_deeds so_far (deed ∷ deeds) = with_deeds (with_deed so_far deed) deeds

@@ -1,0 +1,267 @@
+//! What a command did, path by path.
+
+ghost use Rattle.std.specs.Prelude.{◌≡◌, IfOk, IfSome, OnOk, false, length, slice_get, if◌then◌else◌};
+ghost use Rattle.std.specs.List.{list_any};
+ghost use Rattle.std.specs.Option.{option_map};
+ghost use Rattle.std.specs.Map.Iter.{deref};
+ghost use Rattle.model.specs.Graph.{has};
+ghost use Rattle.audit.specs.Uses.{unused};
+ghost use Rattle.audit.specs.Seen.{AreWhole, IsPath, IsWhole, IsWholeOf, again_at, is_connected, no_sums, path_by, put_last, sums_in, with_all_done, with_done, with_untouched};
+
+use crate::used::Use;
+use lexer::{ReadFault, canonical};
+use paths::{PathId, Paths};
+use std::alloc::{AllocError, Global};
+use std::str::from_utf8;
+use text::{Bytes, Items, Path};
+use trace::{Deed, Fact};
+
+/// What was done at a path, which is canonical. Where it is one of the build, it begins at the root.
+#[derive(Drop)]
+pub struct Whole {
+    pub deed: Deed,
+    pub path: Path,
+    /// By which path the kernel has the file, where the trace tells it.
+    pub real: Option<Path>,
+}
+
+/// The facts with their paths in canonical form; none where a path is no text.
+pub fn wholes_of(alloc: Global, facts: &[Fact]) -> Result<Option<Items<Whole>>, AllocError>
+    ensures { IfOk result (λ found. IfSome found (AreWhole facts.now)) }
+{
+    let mut wholes = Items::new(alloc);
+    for fact in facts {
+        let Some(whole) = whole_of(alloc, fact)? else {
+            return Ok(None);
+        };
+        wholes.push(whole)?;
+    }
+    Ok(Some(wholes))
+}
+
+/// A fact with its paths in canonical form; none where a path is no text.
+fn whole_of(alloc: Global, fact: &Fact) -> Result<Option<Whole>, AllocError>
+    ensures { IfOk result (λ found. IfSome found (IsWholeOf fact.now)) }
+{
+    let Some(path) = path_of(alloc, &fact.path)? else {
+        return Ok(None);
+    };
+    let deed = fact.deed;
+    let Some(real) = &fact.real else {
+        return Ok(Some(Whole {
+            deed,
+            path,
+            real: None,
+        }));
+    };
+    match path_of(alloc, real)? {
+        Some(real) => Ok(Some(Whole {
+            deed,
+            path,
+            real: Some(real),
+        })),
+        None => Ok(None),
+    }
+}
+
+/// The canonical path of these bytes, if they are a text. The empty one has none.
+fn path_of(alloc: Global, path: &Bytes) -> Result<Option<Path>, AllocError>
+    ensures { IfOk result (λ found. IfSome found (IsPath path.now)) }
+{
+    let Ok(path) = from_utf8(path.as_slice()) else {
+        return Ok(None);
+    };
+    match canonical(alloc, path) {
+        Ok(path) => Ok(Some(Path::from_string(path))),
+        Err(ReadFault::EmptyPath) => Ok(None),
+        Err(ReadFault::Memory) => Err(AllocError),
+    }
+}
+
+/// The canonical path from the root of a path of the build, whose folder is this one.
+pub fn canonical_at(alloc: Global, folder: &str, path: &str) -> Result<Path, AllocError>
+    ensures { IfOk result (IsWhole folder.now path.now) }
+{
+    if path.as_bytes().starts_with(b"/") {
+        return canonical_of(alloc, path);
+    }
+    let mut whole = String::from_str(alloc, folder)?;
+    whole.push('/')?;
+    whole.push_str(path)?;
+    canonical_of(alloc, whole.as_str())
+}
+
+/// The canonical path of a text that has a slash, and so is not empty.
+fn canonical_of(alloc: Global, path: &str) -> Result<Path, AllocError>
+    ensures { IfOk result (IsPath path.now) }
+{
+    match canonical(alloc, path) {
+        Ok(path) => Ok(Path::from_string(path)),
+        Err(_) => Err(AllocError),
+    }
+}
+
+/// What a command did, path by path, in the order in which it came to each: the paths, and at the same place of the other list what was done
+/// there in sum.
+#[derive(Drop)]
+pub struct Uses {
+    pub paths: Paths,
+    pub uses: Vec<Use>,
+}
+
+impl Uses {
+    /// Nothing. This takes no memory.
+    fn none(alloc: Global) -> Uses
+        ensures { sums_in result ≡ no_sums }
+    {
+        Uses {
+            paths: Paths::new(alloc),
+            uses: Vec::new(alloc),
+        }
+    }
+
+    /// How many paths there are.
+    pub fn len(&self) -> usize
+        ensures { result ≡ length (sums_in self.now).paths }
+    {
+        self.paths.len()
+    }
+
+    /// The path in this place.
+    pub fn path(&self, place: usize) -> Option<&str>
+        ensures { option_map deref result ≡ slice_get (sums_in self.now).paths place }
+    {
+        path_at(&self.paths, place)
+    }
+
+    /// What was done at the path in this place.
+    pub fn used(&self, place: usize) -> Option<Use>
+        ensures { result ≡ slice_get (sums_in self.now).uses place }
+    {
+        self.uses.get(place).copied()
+    }
+
+    /// Takes in one thing more that was done.
+    fn take(&mut self, alloc: Global, path: &str, deed: Deed) -> Result<(), AllocError>
+        ensures { OnOk result (sums_in self.new ≡ with_done (sums_in self.old) path.now deed) }
+    {
+        match self.paths.number_of(path) {
+            Some(number) => {
+                self.again(number.index(), deed);
+                Ok(())
+            }
+            None => {
+                self.put(alloc, path, Use::none().with(deed))?;
+                Ok(())
+            }
+        }
+    }
+
+    /// Takes in one thing more that was done at the path in this place.
+    fn again(&mut self, place: usize, deed: Deed)
+        ensures paths { self.new.paths ≡ self.old.paths }
+        ensures uses { self.new.uses.items ≡ again_at self.old.uses.items place deed }
+    {
+        if place < self.uses.len() {
+            self.uses[place] = self.uses[place].with(deed);
+        }
+    }
+
+    /// Puts a path at the end, which is not there yet.
+    fn put(&mut self, alloc: Global, path: &str, used: Use) -> Result<(), AllocError>
+        requires { has (sums_in self.old).paths path.now ≡ false }
+        ensures { OnOk result (sums_in self.new ≡ put_last (sums_in self.old) path.now used) }
+    {
+        self.paths.add(alloc, path)?;
+        self.uses.push(used)?;
+        Ok(())
+    }
+
+    /// Puts a path at the end at which nothing was done, if it is not there yet.
+    fn touch(&mut self, alloc: Global, path: &str) -> Result<(), AllocError>
+        ensures { OnOk result (sums_in self.new ≡ (if has (sums_in self.old).paths path.now then sums_in self.old else put_last (sums_in self.old) path.now unused)) }
+    {
+        match self.paths.number_of(path) {
+            Some(_) => Ok(()),
+            None => {
+                self.put(alloc, path, Use::none())?;
+                Ok(())
+            }
+        }
+    }
+
+    /// Puts those of these paths at the end at which nothing was done, so that each of them is there.
+    pub fn add_untouched(&mut self, alloc: Global, paths: &Paths) -> Result<(), AllocError>
+        ensures { OnOk result (sums_in self.new ≡ with_untouched (sums_in self.old) paths.now) }
+    {
+        for place in 0..paths.len() {
+            let Some(path) = path_at(paths, place) else {
+                return Ok(());
+            };
+            self.touch(alloc, path)?;
+        }
+        Ok(())
+    }
+}
+
+/// The path in this place of a table.
+fn path_at(paths: &Paths, place: usize) -> Option<&str>
+    ensures { option_map deref result ≡ slice_get paths.now place }
+{
+    if place >= paths.len() {
+        return None;
+    }
+    match PathId::at(place) {
+        Some(number) => paths.get(number),
+        None => None,
+    }
+}
+
+/// What a command did, path by path: each thing by its path, or where that is asked for by the one that the kernel has, if it is known.
+pub fn uses_of(alloc: Global, wholes: &[Whole], reals: &[bool]) -> Result<Uses, AllocError>
+    ensures { IfOk result (λ uses. sums_in uses ≡ with_all_done no_sums wholes.now reals.now) }
+{
+    let mut uses = Uses::none(alloc);
+    for place in 0..wholes.len() {
+        let Some(by_real) = reals.get(place) else {
+            return Ok(uses);
+        };
+        let whole = &wholes[place];
+        uses.take(alloc, path_by(whole, *by_real), whole.deed)?;
+    }
+    Ok(uses)
+}
+
+/// The path by which a thing counts that was done.
+fn path_by(whole: &Whole, by_real: bool) -> &str
+    ensures { result.now ≡ path_by whole.now by_real }
+{
+    if !by_real {
+        return whole.path.as_str();
+    }
+    match &whole.real {
+        Some(real) => real.as_str(),
+        None => whole.path.as_str(),
+    }
+}
+
+/// Whether a server was asked.
+pub fn connects(wholes: &[Whole]) -> bool
+    ensures { result ≡ list_any (λ whole. is_connected whole.deed) wholes.now }
+{
+    for whole in wholes {
+        if is_connected(whole.deed) {
+            return true;
+        }
+    }
+    false
+}
+
+fn is_connected(deed: Deed) -> bool
+    ensures { result ≡ is_connected deed }
+{
+    match deed {
+        Deed::Connected => true,
+        _ => false,
+    }
+}

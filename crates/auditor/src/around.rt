@@ -1,0 +1,131 @@
+//! What a path is to a build, apart from the edge that is looked at.
+
+use crate::graphs::{maker_of, text_of};
+use audit::{Around, canonical_at};
+use build_log::Log;
+use indexmap::IndexMap;
+use links::Graph;
+use paths::{EdgeId, PathId, Paths};
+use std::alloc::{AllocError, Global};
+use text::Path;
+
+/// The paths that build lines name, from the root and canonical, with the edge whose command makes each.
+#[derive(Drop)]
+pub struct Names {
+    /// The working folder, from the root.
+    folder: String,
+    makers: IndexMap<String, Option<EdgeId>>,
+    /// The build log, if there is one.
+    log: Option<Log>,
+}
+
+impl Names {
+    /// The paths of this graph.
+    pub fn of(
+        alloc: Global,
+        graph: &Graph,
+        folder: &str,
+        log: Option<Log>,
+    ) -> Result<Names, AllocError> {
+        let mut names = Names {
+            folder: String::from_str(alloc, folder)?,
+            makers: IndexMap::new(alloc),
+            log,
+        };
+        for place in 0..graph.paths() {
+            if let Some(path) = PathId::at(place) {
+                names.add(alloc, graph, path)?;
+            }
+        }
+        Ok(names)
+    }
+
+    fn add(&mut self, alloc: Global, graph: &Graph, path: PathId) -> Result<(), AllocError> {
+        let whole = canonical_at(alloc, self.folder.as_str(), text_of(graph, path))?;
+        let maker = maker_of(graph, path);
+        if maker.is_some() || self.makers.get(whole.as_str()).is_none() {
+            let _ = self.makers.insert(whole.into_string(), maker)?;
+        }
+        Ok(())
+    }
+
+    /// The working folder, from the root.
+    pub fn folder(&self) -> &str {
+        self.folder.as_str()
+    }
+
+    /// The path from the root.
+    pub fn whole(&self, alloc: Global, path: &str) -> Result<Path, AllocError> {
+        canonical_at(alloc, self.folder.as_str(), path)
+    }
+
+    /// Puts the path, from the root, into a table.
+    pub fn add_to(&self, alloc: Global, table: &mut Paths, path: &str) -> Result<(), AllocError> {
+        let whole = self.whole(alloc, path)?;
+        table.add(alloc, whole.as_str())?;
+        Ok(())
+    }
+
+    /// The path as it is told: taken from the working folder, where it is below that.
+    pub fn short<'p>(&self, path: &'p str) -> &'p str {
+        if path == self.folder.as_str() {
+            return ".";
+        }
+        match below(self.folder.as_str(), path) {
+            Some(rest) => rest,
+            None => path,
+        }
+    }
+
+    /// Whether the path is the working folder or below it, or a build line names it.
+    pub fn counts(&self, path: &str) -> bool {
+        self.is_inside(path) || self.makers.get(path).is_some()
+    }
+
+    /// Whether the path is the working folder, or below it.
+    fn is_inside(&self, path: &str) -> bool {
+        path == self.folder.as_str() || below(self.folder.as_str(), path).is_some()
+    }
+
+    /// The edge whose command makes the path.
+    pub fn maker(&self, path: &str) -> Option<EdgeId> {
+        self.makers.get(path).copied().flatten()
+    }
+
+    /// Whether a record in force names the path as an output.
+    fn is_recorded(&self, path: &str) -> bool {
+        match &self.log {
+            Some(log) => log.lookup(self.short(path)).is_some(),
+            None => false,
+        }
+    }
+
+    /// What the path is to the build, where it is known whether another command makes it, and one that is above.
+    pub fn around(&self, path: &str, made: bool, above: bool) -> Around {
+        Around {
+            made,
+            above,
+            named: self.makers.get(path).is_some(),
+            recorded: self.is_recorded(path),
+            inside: self.is_inside(path),
+            own: is_own(path),
+        }
+    }
+}
+
+/// What stands behind the folder and a slash, where the path is below it.
+fn below<'p>(folder: &str, path: &'p str) -> Option<&'p str> {
+    let rest = path.strip_prefix(folder)?;
+    if folder == "/" {
+        return Some(rest);
+    }
+    rest.strip_prefix('/')
+}
+
+/// Whether the path is of a file of the program's own: its logs, and what it writes beside them.
+fn is_own(path: &str) -> bool {
+    match path.rsplit_once('/') {
+        Some((_, name)) => name.as_bytes().starts_with(b".nj_"),
+        None => false,
+    }
+}

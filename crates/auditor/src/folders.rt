@@ -1,0 +1,70 @@
+//! Which folders a trace shows.
+
+use audit::Whole;
+use paths::{PathId, Paths};
+use std::alloc::{AllocError, Global};
+use text::{Items, Path};
+use trace::Deed;
+
+/// Puts at the end that the working folder is one, and each path above another at which something was: of a call that only asks whether a
+/// path is there, a trace does not tell whether that is a folder.
+pub fn push_folders(
+    alloc: Global,
+    folder: &str,
+    wholes: &mut Items<Whole>,
+) -> Result<(), AllocError> {
+    let folders = folders_in(alloc, folder, wholes.as_slice())?;
+    for place in 0..folders.len() {
+        if let Some(number) = PathId::at(place) {
+            wholes.push(Whole {
+                deed: Deed::Folder,
+                path: Path::from_str(alloc, folders.get(number).unwrap_or(""))?,
+                real: None,
+            })?;
+        }
+    }
+    Ok(())
+}
+
+/// The working folder, and all that is above it or above a path at which something was. Each is looked at once.
+fn folders_in(alloc: Global, folder: &str, wholes: &[Whole]) -> Result<Paths, AllocError> {
+    let mut folders = Paths::new(alloc);
+    push_above(alloc, folder, &mut folders)?;
+    folders.add(alloc, folder)?;
+    for whole in wholes {
+        if was_there(whole.deed) {
+            push_above(alloc, whole.path.as_str(), &mut folders)?;
+            push_above(alloc, real_path(whole), &mut folders)?;
+        }
+    }
+    Ok(folders)
+}
+
+/// Whether something was at the path of such a thing, before it or after it.
+fn was_there(deed: Deed) -> bool {
+    deed != Deed::Missed && deed != Deed::Connected
+}
+
+/// The path that the kernel has, where it is known.
+fn real_path(whole: &Whole) -> &str {
+    match &whole.real {
+        Some(real) => real.as_str(),
+        None => "",
+    }
+}
+
+/// Puts the folders above a path into the table. Where one is there, those above it are.
+fn push_above(alloc: Global, path: &str, folders: &mut Paths) -> Result<(), AllocError> {
+    let mut below = path;
+    for _ in 0..usize::MAX {
+        let Some((above, _)) = below.rsplit_once('/') else {
+            return Ok(());
+        };
+        if above.is_empty() || folders.number_of(above).is_some() {
+            return Ok(());
+        }
+        folders.add(alloc, above)?;
+        below = above;
+    }
+    Ok(())
+}

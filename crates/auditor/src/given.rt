@@ -1,0 +1,87 @@
+//! Files that a command opened by another name than the kernel has.
+
+use crate::around::Names;
+use audit::Whole;
+use indexmap::IndexMap;
+use std::alloc::{AllocError, Global};
+use text::{Items, Path};
+use trace::Deed;
+
+/// The same things, but that what is told by a descriptor alone, with the kernel's name, is told by the name by which it was opened, where that
+/// one counts.
+pub fn by_given_names(
+    alloc: Global,
+    names: &Names,
+    wholes: Items<Whole>,
+) -> Result<Items<Whole>, AllocError> {
+    let given = given_names(alloc, names, wholes.as_slice())?;
+    if given.is_empty() {
+        return Ok(wholes);
+    }
+    let mut renamed = Items::new(alloc);
+    for whole in wholes.as_slice() {
+        renamed.push(renamed_by(alloc, &given, whole)?)?;
+    }
+    Ok(renamed)
+}
+
+/// For the kernel's name of each file that was opened by another name which counts that name.
+fn given_names(
+    alloc: Global,
+    names: &Names,
+    wholes: &[Whole],
+) -> Result<IndexMap<String, String>, AllocError> {
+    let mut given = IndexMap::new(alloc);
+    for whole in wholes {
+        if let Some(real) = &whole.real {
+            if *real != whole.path && names.counts(whole.path.as_str()) {
+                push_name(alloc, real.as_str(), whole.path.as_str(), &mut given)?;
+            }
+        }
+    }
+    Ok(given)
+}
+
+fn push_name(
+    alloc: Global,
+    real: &str,
+    path: &str,
+    given: &mut IndexMap<String, String>,
+) -> Result<(), AllocError> {
+    let _ = given.insert(
+        String::from_str(alloc, real)?,
+        String::from_str(alloc, path)?,
+    )?;
+    Ok(())
+}
+
+fn renamed_by(
+    alloc: Global,
+    given: &IndexMap<String, String>,
+    whole: &Whole,
+) -> Result<Whole, AllocError> {
+    let deed = whole.deed;
+    let Some(real) = &whole.real else {
+        return Ok(Whole {
+            deed,
+            path: Path::from_str(alloc, name_by(given, deed, whole.path.as_str()))?,
+            real: None,
+        });
+    };
+    Ok(Whole {
+        deed,
+        path: whole.path.clone()?,
+        real: Some(real.clone()?),
+    })
+}
+
+/// The name by which the file at this path was opened, of what may be told by a descriptor alone; else the path.
+fn name_by<'n>(given: &'n IndexMap<String, String>, deed: Deed, path: &'n str) -> &'n str {
+    if deed != Deed::Asked && deed != Deed::Listed {
+        return path;
+    }
+    match given.get(path) {
+        Some(name) => name.as_str(),
+        None => path,
+    }
+}

@@ -1,0 +1,350 @@
+//! A project that is audited: what is declared and recorded, and what is told of the trace of each command.
+
+use crate::above::above;
+use crate::around::Names;
+use crate::folders::push_folders;
+use crate::given::by_given_names;
+use crate::graphs::{is_command, outputs_of, text_of};
+use crate::later::Later;
+use crate::listed::{Declared, lists_of};
+use crate::tally::Tally;
+use crate::twins::Twins;
+use audit::{Around, Breach, Lists, Use, Uses, Whole, breaches, connects, uses_of, wholes_of};
+use build_log::Log as BuildLog;
+use deps_log::Log;
+use links::Graph;
+use paths::{EdgeId, PathId, Paths};
+use std::alloc::{AllocError, Global};
+use text::{Items, Path};
+use trace::{Told, read};
+
+/// What is declared and recorded, all of it as it is after the build.
+#[derive(Drop)]
+pub struct Auditor {
+    alloc: Global,
+    graph: Graph,
+    /// The deps log, if there is one.
+    deps: Option<Log>,
+    names: Names,
+    twins: Twins,
+}
+
+impl Auditor {
+    /// What this graph declares, with the working folder, from the root, and what the logs tell, where there are some.
+    pub fn new(
+        alloc: Global,
+        graph: Graph,
+        folder: &str,
+        log: Option<BuildLog>,
+        deps: Option<Log>,
+    ) -> Result<Auditor, AllocError> {
+        let names = Names::of(alloc, &graph, folder, log)?;
+        Ok(Auditor {
+            alloc,
+            graph,
+            deps,
+            names,
+            twins: Twins::new(alloc),
+        })
+    }
+
+    /// How many paths the build lines name.
+    pub fn paths(&self) -> usize {
+        self.graph.paths()
+    }
+
+    /// The path in this place, as build lines spell it.
+    pub fn path(&self, place: usize) -> &str {
+        match PathId::at(place) {
+            Some(path) => text_of(&self.graph, path),
+            None => "",
+        }
+    }
+
+    /// Takes in that the path in this place leads to this plain file, which a text tells from all others.
+    pub fn leads(&mut self, place: usize, file: String) -> Result<(), AllocError> {
+        let path = String::from_str(self.alloc, self.path(place))?;
+        self.twins.add(self.alloc, &self.names, path.as_str(), file)
+    }
+
+    /// How many commands the targets need; none where they have no cone.
+    pub fn commands(&self, targets: &[Path]) -> Option<usize> {
+        let cone = self.graph.cone(self.alloc, targets).ok()?;
+        let mut count = 0usize;
+        for edge in &cone.order {
+            if is_command(&self.graph, *edge) {
+                count = count.saturating_add(1);
+            }
+        }
+        Some(count)
+    }
+
+    /// Tells what breaks a premise of that which the command of this job did, which left this trace, if any.
+    pub fn take(
+        &self,
+        job: usize,
+        trace: Option<&[u8]>,
+        tally: &mut Tally,
+    ) -> Result<(), AllocError> {
+        let Some(edge) = EdgeId::at(job.saturating_sub(1)) else {
+            return Ok(());
+        };
+        match trace {
+            Some(trace) => self.take_trace(edge, trace, tally),
+            None => self.tell_not_understood(edge, tally),
+        }
+    }
+
+    /// What is declared and reported.
+    fn declared(&self) -> Declared<'_> {
+        Declared {
+            graph: &self.graph,
+            names: &self.names,
+            deps: self.deps.as_ref(),
+        }
+    }
+
+    /// Tells what breaks a premise of that which a trace tells of the command of the edge.
+    fn take_trace(&self, edge: EdgeId, trace: &[u8], tally: &mut Tally) -> Result<(), AllocError> {
+        match self.told_in(trace)? {
+            Some(wholes) => self.take_wholes(edge, wholes.as_slice(), tally),
+            None => self.tell_not_understood(edge, tally),
+        }
+    }
+
+    /// What a trace tells of a command, if it is understood.
+    fn told_in(&self, trace: &[u8]) -> Result<Option<Items<Whole>>, AllocError> {
+        match read(self.alloc, self.names.folder().as_bytes(), trace)? {
+            Told::Facts(facts) => self.with_folders(wholes_of(self.alloc, facts.as_slice())?),
+            Told::NotUnderstood => Ok(None),
+        }
+    }
+
+    /// The same, by the names that were given, and which folders that shows.
+    fn with_folders(
+        &self,
+        wholes: Option<Items<Whole>>,
+    ) -> Result<Option<Items<Whole>>, AllocError> {
+        let Some(wholes) = wholes else {
+            return Ok(None);
+        };
+        let mut wholes = by_given_names(self.alloc, &self.names, wholes)?;
+        push_folders(self.alloc, self.names.folder(), &mut wholes)?;
+        Ok(Some(wholes))
+    }
+
+    /// Tells what breaks a premise of that which the command of the edge did.
+    fn take_wholes(
+        &self,
+        edge: EdgeId,
+        wholes: &[Whole],
+        tally: &mut Tally,
+    ) -> Result<(), AllocError> {
+        if connects(wholes) {
+            self.tell_note(
+                edge,
+                "connects to a server, and what that does is not seen",
+                tally,
+            )?;
+        }
+        let lists = lists_of(self.alloc, self.declared(), edge)?;
+        self.take_lists(edge, wholes, &lists, tally)
+    }
+
+    fn take_lists(
+        &self,
+        edge: EdgeId,
+        wholes: &[Whole],
+        lists: &Lists,
+        tally: &mut Tally,
+    ) -> Result<(), AllocError> {
+        let mut uses = self.uses_in(wholes)?;
+        uses.add_untouched(self.alloc, &lists.outputs)?;
+        self.take_uses(edge, lists, &uses, tally)
+    }
+
+    fn take_uses(
+        &self,
+        edge: EdgeId,
+        lists: &Lists,
+        uses: &Uses,
+        tally: &mut Tally,
+    ) -> Result<(), AllocError> {
+        let found = self.judge(edge, lists, uses, tally)?;
+        let spelled = self.tell_spellings(edge, uses, tally)?;
+        self.tell_looked(edge, lists, uses, tally)?;
+        tally.outside.take(self.alloc, &self.names, uses)?;
+        tally.count(found.saturating_add(spelled) == 0);
+        Ok(())
+    }
+
+    /// What was done at each path: those that count by their names, and the others by those that the kernel has.
+    fn uses_in(&self, wholes: &[Whole]) -> Result<Uses, AllocError> {
+        let mut reals = Vec::with_capacity(self.alloc, wholes.len())?;
+        for whole in wholes {
+            reals.push(!self.names.counts(whole.path.as_str()))?;
+        }
+        uses_of(self.alloc, wholes, reals.as_slice())
+    }
+
+    /// Tells what breaks a premise, and answers how much it was.
+    fn judge(
+        &self,
+        edge: EdgeId,
+        lists: &Lists,
+        uses: &Uses,
+        tally: &mut Tally,
+    ) -> Result<usize, AllocError> {
+        let found = self.found(edge, lists, uses)?;
+        for breach in found.as_slice() {
+            let path = self.names.short(uses.path(breach.place).unwrap_or(""));
+            tally.tell(self.alloc, self.name_of(edge), breach.finding, path)?;
+        }
+        Ok(found.len())
+    }
+
+    /// What breaks a premise.
+    fn found(&self, edge: EdgeId, lists: &Lists, uses: &Uses) -> Result<Items<Breach>, AllocError> {
+        let arounds = self.arounds_of(edge, lists, uses)?;
+        breaches(self.alloc, lists, arounds.as_slice(), uses)
+    }
+
+    /// What each path is to the build.
+    fn arounds_of(
+        &self,
+        edge: EdgeId,
+        lists: &Lists,
+        uses: &Uses,
+    ) -> Result<Vec<Around>, AllocError> {
+        let is_above = self.above_of(edge, lists, uses)?;
+        let mut arounds = Vec::with_capacity(self.alloc, uses.len())?;
+        for place in 0..uses.len() {
+            let path = uses.path(place).unwrap_or("");
+            let maker = self.other_maker(edge, path);
+            let is_upper = is_listed(lists, path) || is_marked(is_above.as_slice(), maker);
+            arounds.push(self.names.around(path, maker.is_some(), is_upper))?;
+        }
+        Ok(arounds)
+    }
+
+    /// For each edge whether it is above this one; nothing where all paths that others make are inputs, as then nobody asks.
+    fn above_of(&self, edge: EdgeId, lists: &Lists, uses: &Uses) -> Result<Vec<bool>, AllocError> {
+        for place in 0..uses.len() {
+            let path = uses.path(place).unwrap_or("");
+            if self.other_maker(edge, path).is_some() && !is_listed(lists, path) {
+                return above(self.alloc, &self.graph, edge);
+            }
+        }
+        Ok(Vec::new(self.alloc))
+    }
+
+    /// The edge whose command makes the path, if it is another one.
+    fn other_maker(&self, edge: EdgeId, path: &str) -> Option<EdgeId> {
+        let maker = self.names.maker(path)?;
+        if maker == edge {
+            return None;
+        }
+        Some(maker)
+    }
+
+    /// Tells of each path by which the command took a file that build lines spell in two ways, and answers how many these are.
+    fn tell_spellings(
+        &self,
+        edge: EdgeId,
+        uses: &Uses,
+        tally: &mut Tally,
+    ) -> Result<usize, AllocError> {
+        let mut count = 0usize;
+        for place in 0..uses.len() {
+            let path = uses.path(place).unwrap_or("");
+            if let Some(both) = self.twins.at(path) {
+                let path = self.names.short(path);
+                tally.tell_spelled(self.alloc, self.name_of(edge), path, both)?;
+                count = count.saturating_add(1);
+            }
+        }
+        Ok(count)
+    }
+
+    /// Notes of each file that was looked for and is not there, where a reported one of the same name was read after it: made later, it
+    /// would change the outcome. Where that one stands outside of the folder, as headers of a compiler do, the note is told in sum.
+    fn tell_looked(
+        &self,
+        edge: EdgeId,
+        lists: &Lists,
+        uses: &Uses,
+        tally: &mut Tally,
+    ) -> Result<(), AllocError> {
+        let later = Later::of(self.alloc, lists, uses)?;
+        for place in 0..uses.len() {
+            let missed = uses.path(place).unwrap_or("");
+            if is_missing(uses.used(place)) && self.names.counts(missed) {
+                if let Some(found) = later.at(uses, place) {
+                    self.tell_first(edge, missed, found, tally)?;
+                }
+            }
+        }
+        Ok(())
+    }
+
+    fn tell_first(
+        &self,
+        edge: EdgeId,
+        missed: &str,
+        found: &str,
+        tally: &mut Tally,
+    ) -> Result<(), AllocError> {
+        if !self.names.counts(found) {
+            return tally.outside.look(self.alloc, missed);
+        }
+        let missed = self.names.short(missed);
+        let found = self.names.short(found);
+        let note = format!(in self.alloc;
+            "looks for {missed}, which is not there, before {found}: made later, it would change the outcome"
+        )?;
+        self.tell_note(edge, note.as_str(), tally)
+    }
+
+    fn tell_note(&self, edge: EdgeId, note: &str, tally: &mut Tally) -> Result<(), AllocError> {
+        tally.note(self.alloc, self.name_of(edge), note)
+    }
+
+    fn tell_not_understood(&self, edge: EdgeId, tally: &mut Tally) -> Result<(), AllocError> {
+        tally.tell_not_understood(self.alloc, self.name_of(edge))
+    }
+
+    /// The first output of an edge.
+    fn name_of(&self, edge: EdgeId) -> &str {
+        match outputs_of(&self.graph, edge).first() {
+            Some(output) => text_of(&self.graph, *output),
+            None => "",
+        }
+    }
+}
+
+/// Whether the path is an input of the edge with these lists.
+fn is_listed(lists: &Lists, path: &str) -> bool {
+    has(&lists.inputs, path) || has(&lists.order_only, path)
+}
+
+fn has(paths: &Paths, path: &str) -> bool {
+    paths.number_of(path).is_some()
+}
+
+/// Whether the edge is marked.
+fn is_marked(marks: &[bool], edge: Option<EdgeId>) -> bool {
+    match edge {
+        Some(edge) => marks.get(edge.index()).copied().unwrap_or(false),
+        None => false,
+    }
+}
+
+/// Whether a file was looked for, was not there, and was not made.
+fn is_missing(used: Option<Use>) -> bool {
+    match used {
+        Some(used) => {
+            used.misses && !used.reads && !used.asks && !used.writes && !used.is_folder
+        }
+        None => false,
+    }
+}

@@ -1,0 +1,120 @@
+//! What is declared and recorded, read anew once a build has ended.
+
+use auditor::{Auditor, dyndep_in, load};
+use build_log::Log;
+use host::Host;
+use links::Graph;
+use paths::Manifest;
+use site::{Site, Texts};
+use std::alloc::{AllocError, Global};
+use std::fs;
+use std::io::Write;
+use std::os::unix::fs::MetadataExt;
+use text::Bytes;
+
+/// What an audit compares traces with. The program's own files stand in the first folder; the second one is the working folder, from the
+/// root.
+pub fn auditor_of<W: Write>(
+    rt: &HostRuntime,
+    host: &mut Host<'_, W>,
+    manifest: Manifest,
+    own: &str,
+    folder: &str,
+) -> Option<Auditor> {
+    let alloc = rt.alloc();
+    let log = build_log_in(alloc, host, own);
+    let deps = deps_log_in(alloc, host, own);
+    let graph = graph_of(alloc, host, manifest, own)?;
+    let mut auditor = Auditor::new(alloc, graph, folder, log, deps).ok()?;
+    find_files(alloc, rt, &mut auditor).ok()?;
+    Some(auditor)
+}
+
+/// The graph of a manifest, with what those dyndep files add that can be read.
+fn graph_of<W: Write>(
+    alloc: Global,
+    host: &mut Host<'_, W>,
+    manifest: Manifest,
+    own: &str,
+) -> Option<Graph> {
+    let mut graph = Graph::build(alloc, manifest, own).ok()?;
+    for place in 0..graph.edges() {
+        let _ = load_at(alloc, host, &mut graph, place);
+    }
+    Some(graph)
+}
+
+/// Loads the dyndep file of the edge in this place, if it names one that was not loaded.
+fn load_at<W: Write>(
+    alloc: Global,
+    host: &mut Host<'_, W>,
+    graph: &mut Graph,
+    place: usize,
+) -> Option<()> {
+    let bytes = read_in(host, dyndep_in(graph, place)?)?;
+    load(alloc, graph, place, bytes.as_slice())
+}
+
+/// Tells to which plain file each path leads, by device and inode.
+fn find_files(alloc: Global, rt: &HostRuntime, auditor: &mut Auditor) -> Result<(), AllocError> {
+    for place in 0..auditor.paths() {
+        if let Some(file) = file_at(alloc, rt, auditor.path(place))? {
+            auditor.leads(place, file)?;
+        }
+    }
+    Ok(())
+}
+
+/// Which plain file the path leads to, as a text.
+fn file_at(alloc: Global, rt: &HostRuntime, path: &str) -> Result<Option<String>, AllocError> {
+    let Ok(found) = fs::metadata(rt, path) else {
+        return Ok(None);
+    };
+    if !found.is_file() {
+        return Ok(None);
+    }
+    let device = found.dev();
+    let inode = found.ino();
+    Ok(Some(format!(in alloc; "{device}:{inode}")?))
+}
+
+/// What stands in a file.
+fn read_in<W: Write>(host: &mut Host<'_, W>, path: &str) -> Option<Bytes> {
+    host.read(path).ok()?
+}
+
+/// The build log, if there is one.
+pub fn build_log_in<W: Write>(alloc: Global, host: &mut Host<'_, W>, folder: &str) -> Option<Log> {
+    let path = own_path(alloc, folder, ".nj_log").ok()?;
+    let bytes = read_in(host, path.as_str())?;
+    let (log, _) = Log::parse(alloc, bytes.as_slice()).ok()?;
+    Some(log)
+}
+
+/// The deps log, if there is one.
+pub fn deps_log_in<W: Write>(
+    alloc: Global,
+    host: &mut Host<'_, W>,
+    folder: &str,
+) -> Option<deps_log::Log> {
+    let path = own_path(alloc, folder, ".nj_deps").ok()?;
+    let bytes = read_in(host, path.as_str())?;
+    let (log, _) = deps_log::Log::parse(alloc, bytes.as_slice()).ok()?;
+    Some(log)
+}
+
+/// The path of a file of the program's own in this folder; empty is the working folder.
+fn own_path(alloc: Global, folder: &str, name: &str) -> Result<String, AllocError> {
+    match folder {
+        "" => String::from_str(alloc, name),
+        _ => format!(in alloc; "{folder}/{name}"),
+    }
+}
+
+/// The trace of a command, which is removed.
+pub fn take_trace<W: Write>(host: &mut Host<'_, W>, job: usize) -> Option<Bytes> {
+    let path = host.trace_of(job).ok()?;
+    let trace = read_in(host, path.as_str());
+    let _ = host.remove(path.as_str());
+    trace
+}

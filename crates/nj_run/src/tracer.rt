@@ -1,0 +1,54 @@
+//! The program by which commands are traced.
+
+use std::alloc::Global;
+use std::process::{Command, Stdio};
+use std::{env, fs, io};
+
+/// The name of the program.
+const NAME: &str = "strace";
+
+/// Where it is looked for where `PATH` is not set.
+const FOLDERS: &str = "/usr/bin:/bin";
+
+/// The path of the first `strace` in `PATH`, if it traces a program here: not where there is none, and not where nothing may be traced, as
+/// below another tracer.
+pub fn tracer(rt: &HostRuntime) -> Option<String> {
+    let alloc = rt.alloc();
+    let path = env::var(rt, "PATH");
+    let folders = match &path {
+        Ok(path) => path.as_str(),
+        Err(_) => FOLDERS,
+    };
+    for folder in folders.split(':') {
+        let program = format!(in alloc; "{folder}/{NAME}").ok()?;
+        if folder.as_bytes().starts_with(b"/") && is_file(rt, program.as_str()) {
+            return traces(alloc, rt, program.as_str())
+                .unwrap_or(false)
+                .then_some(program);
+        }
+    }
+    None
+}
+
+fn is_file(rt: &HostRuntime, path: &str) -> bool {
+    match fs::metadata(rt, path) {
+        Ok(found) => found.is_file(),
+        Err(_) => false,
+    }
+}
+
+/// Whether the program traces `true`, with a filter as it is wanted later.
+fn traces(alloc: Global, rt: &HostRuntime, program: &str) -> io::Result<bool> {
+    let mut command = Command::new(alloc, program)?;
+    command.arg("-f")?;
+    command.arg("--seccomp-bpf")?;
+    command.arg("-o")?;
+    command.arg("/dev/null")?;
+    command.arg("/bin/sh")?;
+    command.arg("-c")?;
+    command.arg("true")?;
+    command.stdin(Stdio::null());
+    command.stdout(Stdio::null());
+    command.stderr(Stdio::null());
+    Ok(command.status(rt)?.success())
+}

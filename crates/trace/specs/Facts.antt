@@ -1,0 +1,145 @@
+-- What a call did at its paths.
+use Rattle.std.specs.Prelude.{ℕ, ◌&&◌, ◌||◌, not, List, [], ◌∷◌, Option, Some, None, option_map, option_and_then, codes, if◌then◌else◌}
+use Rattle.std.specs.Str.{is_utf8}
+use Rattle.trace.specs.declared.calls.Row.{Row}
+use Rattle.trace.specs.declared.calls.Does.{Does}
+use Rattle.trace.specs.declared.calls.Does.TheVariants as doing
+use Rattle.trace.specs.declared.calls.Form.{Form}
+use Rattle.trace.specs.declared.ending.End.{End}
+use Rattle.trace.specs.declared.ending.End.TheVariants as ending
+use Rattle.trace.specs.declared.fact.Deed.{Deed}
+use Rattle.trace.specs.declared.fact.Deed.TheVariants.{Read, Wrote, Removed, Listed, Asked, Missed, Folder, Made}
+use Rattle.trace.specs.declared.fact.Fact.{Fact}
+use Rattle.trace.specs.declared.facts.Paths.{Paths}
+use Rattle.trace.specs.declared.parts.Call.{Call}
+use Rattle.trace.specs.Marks.{cut, has}
+use Rattle.trace.specs.Arguments.{behind, descriptor, first_argument, is_rooted, path_at}
+use Rattle.trace.specs.Calls.{ending_of, has_two, is_of_folders, leads, row_named}
+
+-- ---- a call as it is written
+
+-- a call of which it is known what it does, with its arguments and its answer
+pub record Seen : Type 0 where
+  pub row : Row
+  pub arguments : List ℕ
+  pub answer : List ℕ
+
+abbrev pub call_seen : Call → Seen
+call_seen call = record { row = call.row; arguments = call.arguments.now; answer = call.answer.now }
+
+-- what is known of the call with this name, if that is a text
+abbrev pub row_of : List ℕ → Option Row
+row_of name = if is_utf8 name then row_named name else None
+
+-- the arguments stand in front of the first parenthesis that closes
+abbrev pub with_arguments : Row → List ℕ → List ℕ × List ℕ → Seen
+with_arguments row answer parts = record { row = row; arguments = parts.0; answer = answer }
+
+-- the answer stands behind the first sign of equality with blanks around it
+abbrev pub with_answer : Row → List ℕ × List ℕ → Option Seen
+with_answer row parts = option_map (with_arguments row parts.1) (cut (codes ")") parts.0)
+
+abbrev pub with_row : List ℕ → Row → Option Seen
+with_row text row = option_and_then (with_answer row) (cut (codes " = ") text)
+
+abbrev pub with_name : List ℕ × List ℕ → Option Seen
+with_name parts = option_and_then (with_row parts.1) (row_of parts.0)
+
+-- the call `NAME(ARGUMENTS) = ANSWER` that is written so, if it is known
+abbrev pub call_of : List ℕ → Option Seen
+call_of text = option_and_then with_name (cut (codes "(") text)
+
+-- ---- the paths that it names
+
+abbrev pub one_path : List ℕ → Paths
+one_path path = record { path = path; other = [] }
+
+abbrev pub two_paths : List ℕ → List ℕ → Paths
+two_paths path other = record { path = path; other = other }
+
+abbrev pub second_path : Form → Option (List ℕ) → List ℕ → List ℕ → Option Paths
+second_path form folder arguments path = option_map (two_paths path) (path_at form folder (behind form arguments))
+
+-- the arguments from which paths are taken
+abbrev pub arguments_for : Does → List ℕ → List ℕ
+arguments_for does arguments = if leads does then (first_argument arguments).1 else arguments
+
+abbrev pub with_path : Seen → Option (List ℕ) → List ℕ → List ℕ → Option Paths
+with_path call folder arguments path =
+    if has_two call.row.does then second_path call.row.form folder arguments path else Some (one_path path)
+
+abbrev pub paths_from : Seen → Option (List ℕ) → List ℕ → Option Paths
+paths_from call folder arguments = option_and_then (with_path call folder arguments) (path_at call.row.form folder arguments)
+
+-- the paths that a call names, of a process that is in this folder
+abbrev pub paths_of : Seen → Option (List ℕ) → Option Paths
+paths_of call folder = paths_from call folder (arguments_for call.row.does call.arguments)
+
+-- ---- what was done there
+
+abbrev pub told : Deed → List ℕ → Option (List ℕ) → Fact
+told deed path real = record { deed = deed; path = path; real = real }
+
+abbrev pub fact : Deed → List ℕ → Fact
+fact deed path = told deed path None
+
+-- what a look saw, and what a removal removed
+abbrev pub looked : List ℕ → Deed
+looked arguments = if has (codes "S_IFDIR") arguments then Folder else Asked
+
+abbrev pub removed : List ℕ → Deed
+removed arguments = if has (codes "AT_REMOVEDIR") arguments then Folder else Removed
+
+-- What a file is opened for by these flags. What is put behind what a file holds, or written over a part of it by who may read it too,
+-- depends on what it held.
+unfoldable pub deeds : List ℕ → Deed × Option Deed
+deeds arguments =
+    if has (codes "O_DIRECTORY") arguments || has (codes "O_TMPFILE") arguments then (Folder, None)
+    else (if has (codes "O_PATH") arguments then (Asked, None)
+    else (if has (codes "O_WRONLY") arguments && not (has (codes "O_APPEND") arguments) then (Wrote, None)
+    else (if has (codes "O_RDWR") arguments && (has (codes "O_TRUNC") arguments || has (codes "O_EXCL") arguments) then (Wrote, None)
+    else (if has (codes "O_WRONLY") arguments || has (codes "O_RDWR") arguments then (Read, Some Wrote) else (Read, None)))))
+
+abbrev pub at_second : Option Deed → List ℕ → Option (List ℕ) → List Fact
+at_second None path real = []
+at_second (Some deed) path real = told deed path real ∷ []
+
+abbrev pub opened : List ℕ → List ℕ → Option (List ℕ) → List Fact
+opened arguments path real = told (deeds arguments).0 path real ∷ at_second (deeds arguments).1 path real
+
+-- what a call did that ended well
+abbrev pub done_by : Does → Seen → Paths → List Fact
+done_by doing.Looks call paths = fact (looked call.arguments) paths.path ∷ []
+done_by doing.Opens call paths = opened call.arguments paths.path (descriptor call.answer)
+done_by doing.Creates call paths = fact Wrote paths.path ∷ []
+done_by doing.Runs call paths = fact Read paths.path ∷ []
+done_by doing.Goes call paths = fact Folder paths.path ∷ []
+done_by doing.Lists call paths = fact Listed paths.path ∷ []
+done_by doing.Folders call paths = fact Made paths.path ∷ []
+done_by doing.Clears call paths = fact Folder paths.path ∷ []
+done_by doing.Removes call paths = fact (removed call.arguments) paths.path ∷ []
+done_by doing.Moves call paths = fact Read paths.path ∷ fact Removed paths.path ∷ fact Wrote paths.other ∷ []
+done_by doing.Links call paths = fact Read paths.path ∷ told Wrote paths.other (Some paths.path) ∷ []
+done_by doing.Leads call paths = fact Wrote paths.path ∷ []
+done_by doing.Changes call paths = fact Wrote paths.path ∷ []
+done_by doing.Starts call paths = []
+done_by doing.Connects call paths = []
+done_by doing.Passes call paths = []
+
+abbrev pub done : Seen → Paths → List Fact
+done call paths = done_by call.row.does call paths
+
+-- what a call did that was refused: it asked; to make a folder that is there says that it is one
+abbrev pub refused : Does → Deed
+refused does = if is_of_folders does then Folder else Asked
+
+abbrev pub ended_by : End → Seen → Paths → List Fact
+ended_by ending.Well call paths = done call paths
+ended_by ending.Missing call paths = fact Missed paths.path ∷ []
+ended_by ending.Refused call paths = fact (refused call.row.does) paths.path ∷ []
+ended_by ending.Void call paths = []
+ended_by ending.Open call paths = []
+
+-- what a call did at its paths; what the kernel names otherwise than by a path from the root is no file
+abbrev pub facts_of : Seen → Paths → List Fact
+facts_of call paths = if is_rooted paths.path then ended_by (ending_of call.answer) call paths else []

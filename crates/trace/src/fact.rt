@@ -1,0 +1,35 @@
+//! What processes did to files.
+
+use text::Bytes;
+
+/// What a process did at a path.
+#[derive(Clone, Copy, Debug, PartialEq, Eq)]
+pub enum Deed {
+    /// It opened the file to read it, ran it, or gave it another path.
+    Read,
+    /// It made the file, opened it to write, or set its stamp.
+    Wrote,
+    /// It removed the file, or gave it another path.
+    Removed,
+    /// It listed the folder.
+    Listed,
+    /// It asked for the file, which is there.
+    Asked,
+    /// It asked for a file that is not there.
+    Missed,
+    /// It saw that a folder is there, or removed one.
+    Folder,
+    /// It made a folder.
+    Made,
+    /// It connected to a server. The path says nothing.
+    Connected,
+}
+
+/// What a process did at a path, which is as the trace has it: it is not canonical.
+#[derive(Debug, Drop)]
+pub struct Fact {
+    pub deed: Deed,
+    pub path: Bytes,
+    /// By which path the kernel has the file, where the trace tells it, or by which other one it had it before.
+    pub real: Option<Bytes>,
+}
