@@ -1,7 +1,8 @@
 //! The program: a stand-in for ninja, with real files and real commands.
 #![tactic(auto)]
 
-use stand_in::{Around, Output, run};
+use ninja_run::{Around, run};
+use stand_in::Output;
 use std::env::VarError;
 use std::io::{BufWriter, ErrorKind, IsTerminal};
 use std::process::ExitCode;

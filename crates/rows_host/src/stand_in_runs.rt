@@ -2,7 +2,7 @@
 
 use crate::folder::Folder;
 use crate::nj_runs::{Ran, words_of};
-use stand_in::{Around, run};
+use ninja_run::{Around, run};
 use std::alloc::{AllocError, Global};
 
 /// Runs the stand-in in the folder, with this around it. In what is told `@` stands for the folder, and `^[` for

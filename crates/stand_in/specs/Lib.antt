@@ -1,7 +1,6 @@
 pub mod Moves
 pub mod Heading
 pub mod Escapes
-pub mod Ends
 pub mod Above
 pub mod Tools
 pub mod Laws

@@ -1,20 +1,16 @@
 //! The run of the program.
 
 ghost use Rattle.std.specs.Prelude.{◌≤◌, IfOk};
+ghost use Rattle.model.specs.World.{IsIdle};
 
-use crate::build::{Ended, Outcome, build_here};
-use crate::due::{Due, due_here};
-use crate::given::{Asked, Options as Given, Shown};
-use crate::heading::{Heading, HeadingFault};
-use crate::patient::site_here;
-use crate::processors::default_jobs;
-use crate::screen::{Front, Output, PATTERN};
 use crate::told::{self, Telling};
-use crate::tools_here::{Asking, NoAnswer, answer};
-use crate::words::asked;
 use builder::{Options, Report};
 use host::{Host, Trouble};
 use site::SiteFault;
+use stand_in::{
+    Asked, Asking, Due, Ended, Front, Heading, HeadingFault, NoAnswer, Options as Given, Outcome,
+    Output, PATTERN, Place, Shown, answer, asked, build_here, default_jobs, due_here, site_here,
+};
 use status::Pattern;
 use std::alloc::{AllocError, Global};
 use std::io::Write;
@@ -219,10 +215,17 @@ fn build_with<'a, W: Write + Drop>(
     let alloc = rt.alloc();
     let front = front_of(given, lines, lines.output, options.jobs);
     let mut site = site_here(alloc, rt, out, front, given.load)?;
-    let ended = build_here(alloc, &mut site, given, options);
+    let ended = build_there(alloc, &mut site, given, options);
     let mut host = site.into_site();
     finish(&mut host, given.keep, &ended);
     Ok((ended, host.into_trouble()))
+}
+
+/// The same as [`build_here`], with nothing said of it: what that says is of any site, and would be told here of this one.
+fn build_there<S: Place>(alloc: Global, site: &mut S, given: &Given<'_>, options: &Options) -> Ended
+    requires { IsIdle (S.world site.old).events }
+{
+    build_here(alloc, site, given, options)
 }
 
 /// Ends the screen, and waits until what is written from now on is seen to be later than each start.

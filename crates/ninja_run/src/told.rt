@@ -1,15 +1,13 @@
 //! What the stand-in tells, and its status.
 
 ghost use Rattle.std.specs.Prelude.{◌≡◌, ◌≤◌, IfOk};
-ghost use Rattle.stand_in.specs.Ends.{why_stopped};
+ghost use Rattle.ninja_run.specs.Ends.{why_stopped};
 
-use crate::build::{Ended, Outcome};
-use crate::due::Due;
-use crate::given::{Information, Options, Shown, WordFault};
 use builder::{Explained, Report};
 use host::Trouble;
 use nj_run::tell_why;
 use site::SiteFault;
+use stand_in::{Due, Ended, Information, Options, Outcome, Shown, WordFault};
 use std::alloc::Global;
 use std::io;
 use std::io::Write;
