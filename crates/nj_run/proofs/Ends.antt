@@ -43,10 +43,10 @@ pub reported : {W E F : Type 0} (asked : Options) (on_out : W → Option Text) (
     → asked.why ≡ false → audits asked ≡ false → ((later : World) × BuildsAlone false any_outcome asked fresh later report) → IfOk told (λ status. status ≡ status_of report)
     → OnOk told (Adds (on_out shown) (on_out new_out) (out_of report)) → OnOk told (Adds (on_err old_err) (on_err new_err) (err_of report refused))
     → Comes (EndsFor asked) on_out on_err old_out new_out old_err new_err told
-reported asked on_out on_err old_out shown new_out old_err new_err report refused (Ok status) untold no so is out err =
-    record { ending = Built report refused; may = (untold, no, so.0, so.1); tells = (is, record { shown = shown; before = tt; out = out; err = err }) }
-reported asked on_out on_err old_out shown new_out old_err new_err report refused (Err fault) untold no so is out err =
-    record { ending = Built report refused; may = (untold, no, so.0, so.1); tells = tt }
+reported asked on_out on_err old_out shown new_out old_err new_err report refused (Ok status) untold plain so is out err =
+    record { ending = Built report refused; may = (untold, plain, so.0, so.1); tells = (is, record { shown = shown; before = tt; out = out; err = err }) }
+reported asked on_out on_err old_out shown new_out old_err new_err report refused (Err fault) untold plain so is out err =
+    record { ending = Built report refused; may = (untold, plain, so.0, so.1); tells = tt }
 
 -- nothing traces commands here
 pub untraced : {W E F : Type 0} (asked : Options) (on_out : W → Option Text) (on_err : E → Option Text) (out : W) (old_err new_err : E) (told : Result ℕ F)

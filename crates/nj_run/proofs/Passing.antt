@@ -1,5 +1,5 @@
 -- Time that goes by before a build, and the build after it.
-use Rattle.std.proofs.Common.{◌≡◌, inl, inr, ℕ, Bool, true, false, IsTrue, List, ◌++◌, Option, refl, sym, subst, ap, ◌∙◌, append_assoc, map}
+use Rattle.std.proofs.Common.{◌≡◌, inr, ℕ, Bool, true, false, IsTrue, List, ◌++◌, Option, refl, sym, subst, ap, ◌∙◌, append_assoc, map}
 use Rattle.std.specs.Option.{option_map}
 use Rattle.model.specs.declared.act.Act.{Act}
 use Rattle.model.specs.declared.event.Event.{Event}

@@ -40,6 +40,14 @@ fn is_file(rt: &HostRuntime, path: &str) -> bool {
 /// Whether the program traces `true`, with a filter as it is wanted later.
 fn traces(alloc: Global, rt: &HostRuntime, program: &str) -> io::Result<bool> {
     let mut command = Command::new(alloc, program)?;
+    add_words(&mut command)?;
+    command.stdin(Stdio::null());
+    command.stdout(Stdio::null());
+    command.stderr(Stdio::null());
+    Ok(command.status(rt)?.success())
+}
+
+fn add_words(command: &mut Command) -> io::Result<()> {
     command.arg("-f")?;
     command.arg("--seccomp-bpf")?;
     command.arg("-o")?;
@@ -47,8 +55,5 @@ fn traces(alloc: Global, rt: &HostRuntime, program: &str) -> io::Result<bool> {
     command.arg("/bin/sh")?;
     command.arg("-c")?;
     command.arg("true")?;
-    command.stdin(Stdio::null());
-    command.stdout(Stdio::null());
-    command.stderr(Stdio::null());
-    Ok(command.status(rt)?.success())
+    Ok(())
 }

@@ -1,4 +1,4 @@
-use Rattle.std.proofs.Common.{inl, ◌∙◌}
+use Rattle.std.proofs.Common.{◌∙◌}
 use Rattle.nj_run.proofs.Passing.{built_alone, idle_passed, looked_passes, passes_looked}
 use Rattle.nj_run.proofs.alone.build_alone.Goals as goal
 

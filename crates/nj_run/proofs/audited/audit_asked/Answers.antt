@@ -12,9 +12,9 @@ returns-in_default-clause-comes g c = untraced c.args.asked.now _ _ _ _ _ c.untr
 pub returns-in_err-named-clause-comes : goal.returns-in_err-named-clause-comes
 returns-in_err-named-clause-comes g c = record { ending = NoTracer; may = (c.requires.plain, c.requires.audits); tells = search rules }
 
-pub returns-in-Some-clause-comes : goal.returns-in-Some-clause-comes
-returns-in-Some-clause-comes g c =
-    let is = subst IsTracePath (sym c.as_str.ensures) (some_so c.in_ok-named.named c.in-Some.path c.in-Some.is c.in_ok-named.ensures) in
+pub returns-in-Some-named-clause-comes : goal.returns-in-Some-named-clause-comes
+returns-in-Some-named-clause-comes g c =
+    let is = subst IsTracePath (sym c.as_str.ensures) (some_so IsTracePath c.in_ok-named.named c.in-Some-named.path c.in-Some-named.is c.in_ok-named.ensures) in
     named_over c.args.asked.now _ _ _ _ _ _ c.as_str.result.now c.traced_over.result c.requires.plain c.requires.audits is c.traced_over.ensures.status c.traced_over.ensures.told
 
 -- no folder, or no memory, before it began
