@@ -242,7 +242,7 @@ fn build_there<S: Place>(alloc: Global, site: &mut S, given: &Given<'_>, options
 
 /// Ends the screen, and waits until what is written from now on is seen to be later than each start. With a fault of the site comes what
 /// the device refused last.
-fn finish<W: Write>(mut host: Host<'_, W>, keep: u32, ended: &Ended) -> Option<Trouble> {
+fn finish<W: Write + Drop>(mut host: Host<'_, W>, keep: u32, ended: &Ended) -> Option<Trouble> {
     host.finish_screen();
     recall(&mut host, keep, ended);
     // where the clock stands still for seconds there is nothing more to do about it
