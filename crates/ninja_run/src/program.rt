@@ -2,6 +2,7 @@
 
 ghost use Rattle.std.specs.Prelude.{◌≤◌, IfOk};
 ghost use Rattle.model.specs.World.{IsIdle};
+ghost use Rattle.host.specs.World.{world_of};
 
 use crate::told::{self, Telling};
 use builder::{Options, Report};
@@ -9,7 +10,8 @@ use host::{Host, Trouble};
 use site::SiteFault;
 use stand_in::{
     Asked, Asking, Due, Ended, Front, Heading, HeadingFault, NoAnswer, Options as Given, Outcome,
-    Output, PATTERN, Place, Shown, answer, asked, build_here, default_jobs, due_here, site_here,
+    Output, PATTERN, Patient, Place, Shown, answer, asked, build_here, default_jobs, due_here,
+    site_here,
 };
 use status::Pattern;
 use std::alloc::{AllocError, Global};
@@ -212,13 +214,23 @@ fn build_with<'a, W: Write + Drop>(
     lines: Lines<'a>,
     out: &'a mut W,
 ) -> io::Result<(Ended, Option<Trouble>)> {
-    let alloc = rt.alloc();
     let front = front_of(given, lines, lines.output, options.jobs);
-    let mut site = site_here(alloc, rt, out, front, given.load)?;
+    let site = site_here(rt.alloc(), rt, out, front, given.load)?;
+    Ok(build_at(rt.alloc(), site, given, options))
+}
+
+/// The same on a site.
+fn build_at<'a, W: Write + Drop>(
+    alloc: Global,
+    mut site: Patient<'a, Host<'a, &'a mut W>>,
+    given: &Given<'_>,
+    options: &Options,
+) -> (Ended, Option<Trouble>)
+    requires { IsIdle (world_of site.site).events }
+{
     let ended = build_there(alloc, &mut site, given, options);
-    let mut host = site.into_site();
-    finish(&mut host, given.keep, &ended);
-    Ok((ended, host.into_trouble()))
+    let trouble = finish(site.into_site(), given.keep, &ended);
+    (ended, trouble)
 }
 
 /// The same as [`build_here`], with nothing said of it: what that says is of any site, and would be told here of this one.
@@ -228,12 +240,14 @@ fn build_there<S: Place>(alloc: Global, site: &mut S, given: &Given<'_>, options
     build_here(alloc, site, given, options)
 }
 
-/// Ends the screen, and waits until what is written from now on is seen to be later than each start.
-fn finish<W: Write>(host: &mut Host<'_, W>, keep: u32, ended: &Ended) {
+/// Ends the screen, and waits until what is written from now on is seen to be later than each start. With a fault of the site comes what
+/// the device refused last.
+fn finish<W: Write + Drop>(mut host: Host<'_, W>, keep: u32, ended: &Ended) -> Option<Trouble> {
     host.finish_screen();
-    recall(host, keep, ended);
+    recall(&mut host, keep, ended);
     // where the clock stands still for seconds there is nothing more to do about it
     let _ = host.wait_for_clock();
+    host.into_trouble()
 }
 
 /// Tells once more which outputs failed, where rows are drawn and more than one command may fail.
