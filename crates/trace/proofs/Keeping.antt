@@ -1,6 +1,6 @@
 -- What is reached by a line has all that was reached before it.
 use Rattle.std.proofs.Common.{◌≡◌, ◌⊎◌, inl, inr, ℕ, Bool, true, false, List, [], ◌∷◌, ◌++◌, Option, Some, None, refl, sym, ap, ◌∙◌, subst, append_assoc, append-nil}
-use Rattle.std.specs.Prelude.{◌&&◌, not, option_map, option_and_then, codes, if◌then◌else◌}
+use Rattle.std.specs.Prelude.{◌&&◌, is_some, not, option_map, option_and_then, codes, if◌then◌else◌}
 use Rattle.trace.specs.declared.fact.Fact.{Fact}
 use Rattle.trace.specs.declared.processes.Known.{Known}
 use Rattle.trace.specs.declared.lines.Reached.{Reached}
@@ -8,9 +8,9 @@ use Rattle.trace.specs.Marks.{cut}
 use Rattle.trace.specs.Arguments.{is_nothing}
 use Rattle.trace.specs.Calls.{begins}
 use Rattle.trace.specs.Facts.{call_of}
-use Rattle.trace.specs.Processes.{is_calling, is_none, known_or_new, without}
+use Rattle.trace.specs.Processes.{first_forking, is_calling, is_none, known_or_new}
 use Rattle.trace.specs.Steps.{step_of}
-use Rattle.trace.specs.Lines.{after, after_all, after_body, after_call, after_end, after_step, after_text, after_text_of, after_whole, all_done, begins_call, is_undone, lines_of, nothing_yet, numbered, whole}
+use Rattle.trace.specs.Lines.{after, after_all, after_body, after_call, after_end, after_step, after_text, after_text_of, after_whole, all_done, begins_call, is_undone, lines_of, nothing_yet, numbered, settled, stepped, whole, without_ended}
 use Rattle.trace.specs.Kept.{EachLineIsTold, TellsLine}
 
 some_same : {A : Type 0} (x y : A) → Some x ≡ Some y → x ≡ y
@@ -38,15 +38,22 @@ Grows old new = (more : List Fact) × (new.facts ≡ old.facts ++ more)
 same_facts : (old new : Reached) → old.facts ≡ new.facts → Grows old new
 same_facts old new e = ([], sym e ∙ sym (append-nil old.facts))
 
+kept_facts : (reached : Reached) → reached.facts ≡ (settled reached).facts
+kept_facts reached = by (is_some (first_forking reached.processes))
+  where
+    by : (starting : Bool) → reached.facts ≡ (if starting then reached else record reached { ended = [] }).facts
+    by true = refl
+    by false = refl
+
 grows_by_call : (old new : Reached) (known : Known) (text : List ℕ) → after_call old known text ≡ Some new → Grows old new
 grows_by_call old new known text e =
     let found = mapped_some (after_step old known.number) (option_and_then (step_of known) (call_of text)) new e in
-    (found.0.facts, ap (λ (r : Reached). r.facts) (sym found.2))
+    (found.0.facts, ap (λ (r : Reached). r.facts) (sym found.2) ∙ sym (kept_facts (stepped old known.number found.0)))
 
 grows_by_end : (old new : Reached) (number : List ℕ) → after_end old number ≡ Some new → Grows old new
-grows_by_end old new number e = elim (cases_if (is_calling number old.processes) None (Some (record old { processes = without number old.processes })) (Some new) e) [
+grows_by_end old new number e = elim (cases_if (is_calling number old.processes) None (Some (settled (without_ended old number))) (Some new) e) [
   | inl calling ↦ none_some new calling.1
-  | inr ended ↦ same_facts old new (ap (λ (r : Reached). r.facts) (some_same (record old { processes = without number old.processes }) new ended.1))
+  | inr ended ↦ same_facts old new (kept_facts (without_ended old number) ∙ ap (λ (r : Reached). r.facts) (some_same (settled (without_ended old number)) new ended.1))
 ]
 
 grows_by_whole : (old new : Reached) (known : Known) (body : List ℕ) (parts : Option (List ℕ × List ℕ)) → after_whole old known body parts ≡ Some new → Grows old new

@@ -3,7 +3,7 @@
 -- A line is the number of a process, blanks, and what the process did: a call `NAME(ARGUMENTS) = ANSWER`, which is written once it has
 -- ended; or its beginning, where another process comes between, and later its end; or that a signal came; or that the process has ended.
 -- Each call tells what it did at its paths; of one that is not known nothing can be told, and then nothing is told of the trace.
-use Rattle.std.specs.Prelude.{◌≡◌, ℕ, List, [], ◌∷◌, ◌++◌, ◌&&◌, not, Bool, true, false, Option, Some, None, option_map, option_and_then, codes, if◌then◌else◌}
+use Rattle.std.specs.Prelude.{◌≡◌, ℕ, List, [], ◌∷◌, ◌++◌, ◌&&◌, not, Bool, true, false, Option, Some, None, option_map, option_and_then, codes, is_some, if◌then◌else◌}
 use Rattle.trace.specs.declared.fact.Fact.{Fact}
 use Rattle.trace.specs.declared.processes.Known.{Known}
 use Rattle.trace.specs.declared.steps.Step.{Step}
@@ -14,11 +14,11 @@ use Rattle.trace.specs.Marks.{cut, skip_blanks}
 use Rattle.trace.specs.Arguments.{is_nothing}
 use Rattle.trace.specs.Calls.{begins}
 use Rattle.trace.specs.Facts.{call_of}
-use Rattle.trace.specs.Processes.{is_calling, is_none, known_or_new, put, with_child, without}
+use Rattle.trace.specs.Processes.{first_forking, is_calling, is_listed, is_none, known_or_new, put, with_child, without}
 use Rattle.trace.specs.Steps.{step_of}
 
 abbrev pub nothing_yet : Reached
-nothing_yet = record { processes = []; facts = [] }
+nothing_yet = record { processes = []; ended = []; facts = [] }
 
 abbrev pub without_blanks : List ℕ × List ℕ → List ℕ × List ℕ
 without_blanks parts = (parts.0, skip_blanks parts.1)
@@ -30,15 +30,28 @@ numbered line = option_map without_blanks (cut (codes " ") line)
 abbrev pub with_step : List ℕ → Step → Known
 with_step number step = record { number = number; folder = step.folder; begun = None; shares = step.shares }
 
-abbrev pub with_children : Option Known → List Known → List Known
-with_children None processes = processes
-with_children (Some child) processes = with_child child processes
+-- A process that was started, unless it was seen before, and may have ended since: its lines may stand before the end of the call that
+-- started it.
+abbrev pub with_started : List (List ℕ) → Known → List Known → List Known
+with_started ended child processes = if is_listed child.number ended then processes else with_child child processes
 
-abbrev pub after_step : Reached → List ℕ → Step → Reached
-after_step reached number step = record {
-  processes = with_children step.child (put (with_step number step) reached.processes);
+abbrev pub with_children : List (List ℕ) → Option Known → List Known → List Known
+with_children ended None processes = processes
+with_children ended (Some child) processes = with_started ended child processes
+
+-- which processes have ended is of use as long as a call that starts one has not
+abbrev pub settled : Reached → Reached
+settled reached = if is_some (first_forking reached.processes) then reached else record reached { ended = [] }
+
+abbrev pub stepped : Reached → List ℕ → Step → Reached
+stepped reached number step = record {
+  processes = with_children reached.ended step.child (put (with_step number step) reached.processes);
+  ended = reached.ended;
   facts = reached.facts ++ step.facts;
 }
+
+abbrev pub after_step : Reached → List ℕ → Step → Reached
+after_step reached number step = settled (stepped reached number step)
 
 -- a call was made
 abbrev pub after_call : Reached → Known → List ℕ → Option Reached
@@ -68,10 +81,13 @@ after_text reached known body =
     if begins (codes "<... ") body then option_and_then (after_call reached known) (whole known.begun body)
     else after_whole reached known body (cut (codes " <unfinished ...>") body)
 
+abbrev pub without_ended : Reached → List ℕ → Reached
+without_ended reached number =
+    record { processes = without number reached.processes; ended = reached.ended ++ number ∷ []; facts = reached.facts }
+
 -- A process has ended. Where it was in a call that was not written to its end, what that did is open.
 abbrev pub after_end : Reached → List ℕ → Option Reached
-after_end reached number =
-    if is_calling number reached.processes then None else Some (record reached { processes = without number reached.processes })
+after_end reached number = if is_calling number reached.processes then None else Some (settled (without_ended reached number))
 
 abbrev pub after_body : List ℕ → Reached → List ℕ × List ℕ → Option Reached
 after_body start reached parts =

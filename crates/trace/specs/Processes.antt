@@ -28,6 +28,11 @@ is_calling number processes = is_calling_so (known_of number processes)
 abbrev pub put : Known → List Known → List Known
 put known processes = without known.number processes ++ known ∷ []
 
+-- the number is one of these
+abbrev pub is_listed : List ℕ → List (List ℕ) → Bool
+is_listed number [] = false
+is_listed number (other ∷ numbers) = if bytes_eq other number then true else is_listed number numbers
+
 -- a process that was started, unless it was seen before
 abbrev pub with_child : Known → List Known → List Known
 with_child known processes = if is_some (known_of known.number processes) then processes else processes ++ known ∷ []

@@ -2,12 +2,12 @@
 
 ghost use Rattle.std.specs.Prelude.{◌≡◌, ◌++◌, [], IfOk, OnOk, Some, None, option_map, if◌then◌else◌};
 ghost use Rattle.trace.specs.Marks.{both};
-ghost use Rattle.trace.specs.Lines.{after, after_body, after_call, after_end, after_step, after_text, begins_call, numbered, nothing_yet, whole};
+ghost use Rattle.trace.specs.Lines.{after, after_body, after_call, after_end, after_step, after_text, begins_call, numbered, nothing_yet, settled, stepped, whole, with_started, without_ended};
 
 use crate::fact::Fact;
 use crate::marks::{cut, skip_blanks};
 use crate::parts::call_of;
-use crate::processes::{Known, Processes};
+use crate::processes::{Known, Processes, is_listed};
 use crate::steps::{Step, step_of};
 use std::alloc::{AllocError, Global};
 use text::{Bytes, Items};
@@ -16,6 +16,8 @@ use text::{Bytes, Items};
 #[derive(Debug, Drop)]
 pub struct Reached {
     pub processes: Processes,
+    /// The numbers of those that have ended while another one was in a call that starts one.
+    pub ended: Items<Bytes>,
     pub facts: Items<Fact>,
 }
 
@@ -34,6 +36,7 @@ impl Reached {
     {
         Reached {
             processes: Processes::new(alloc),
+            ended: Items::new(alloc),
             facts: Items::new(alloc),
         }
     }
@@ -64,7 +67,7 @@ impl Reached {
         ensures { IfOk result (λ is. after_body start.now self.old (number.now, body.now) ≡ (if is then Some self.new else None)) }
     {
         if body.starts_with(b"+++ exited with ") {
-            return Ok(self.take_end(number));
+            return self.take_end(alloc, number);
         }
         if body.starts_with(b"--- ") {
             return Ok(true);
@@ -74,14 +77,33 @@ impl Reached {
     }
 
     /// Notes that a process has ended: whether it was in no call.
-    fn take_end(&mut self, number: &[u8]) -> bool
-        ensures { after_end self.old number.now ≡ (if result then Some self.new else None) }
+    fn take_end(&mut self, alloc: Global, number: &[u8]) -> Result<bool, AllocError>
+        ensures { IfOk result (λ is. after_end self.old number.now ≡ (if is then Some self.new else None)) }
     {
         if self.processes.is_calling(number) {
-            return false;
+            return Ok(false);
         }
-        self.processes.forget(number);
-        true
+        self.note_end(alloc, Bytes::from_slice(alloc, number)?)?;
+        Ok(true)
+    }
+
+    /// Forgets a process that has ended, but for its number.
+    fn note_end(&mut self, alloc: Global, number: Bytes) -> Result<(), AllocError>
+        ensures { OnOk result (self.new ≡ settled (without_ended self.old number)) }
+    {
+        self.processes.forget(number.as_slice());
+        self.ended.push(number)?;
+        self.settle(alloc);
+        Ok(())
+    }
+
+    /// Forgets which processes have ended, unless one is in a call that starts one.
+    fn settle(&mut self, alloc: Global)
+        ensures { self.new ≡ settled self.old }
+    {
+        if !self.processes.is_starting() {
+            self.ended = Items::new(alloc);
+        }
     }
 
     /// Reads what a line tells of a call, begins to tell or ends to tell.
@@ -130,6 +152,7 @@ impl Reached {
         match step_of(alloc, known, &call)? {
             Some(step) => {
                 self.take_step(known.number.clone()?, step)?;
+                self.settle(alloc);
                 Ok(true)
             }
             None => Ok(false),
@@ -138,7 +161,7 @@ impl Reached {
 
     /// Notes what a call did.
     fn take_step(&mut self, number: Bytes, step: Step) -> Result<(), AllocError>
-        ensures { OnOk result (self.new ≡ after_step self.old number step) }
+        ensures { OnOk result (self.new ≡ stepped self.old number step) }
     {
         let Step {
             folder,
@@ -153,9 +176,21 @@ impl Reached {
             shares,
         })?;
         if let Some(child) = child {
-            self.processes.add(child)?;
+            self.add(child)?;
         }
         push_all(&mut self.facts, facts)
+    }
+
+    /// Notes a process that was started, unless it was seen before.
+    fn add(&mut self, child: Known) -> Result<(), AllocError>
+        ensures processes { OnOk result (self.new.processes ≡ with_started self.old.ended child self.old.processes) }
+        ensures ended { self.new.ended ≡ self.old.ended }
+        ensures facts { self.new.facts ≡ self.old.facts }
+    {
+        if !is_listed(child.number.as_slice(), self.ended.as_slice()) {
+            self.processes.add(child)?;
+        }
+        Ok(())
     }
 }
 

@@ -1,7 +1,7 @@
 //! The processes that run, as far as a trace has come.
 
-ghost use Rattle.std.specs.Prelude.{◌≡◌, ◌<◌, [], IfOk, IfSome, IfNone, OnOk, length, option_map, remove};
-ghost use Rattle.trace.specs.Processes.{all_start_as, begins_to_start, first_forking, fresh, is_calling, is_forking, is_none, is_same, known_of, known_or_new, lends_place, newcomer, parent_of, put, starts_as, with_child, without};
+ghost use Rattle.std.specs.Prelude.{◌≡◌, ◌<◌, [], IfOk, IfSome, IfNone, OnOk, is_some, length, option_map, remove};
+ghost use Rattle.trace.specs.Processes.{all_start_as, begins_to_start, first_forking, fresh, is_calling, is_forking, is_listed, is_none, is_same, known_of, known_or_new, lends_place, newcomer, parent_of, put, starts_as, with_child, without};
 
 use crate::marks::has;
 use std::alloc::{AllocError, Global};
@@ -174,6 +174,13 @@ impl Processes {
         Ok(())
     }
 
+    /// Whether one has begun to start another one.
+    pub fn is_starting(&self) -> bool
+        ensures { result ≡ is_some (first_forking self.now) }
+    {
+        first_forking(self.known.as_slice()).is_some()
+    }
+
     /// Notes a process that was started, unless it was seen before.
     pub fn add(&mut self, known: Known) -> Result<(), AllocError>
         ensures { OnOk result (self.new ≡ with_child known self.old) }
@@ -183,6 +190,18 @@ impl Processes {
         }
         Ok(())
     }
+}
+
+/// Whether the number is one of these.
+pub fn is_listed(number: &[u8], numbers: &[Bytes]) -> bool
+    ensures { result ≡ is_listed number.now numbers.now }
+{
+    for other in numbers {
+        if other.as_slice() == number {
+            return true;
+        }
+    }
+    false
 }
 
 /// What is known of the process with this number, if it was seen.

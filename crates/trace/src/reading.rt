@@ -27,7 +27,11 @@ pub fn read(alloc: Global, start: &[u8], trace: &[u8]) -> Result<Told, AllocErro
     if !take_lines(alloc, start, trace, &mut reached)? {
         return Ok(Told::NotUnderstood);
     }
-    let Reached { processes, facts } = reached;
+    let Reached {
+        processes,
+        facts,
+        ..
+    } = reached;
     if !processes.is_empty() || facts.is_empty() {
         return Ok(Told::NotUnderstood);
     }
