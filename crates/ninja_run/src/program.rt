@@ -1,13 +1,11 @@
 //! The run of the program.
 
 ghost use Rattle.std.specs.Prelude.{◌≤◌, IfOk};
-ghost use Rattle.model.specs.World.{IsIdle};
-ghost use Rattle.host.specs.World.{world_of};
 
 use crate::told::{self, Telling};
 use builder::{Options, Report};
 use host::{Host, Trouble};
-use site::SiteFault;
+use site::{Site, SiteFault};
 use stand_in::{
     Asked, Asking, Due, Ended, Front, Heading, HeadingFault, NoAnswer, Options as Given, Outcome,
     Output, PATTERN, Patient, Place, Shown, answer, asked, build_here, default_jobs, due_here,
@@ -225,18 +223,21 @@ fn build_at<'a, W: Write + Drop>(
     mut site: Patient<'a, Host<'a, &'a mut W>>,
     given: &Given<'_>,
     options: &Options,
-) -> (Ended, Option<Trouble>)
-    requires { IsIdle (world_of site.site).events }
-{
+) -> (Ended, Option<Trouble>) {
     let ended = build_there(alloc, &mut site, given, options);
     let trouble = finish(site.into_site(), given.keep, &ended);
     (ended, trouble)
 }
 
-/// The same as [`build_here`], with nothing said of it: what that says is of any site, and would be told here of this one.
-fn build_there<S: Place>(alloc: Global, site: &mut S, given: &Given<'_>, options: &Options) -> Ended
-    requires { IsIdle (S.world site.old).events }
-{
+/// The same as [`build_here`], from a start at which no command runs, and with nothing said of it: what that says is of any site, and
+/// would be told here of this one.
+fn build_there<S: Place>(
+    alloc: Global,
+    site: &mut S,
+    given: &Given<'_>,
+    options: &Options,
+) -> Ended {
+    site.restart();
     build_here(alloc, site, given, options)
 }
 
