@@ -51,26 +51,15 @@ pub fn site_here<'x, W: Write + Drop>(
         front.look(),
         str::from_utf8(pattern.as_slice()).unwrap_or(""),
     );
-    Ok(Patient::new(rt, host, screen, limit))
+    Ok(Patient {
+        rt,
+        site: host,
+        screen,
+        limit: limit.filter(|limit| *limit > 0.0),
+    })
 }
 
 impl<'a, W: Write + Drop> Patient<'a, W> {
-    pub fn new(
-        rt: &'a HostRuntime,
-        site: Host<'a, &'a mut W>,
-        screen: Screen<'a>,
-        limit: Option<f64>,
-    ) -> Patient<'a, W>
-        ensures { result.site ≡ site }
-    {
-        Patient {
-            rt,
-            site,
-            screen,
-            limit: limit.filter(|limit| *limit > 0.0),
-        }
-    }
-
     /// Gives the site back.
     pub fn into_site(self) -> Host<'a, &'a mut W> {
         let Patient { site, .. } = self;
