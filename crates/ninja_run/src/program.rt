@@ -220,7 +220,7 @@ fn build_with<'a, W: Write + Drop>(
 /// The same on a site.
 fn build_at<'a, W: Write + Drop>(
     alloc: Global,
-    mut site: Patient<'a, Host<'a, &'a mut W>>,
+    mut site: Patient<'a, W>,
     given: &Given<'_>,
     options: &Options,
 ) -> (Ended, Option<Trouble>) {

@@ -1,6 +1,6 @@
 //! The site of the stand-in: it starts nothing while the machine has too much to do, and shows lines as ninja does.
 
-ghost use Rattle.std.specs.Prelude.{◌≡◌, IfOk};
+ghost use Rattle.std.specs.Prelude.{◌≡◌, IfOk, false};
 ghost use Rattle.host.specs.World.{world_of, fresh};
 
 use crate::place::Place;
@@ -25,9 +25,9 @@ const MOST_LOOKS: u64 = 1 << 62;
 /// A site that waits with a start while the load is above a limit and a command that was started has not ended, and that shows what is
 /// made of texts by a [`Screen`].
 #[derive(Drop)]
-pub struct Patient<'a, S> {
+pub struct Patient<'a, W> {
     rt: &'a HostRuntime,
-    site: S,
+    site: Host<'a, &'a mut W>,
     screen: Screen<'a>,
     /// The limit; none is none, and so is one that is not above zero.
     limit: Option<f64>,
@@ -41,7 +41,7 @@ pub fn site_here<'x, W: Write + Drop>(
     out: &'x mut W,
     front: Front<'x>,
     limit: Option<f64>,
-) -> io::Result<Patient<'x, Host<'x, &'x mut W>>>
+) -> io::Result<Patient<'x, W>>
     ensures { IfOk result (λ patient. world_of patient.site ≡ fresh) }
 {
     let screen = Screen::new(rt, alloc, front)?;
@@ -51,35 +51,24 @@ pub fn site_here<'x, W: Write + Drop>(
         front.look(),
         str::from_utf8(pattern.as_slice()).unwrap_or(""),
     );
-    Ok(Patient::new(rt, host, screen, limit))
+    Ok(Patient {
+        rt,
+        site: host,
+        screen,
+        limit: limit.filter(|limit| *limit > 0.0),
+    })
 }
 
-impl<'a, S: Place> Patient<'a, S> {
-    pub fn new(
-        rt: &'a HostRuntime,
-        site: S,
-        screen: Screen<'a>,
-        limit: Option<f64>,
-    ) -> Patient<'a, S>
-        ensures { result.site ≡ site }
-    {
-        Patient {
-            rt,
-            site,
-            screen,
-            limit: limit.filter(|limit| *limit > 0.0),
-        }
-    }
-
+impl<'a, W: Write + Drop> Patient<'a, W> {
     /// Gives the site back.
-    pub fn into_site(self) -> S {
+    pub fn into_site(self) -> Host<'a, &'a mut W> {
         let Patient { site, .. } = self;
         site
     }
 
     /// Waits until the load is not above the limit, or each command that was started has ended.
     fn wait_for_rest(&mut self)
-        ensures { S.world self.new.site ≡ S.world self.old.site }
+        ensures { world_of self.new.site ≡ world_of self.old.site }
     {
         let Some(limit) = self.limit else {
             return;
@@ -93,10 +82,10 @@ impl<'a, S: Place> Patient<'a, S> {
     }
 }
 
-impl<'a, S: Place> Texts for Patient<'a, S> {
-    ghost tells = { S.tells };
+impl<'a, W: Write + Drop> Texts for Patient<'a, W> {
+    ghost tells = { false };
 
-    ghost world = { λ patient. S.world patient.site };
+    ghost world = { λ patient. world_of patient.site };
 
     fn read(&mut self, path: &str) -> Result<Option<Bytes>, SiteFault> {
         self.site.read(path)
@@ -107,8 +96,10 @@ impl<'a, S: Place> Texts for Patient<'a, S> {
     }
 }
 
-impl<'a, S: Place> Site for Patient<'a, S> {
-    ghost outcome = { S.outcome };
+impl<'a, W: Write + Drop> Site for Patient<'a, W> {
+    ghost use Rattle.host.specs.World.{any_outcome};
+
+    ghost outcome = { any_outcome };
 
     fn stat(&mut self, path: &str) -> Result<Option<u64>, SiteFault> {
         self.site.stat(path)
@@ -164,7 +155,7 @@ impl<'a, S: Place> Site for Patient<'a, S> {
     }
 }
 
-impl<'a, S: Place> Alone for Patient<'a, S> {
+impl<'a, W: Write + Drop> Alone for Patient<'a, W> {
     fn enter(&mut self) {
         self.site.enter()
     }
@@ -178,7 +169,7 @@ impl<'a, S: Place> Alone for Patient<'a, S> {
     }
 }
 
-impl<'a, S: Place> Place for Patient<'a, S> {
+impl<'a, W: Write + Drop> Place for Patient<'a, W> {
     fn run_generator(&mut self, act: &Act) -> Result<bool, SiteFault> {
         self.site.run_generator(act)
     }
