@@ -17,17 +17,17 @@ use Rattle.model.specs.Premises.{FilesAreKept, OnlyFreeIsEdited, IsWithinEdge, I
 use Rattle.model.specs.Records.{OwnFiles, Store, recorded_inputs}
 use Rattle.model.specs.SingleBuild.{asked_with}
 use Rattle.model.specs.Schedule.{Task, Step as Done, judged_in, started_in}
-use Rattle.build_theory.specs.Run.{IsRun}
-use Rattle.build_theory.proofs.Calls.{looks_then}
-use Rattle.build_theory.proofs.Files.{IsElsewhere}
-use Rattle.build_theory.proofs.Lists.{has-left, has-right, same_bytes}
-use Rattle.build_theory.proofs.Looks.{kept_before, edits_before, looks_keep_file}
-use Rattle.build_theory.proofs.Makers.{maker_is}
-use Rattle.build_theory.proofs.Orderly.{IsKept, kept_orderly}
-use Rattle.build_theory.proofs.Runs.{rest_begins}
-use Rattle.build_theory.proofs.Starting.{OthersRun, since, private_elsewhere}
-use Rattle.log_theory.specs.Ledger.{IsPhased}
-use Rattle.log_theory.proofs.Ledger.{others_run}
+use Rattle.theory.specs.Run.{IsRun}
+use Rattle.theory.proofs.SiteCalls.{looks_then}
+use Rattle.theory.proofs.Files.{IsElsewhere}
+use Rattle.theory.proofs.Lists.{has-left, has-right, same_bytes}
+use Rattle.theory.proofs.Looks.{kept_before, edits_before, looks_keep_file}
+use Rattle.theory.proofs.Makers.{maker_is}
+use Rattle.theory.proofs.Orderly.{IsKept, kept_orderly}
+use Rattle.theory.proofs.Runs.{rest_begins}
+use Rattle.theory.proofs.Starting.{OthersRun, since, private_elsewhere}
+use Rattle.theory.specs.Ledger.{IsPhased}
+use Rattle.theory.proofs.Ledger.{others_run}
 use Rattle.links.specs.declared.cone.Cone.{Cone}
 use Rattle.links.specs.declared.graph.Graph.{Graph}
 use Rattle.links.specs.Cone.{mark_at, is_listed}

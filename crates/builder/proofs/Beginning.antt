@@ -15,11 +15,11 @@ use Rattle.model.specs.Premises.{FilesAreKept}
 use Rattle.model.specs.Records.{Store, OwnFiles, LogFormat, store_in, file_in, tick_name, IsOwnIn}
 use Rattle.model.specs.Schedule.{Step as Done}
 use Rattle.model.specs.SingleBuild.{Asked, NamesOther, task_of}
-use Rattle.build_theory.specs.Seen.{Looked}
-use Rattle.build_theory.proofs.Looks.{logs_left, looks_nothing}
+use Rattle.theory.specs.Seen.{Looked}
+use Rattle.theory.proofs.Looks.{logs_left, looks_nothing}
 use Rattle.depfile.specs.Depfile.{IsReading}
-use Rattle.log_theory.specs.Ledger.{IsCarried}
-use Rattle.log_theory.proofs.Ledger.{carried_entry, carried_found, carried_looks}
+use Rattle.theory.specs.Ledger.{IsCarried}
+use Rattle.theory.proofs.Ledger.{carried_entry, carried_found, carried_looks}
 use Rattle.manifest.specs.Answer.{IsGraph}
 use Rattle.paths.specs.Told.{text_at}
 use Rattle.links.specs.declared.cone.Cone.{Cone}

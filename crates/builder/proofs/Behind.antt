@@ -6,8 +6,8 @@ use Rattle.model.specs.World.{World}
 use Rattle.model.specs.Phases.{Phase, steps_of, IsDueLoad}
 use Rattle.model.specs.Schedule.{Task, Step as Done, started_in}
 use Rattle.model.specs.SingleBuild.{asked_with}
-use Rattle.build_theory.proofs.Lists.{same_rest}
-use Rattle.log_theory.specs.Ledger.{IsRefused}
+use Rattle.theory.proofs.Lists.{same_rest}
+use Rattle.theory.specs.Ledger.{IsRefused}
 use Rattle.links.specs.declared.cone.Cone.{Cone}
 use Rattle.links.specs.declared.graph.Graph.{Graph}
 use Rattle.runner.specs.declared.cut.Cut.{Cut}

@@ -16,10 +16,10 @@ use Rattle.model.specs.Records.{OwnFiles, Store, LogFormat, IsOwnIn, file_in, bu
 use Rattle.model.specs.SingleBuild as answer
 use Rattle.model.specs.SingleBuild.{asked_with, Asked, Answer, IsSuccess, IsShownCycle, IsAnswer, NamesOther, SingleBuild}
 use Rattle.std.proofs.lemmas.Bool.{false≢true, or_left}
-use Rattle.build_theory.proofs.Lists.{has-left, has-right, bytes_same}
-use Rattle.build_theory.proofs.Looks.{looks_nothing, looks_then}
-use Rattle.build_theory.specs.Seen.{Unrefused, Looked}
-use Rattle.build_theory.proofs.Calls.{unrefused_none, unrefused_then}
+use Rattle.theory.proofs.Lists.{has-left, has-right, bytes_same}
+use Rattle.theory.proofs.Looks.{looks_nothing, looks_then}
+use Rattle.theory.specs.Seen.{Unrefused, Looked}
+use Rattle.theory.proofs.SiteCalls.{unrefused_none, unrefused_then}
 use Rattle.paths.specs.Told.{text_at, texts_at}
 use Rattle.links.specs.declared.cone.ConeFault.{ConeFault}
 use Rattle.links.specs.declared.cone.ConeFault.TheVariants as cone_fault

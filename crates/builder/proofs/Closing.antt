@@ -5,7 +5,7 @@ use Rattle.model.specs.declared.graph.Edge.{Edge}
 use Rattle.model.specs.World.{World}
 use Rattle.model.specs.SingleBuild.{PassesNoFault}
 use Rattle.model.specs.SingleBuild as answer
-use Rattle.build_theory.specs.Seen.{IsSeen, Unrefused, StartsUnrefused}
+use Rattle.theory.specs.Seen.{IsSeen, Unrefused, StartsUnrefused}
 use Rattle.links.specs.declared.cone.Cone.{Cone}
 use Rattle.links.specs.declared.graph.Graph.{Graph}
 use Rattle.runner.specs.declared.cut.Cut.{Cut}

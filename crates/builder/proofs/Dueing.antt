@@ -3,7 +3,7 @@ use Rattle.std.proofs.Common.{Bool, List}
 use Rattle.model.specs.declared.graph.BuildGraph.{BuildGraph}
 use Rattle.model.specs.World.{World}
 use Rattle.model.specs.Calls.{OnlyLooks}
-use Rattle.build_theory.proofs.Looks.{looks_then}
+use Rattle.theory.proofs.Looks.{looks_then}
 use Rattle.builder.specs.declared.asked.Asked.{Asked as Request}
 use Rattle.builder.specs.declared.explained.Explanation.{Explanation}
 use Rattle.builder.specs.Explained.{ExplainsBuild}

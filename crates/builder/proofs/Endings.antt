@@ -2,9 +2,9 @@
 use Rattle.std.specs.Prelude.{IfErr}
 use Rattle.std.proofs.Common.{◌≡◌, ◌⊎◌, inl, inr, ℕ, suc, Bool, true, false, cond, IsTrue, List, [], ◌∷◌, ◌++◌, map, Option, Some, None, bytes_eq, Vec, Global, Result, Ok, Err, refl, sym, ◌∙◌, ap, subst, append_assoc}
 use Rattle.std.proofs.lemmas.Bool.{cases_Bool}
-use Rattle.build_theory.proofs.Builds.{idle_at_end}
-use Rattle.build_theory.proofs.Looks.{kept_before, edits_before}
-use Rattle.build_theory.proofs.Settled.{settled_command}
+use Rattle.theory.proofs.Builds.{idle_at_end}
+use Rattle.theory.proofs.Looks.{kept_before, edits_before}
+use Rattle.theory.proofs.Settled.{settled_command}
 use Rattle.model.specs.declared.event.Moment.{Moment}
 use Rattle.model.specs.declared.fault.SiteFault.{SiteFault}
 use Rattle.model.specs.declared.fault.SiteFault.TheVariants.{Stopped, Memory}
@@ -17,15 +17,15 @@ use Rattle.model.specs.Schedule.{Task, Step as Done, failed_in, done_in}
 use Rattle.model.specs.Phases.{IsPointAfter, Phase, steps_of, next_edges, IsNextLoad, IsLoad, ArePhasesFrom, IsLawfulBuild, AreAskedApart, NothingNeededIsFree, IfUnstarted, WasNothingMissing, WasNothingMissingIn, task_with}
 use Rattle.model.specs.SingleBuild as answer
 use Rattle.model.specs.SingleBuild.{HeldAt, IsRefusedLoadHeldAt, AreHeldThen, AreJudgedAt, ArePhasesJudgedAt, Asked, Answer, IsSuccess, IsAnswer, IsAsked, IsNamedMissing, IsShownCycle, WentOn, WasInOrder, PassesNoFault, NamesOther, asked_with, task_of}
-use Rattle.build_theory.specs.Seen.{IsSeen}
-use Rattle.build_theory.proofs.Lists.{same_bytes, same_some}
+use Rattle.theory.specs.Seen.{IsSeen}
+use Rattle.theory.proofs.Lists.{same_bytes, same_some}
 use Rattle.links.specs.declared.cone.Cone.{Cone}
 use Rattle.links.specs.declared.graph.Graph.{Graph}
 use Rattle.records.specs.declared.records.Records.{Records}
 use Rattle.links.specs.Told.{declared_by}
-use Rattle.log_theory.specs.Ledger.{IsCutOff, LoadedThen}
-use Rattle.log_theory.proofs.Ledger.{cut_off}
-use Rattle.log_theory.proofs.Phased.{HoldsAll, with_text, no_text, holds_all, holds_it, held_later, loads_with}
+use Rattle.theory.specs.Ledger.{IsCutOff, LoadedThen}
+use Rattle.theory.proofs.Ledger.{cut_off}
+use Rattle.theory.proofs.PhasesGoOn.{HoldsAll, with_text, no_text, holds_all, holds_it, held_later, loads_with}
 use Rattle.runner.specs.declared.summary.Summary.{Summary}
 use Rattle.runner.specs.declared.summary.Summary.TheVariants.{Well, Failed as SomeFailed}
 use Rattle.runner.specs.Course.{Course}

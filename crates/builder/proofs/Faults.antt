@@ -8,8 +8,8 @@ use Rattle.model.specs.World.{World, IsIdle}
 use Rattle.model.specs.Calls.{OnlyLooks, HasCause, is_stop}
 use Rattle.model.specs.SingleBuild.{PassesNoFault}
 use Rattle.model.specs.SingleBuild as answer
-use Rattle.build_theory.specs.Seen.{IsSeen, Unrefused, StartsUnrefused}
-use Rattle.build_theory.proofs.Calls.{unrefused_then, seen_since}
+use Rattle.theory.specs.Seen.{IsSeen, Unrefused, StartsUnrefused}
+use Rattle.theory.proofs.SiteCalls.{unrefused_then, seen_since}
 use Rattle.runner.specs.declared.cut.Cut.{Cut}
 use Rattle.runner.specs.declared.cut.Cut.TheVariants.{Waiting, Other}
 use Rattle.runner.specs.Cut.{fault_of, IsLeft}

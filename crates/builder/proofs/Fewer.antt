@@ -4,7 +4,7 @@ use Rattle.std.proofs.lemmas.List.Sums.{sum_by-cons}
 use Rattle.model.specs.declared.graph.Edge.{Edge}
 use Rattle.model.specs.Graph.{edge_at, no_edge, Addition}
 use Rattle.model.specs.Phases.{IsGrownBy}
-use Rattle.build_theory.proofs.Growth.{cases_named}
+use Rattle.theory.proofs.Growth.{cases_named}
 use Rattle.builder.specs.Going.{files_left}
 
 -- whether the edge names a file, as a number

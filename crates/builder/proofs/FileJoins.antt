@@ -12,7 +12,7 @@ use Rattle.model.specs.Graph.{has, has_number, edge_at, targets_of, IsMadeOnce, 
 use Rattle.model.specs.Phases.{IsGrownBy}
 use Rattle.model.specs.Records.{Store, recorded_of, recorded_inputs}
 use Rattle.model.specs.SingleBuild.{Asked, asked_with, declared_graph}
-use Rattle.build_theory.proofs.Lists.{same_some, some_none, bytes_same}
+use Rattle.theory.proofs.Lists.{same_some, some_none, bytes_same}
 use Rattle.paths.specs.declared.manifest.Action.{Action}
 use Rattle.paths.specs.declared.manifest.Action.TheVariants.{Alias, Command}
 use Rattle.paths.specs.Commands.{no_action}

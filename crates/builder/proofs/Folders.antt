@@ -2,7 +2,7 @@
 use Rattle.std.proofs.Common.{◌≡◌, ◌≢◌, ℕ, ◌==◌, cond, Bool, true, false, List, [], ◌∷◌, ◌++◌, get_or, refl, ap, arith}
 use Rattle.std.proofs.lemmas.Bool.{eqb-true}
 use Rattle.model.specs.Records.{file_in, build_log_name, deps_log_name, tick_name}
-use Rattle.build_theory.proofs.Lists.{same_rest}
+use Rattle.theory.proofs.Lists.{same_rest}
 
 -- in a folder that is neither the working folder nor the root, a slash stands between the two
 pub file_below : (folder name : List ℕ) → (folder ≡ [] → ⊥) → (folder ≡ 47 ∷ [] → ⊥) → file_in folder name ≡ folder ++ 47 ∷ name

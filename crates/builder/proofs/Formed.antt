@@ -4,8 +4,8 @@ use Rattle.std.proofs.lemmas.Bool.{false≢true}
 use Rattle.model.specs.declared.graph.Edge.{Edge}
 use Rattle.model.specs.declared.graph.BuildGraph.{BuildGraph}
 use Rattle.model.specs.Graph.{edge_at, no_edge, outputs, IsCommand}
-use Rattle.build_theory.proofs.Lists.{all_weaker}
-use Rattle.build_theory.proofs.Makers.{each_edge}
+use Rattle.theory.proofs.Lists.{all_weaker}
+use Rattle.theory.proofs.Makers.{each_edge}
 use Rattle.manifest.specs.Answer.{IsWellFormed, IsGraph}
 
 module _ (graph : BuildGraph) (formed : IsGraph graph) where

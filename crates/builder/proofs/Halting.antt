@@ -10,15 +10,15 @@ use Rattle.model.specs.World.{World, IsIdle}
 use Rattle.model.specs.Graph.{has_number}
 use Rattle.model.specs.Phases.{Phase}
 use Rattle.model.specs.Schedule.{Task, Step as Done, AreEventsOf, started_in, ended_in}
-use Rattle.build_theory.specs.Run.{IsRun}
-use Rattle.build_theory.proofs.Calls.{looks_then}
-use Rattle.build_theory.proofs.Events.{as_many}
-use Rattle.build_theory.proofs.Lists.{same_rest}
-use Rattle.build_theory.proofs.Looks.{edits_before}
-use Rattle.build_theory.proofs.Orderly.{kept_orderly}
-use Rattle.log_theory.specs.Ledger.{IsPhased, IsCutOff}
-use Rattle.log_theory.proofs.Ledger.{cut_off}
-use Rattle.log_theory.proofs.Phased.{phased_on}
+use Rattle.theory.specs.Run.{IsRun}
+use Rattle.theory.proofs.SiteCalls.{looks_then}
+use Rattle.theory.proofs.Events.{as_many}
+use Rattle.theory.proofs.Lists.{same_rest}
+use Rattle.theory.proofs.Looks.{edits_before}
+use Rattle.theory.proofs.Orderly.{kept_orderly}
+use Rattle.theory.specs.Ledger.{IsPhased, IsCutOff}
+use Rattle.theory.proofs.Ledger.{cut_off}
+use Rattle.theory.proofs.PhasesGoOn.{phased_on}
 use Rattle.links.specs.declared.cone.Cone.{Cone}
 use Rattle.links.specs.declared.graph.Graph.{Graph}
 use Rattle.looks.specs.declared.table.Looks.{Looks}

@@ -20,20 +20,20 @@ use Rattle.model.specs.Reading.{IsInCone, IsCycle}
 use Rattle.model.specs.Records.{OwnFiles, Store, recorded_of, recorded_inputs}
 use Rattle.model.specs.Schedule.{Task, Step as Done, started_in, running_in}
 use Rattle.model.specs.SingleBuild.{HeldAt, HasNoCycle, asked_with, task_of}
-use Rattle.build_theory.specs.Run.{IsRunOrRest}
-use Rattle.build_theory.proofs.Calls.{looks_then}
-use Rattle.build_theory.proofs.Growth.{HasGrown, grown_by}
-use Rattle.build_theory.proofs.Lists.{has-left, has-right, has-cases, same_bytes, bytes_same, same_rest}
-use Rattle.build_theory.proofs.Looks.{kept_before, edits_before}
-use Rattle.build_theory.proofs.Makers.{maker_is}
-use Rattle.build_theory.proofs.Orderly.{IsKept, kept_orderly}
-use Rattle.build_theory.proofs.Runs.{rest_begins}
-use Rattle.log_theory.specs.Ledger.{IsPhased, IsCarried, IsCutOff}
-use Rattle.log_theory.proofs.AtMoments.{held_seen}
-use Rattle.log_theory.proofs.Ledger.{cut_off}
-use Rattle.log_theory.proofs.Loading.{carried_load}
-use Rattle.log_theory.proofs.Phased.{steps_of-append, so_far}
-use Rattle.log_theory.proofs.Turned.{kept_then}
+use Rattle.theory.specs.Run.{IsRunOrRest}
+use Rattle.theory.proofs.SiteCalls.{looks_then}
+use Rattle.theory.proofs.Growth.{HasGrown, grown_by}
+use Rattle.theory.proofs.Lists.{has-left, has-right, has-cases, same_bytes, bytes_same, same_rest}
+use Rattle.theory.proofs.Looks.{kept_before, edits_before}
+use Rattle.theory.proofs.Makers.{maker_is}
+use Rattle.theory.proofs.Orderly.{IsKept, kept_orderly}
+use Rattle.theory.proofs.Runs.{rest_begins}
+use Rattle.theory.specs.Ledger.{IsPhased, IsCarried, IsCutOff}
+use Rattle.theory.proofs.AtMoments.{held_seen}
+use Rattle.theory.proofs.Ledger.{cut_off}
+use Rattle.theory.proofs.Loading.{carried_load}
+use Rattle.theory.proofs.PhasesGoOn.{steps_of-append, so_far}
+use Rattle.theory.proofs.Turned.{kept_then}
 use Rattle.dyndep.specs.declared.addition.Addition.{Addition as Statement}
 use Rattle.dyndep.specs.declared.fault.DynFault.{DynFault}
 use Rattle.dyndep.specs.declared.fault.DynFault.TheVariants as said

@@ -16,22 +16,22 @@ use Rattle.model.specs.Phases.{steps_of}
 use Rattle.model.specs.Schedule.{Step as Done, Judged}
 use Rattle.model.specs.SingleBuild as answer
 use Rattle.model.specs.SingleBuild.{Asked, Answer, is_fault, IsSuccess, IsScheduled, IsAnswer, PassesNoFault, SingleBuild, task_of}
-use Rattle.build_theory.specs.Run.{IsRunOrRest}
-use Rattle.build_theory.specs.Seen.{Looked}
-use Rattle.build_theory.proofs.Calls.{seen_of}
-use Rattle.build_theory.proofs.Looks.{logs_left, frame_of_looks}
-use Rattle.build_theory.proofs.Runs.{run_begins, rest_begins, rest_looks}
-use Rattle.build_theory.proofs.Starting.{ready_nothing}
-use Rattle.log_theory.specs.Builds.{IsRunOf}
-use Rattle.log_theory.specs.Ledger.{IsBeside}
-use Rattle.log_theory.specs.Logged.{IsLoggedAt}
-use Rattle.log_theory.proofs.Alone.{alone_nothing}
-use Rattle.log_theory.proofs.Builds.{headline_of_run, logs_of_run}
-use Rattle.log_theory.proofs.Calls.{entry_logged}
-use Rattle.log_theory.proofs.AsRead.{read_nothing}
-use Rattle.log_theory.proofs.Judged.{taken_nothing}
-use Rattle.log_theory.proofs.Ledger.{beside_looks}
-use Rattle.log_theory.proofs.Ticking.{ticked_nothing}
+use Rattle.theory.specs.Run.{IsRunOrRest}
+use Rattle.theory.specs.Seen.{Looked}
+use Rattle.theory.proofs.SiteCalls.{seen_of}
+use Rattle.theory.proofs.Looks.{logs_left, frame_of_looks}
+use Rattle.theory.proofs.Runs.{run_begins, rest_begins, rest_looks}
+use Rattle.theory.proofs.Starting.{ready_nothing}
+use Rattle.theory.specs.Builds.{IsRunOf}
+use Rattle.theory.specs.Ledger.{IsBeside}
+use Rattle.theory.specs.Logged.{IsLoggedAt}
+use Rattle.theory.proofs.Alone.{alone_nothing}
+use Rattle.theory.proofs.Headlines.{headline_of_run, logs_of_run}
+use Rattle.theory.proofs.LoggedCalls.{entry_logged}
+use Rattle.theory.proofs.AsRead.{read_nothing}
+use Rattle.theory.proofs.JudgedAtExit.{taken_nothing}
+use Rattle.theory.proofs.Ledger.{beside_looks}
+use Rattle.theory.proofs.Ticking.{ticked_nothing}
 use Rattle.runner.specs.Course.{Course}
 use Rattle.runner.specs.Removing.{AreRemoved}
 use Rattle.builder.specs.declared.report.Report.{Report}

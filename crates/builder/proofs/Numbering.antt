@@ -4,7 +4,7 @@ use Rattle.std.proofs.lemmas.Bool.{eqb-true, eq-eqb, or_left, or_right}
 use Rattle.std.proofs.lemmas.List.{map-append, length-append, get_or_append_left}
 use Rattle.std.proofs.lemmas.Option.{slice_get_within, get_or_from_slice_get}
 use Rattle.model.specs.Graph.{has, has_number}
-use Rattle.build_theory.proofs.Lists.{same_some, same_bytes}
+use Rattle.theory.proofs.Lists.{same_some, same_bytes}
 use Rattle.paths.specs.Told.{text_at, texts_at}
 use Rattle.links.specs.Grown.{HasNumbered}
 use Rattle.links.specs.declared.graph.Graph.{Graph}

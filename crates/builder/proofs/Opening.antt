@@ -9,9 +9,9 @@ use Rattle.model.specs.Calls.{OnlyLooks, Sees}
 use Rattle.model.specs.Outcome.{Behaviour}
 use Rattle.model.specs.Premises.{LogsAreLeft}
 use Rattle.model.specs.Records.{LogFormat, OwnFiles, Store, read_log, store_in, IsOwnIn, file_in, build_log_name, deps_log_name}
-use Rattle.build_theory.specs.Seen.{IsSeen, Looked, Unrefused}
-use Rattle.build_theory.proofs.Calls.{seen_since}
-use Rattle.build_theory.proofs.Looks.{logs_left, looks_saw}
+use Rattle.theory.specs.Seen.{IsSeen, Looked, Unrefused}
+use Rattle.theory.proofs.SiteCalls.{seen_since}
+use Rattle.theory.proofs.Looks.{logs_left, looks_saw}
 use Rattle.build_log.specs.declared.form.Version.{Version}
 use Rattle.build_log.specs.Form.{Form}
 use Rattle.build_log.specs.Laws.{Reads}
@@ -21,7 +21,7 @@ use Rattle.deps_log.specs.Format.{ReadsLogs}
 use Rattle.deps_log.specs.Log.{Keeps as KeepsDeps, compaction as deps_compaction}
 use Rattle.deps_log.specs.Record.{forms as deps_forms}
 use Rattle.depfile.specs.Depfile.{IsReading}
-use Rattle.log_theory.specs.Logged.{IsLoggedAt}
+use Rattle.theory.specs.Logged.{IsLoggedAt}
 use Rattle.links.specs.declared.graph.Graph.{Graph}
 use Rattle.links.specs.Told.{declared_by}
 use Rattle.records.specs.declared.records.Records.{Records}

@@ -3,7 +3,7 @@ use Rattle.std.proofs.Common.{◌≡◌, inl, ℕ, Bool, true, false, List, None
 use Rattle.model.specs.declared.graph.Edge.{Edge}
 use Rattle.model.specs.World.{World}
 use Rattle.model.specs.Phases.{Phase}
-use Rattle.build_theory.proofs.Calls.{unrefused_none}
+use Rattle.theory.proofs.SiteCalls.{unrefused_none}
 use Rattle.links.specs.declared.cone.Cone.{Cone}
 use Rattle.links.specs.declared.graph.Graph.{Graph}
 use Rattle.runner.specs.declared.cut.Cut.{Cut}

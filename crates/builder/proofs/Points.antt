@@ -12,12 +12,12 @@ use Rattle.model.specs.Phases.{Phase, steps_of, happened_in, EndsInEvent, IsPoin
 use Rattle.model.specs.Records.{OwnFiles, Store}
 use Rattle.model.specs.Schedule.{Task, Step, started_in, ended_in}
 use Rattle.model.specs.SingleBuild.{Asked, asked_with, task_of}
-use Rattle.build_theory.specs.Run.{IsToldBy, IsRun}
-use Rattle.build_theory.proofs.Events.{as_many}
-use Rattle.build_theory.proofs.Exit.{take_events, drop_events, taken_dropped, taken_events, taken_behind}
-use Rattle.build_theory.proofs.Lists.{same_rest}
-use Rattle.build_theory.proofs.Orderly.{IsKept, kept_orderly}
-use Rattle.build_theory.proofs.Steps.{started-append, ended-append}
+use Rattle.theory.specs.Run.{IsToldBy, IsRun}
+use Rattle.theory.proofs.Events.{as_many}
+use Rattle.theory.proofs.Exit.{take_events, drop_events, taken_dropped, taken_events, taken_behind}
+use Rattle.theory.proofs.Lists.{same_rest}
+use Rattle.theory.proofs.Orderly.{IsKept, kept_orderly}
+use Rattle.theory.proofs.Steps.{started-append, ended-append}
 
 happened_is : (ms : List Moment) → happened_in ms ≡ length (events_in ms)
 happened_is [] = refl

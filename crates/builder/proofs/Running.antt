@@ -15,22 +15,22 @@ use Rattle.model.specs.Records.{OwnFiles, Store, LogFormat, recorded_inputs}
 use Rattle.model.specs.Schedule.{Task, Step as Done, IsSettled, NoneMayBeJudged, NoneMayStart, AreEventsOf, AreFinishes, started_in, well_in, failed_in, running_in, done_in}
 use Rattle.model.specs.SingleBuild as answer
 use Rattle.model.specs.SingleBuild.{AreHeldThen, AreJudgedAt, ArePhasesJudgedAt, Asked, Answer, is_fault, IsSuccess, WentOn, InCone, IsScheduled, IsInOrder, WasInOrder, HasEnded, IsAnswer, MetFault, PassesNoFault, NamesOther, AllNamed, HasNoCycle, SingleBuild, declared_graph, task_of}
-use Rattle.build_theory.specs.Run.{IsRun, IsRunOrRest}
-use Rattle.build_theory.specs.Seen.{IsSeen}
-use Rattle.build_theory.proofs.Builds.{idle_at_end, has_ended}
-use Rattle.build_theory.proofs.Counts.{started_length, ended_length}
-use Rattle.build_theory.proofs.Loads.{declared_once}
-use Rattle.build_theory.proofs.Looks.{logs_left, kept_before}
-use Rattle.build_theory.proofs.Runs.{rest_begins}
-use Rattle.build_theory.proofs.Turns.{settled_at_end}
+use Rattle.theory.specs.Run.{IsRun, IsRunOrRest}
+use Rattle.theory.specs.Seen.{IsSeen}
+use Rattle.theory.proofs.Builds.{idle_at_end, has_ended}
+use Rattle.theory.proofs.Counts.{started_length, ended_length}
+use Rattle.theory.proofs.Loads.{declared_once}
+use Rattle.theory.proofs.Looks.{logs_left, kept_before}
+use Rattle.theory.proofs.Runs.{rest_begins}
+use Rattle.theory.proofs.Turns.{settled_at_end}
 use Rattle.links.specs.declared.cone.Mark.{Mark}
 use Rattle.links.specs.Linked.{IsConeOf}
-use Rattle.log_theory.specs.Ledger.{IsCutOff, LoadedThen}
-use Rattle.log_theory.proofs.Carried.{settled_stays}
-use Rattle.log_theory.proofs.Ledger.{run_of, judged_of, judged_at_of, frame_of, met_by_step}
-use Rattle.log_theory.proofs.Over.{no_logs_are_faithful}
-use Rattle.log_theory.proofs.Phased.{no_text}
-use Rattle.log_theory.proofs.Stated.{clean_with_loads}
+use Rattle.theory.specs.Ledger.{IsCutOff, LoadedThen}
+use Rattle.theory.proofs.Carried.{settled_stays}
+use Rattle.theory.proofs.Ledger.{run_of, judged_of, judged_at_of, frame_of, met_by_step}
+use Rattle.theory.proofs.Over.{no_logs_are_faithful}
+use Rattle.theory.proofs.PhasesGoOn.{no_text}
+use Rattle.theory.proofs.LogLawsStated.{clean_with_loads}
 use Rattle.runner.specs.Going.{IsInHand}
 use Rattle.runner.specs.Removing.{AreRemoved}
 use Rattle.builder.specs.declared.report.Report.{Report}

@@ -11,7 +11,7 @@ use Rattle.model.specs.World.{World, View, IsIdle, view_of}
 use Rattle.model.specs.Calls.{OnlyLooks, HasCause}
 use Rattle.model.specs.Outcome.{Behaviour}
 use Rattle.model.specs.Records.{store_in}
-use Rattle.build_theory.proofs.Calls.{unrefused_call}
+use Rattle.theory.proofs.SiteCalls.{unrefused_call}
 use Rattle.deps_log.specs.Format.{HasFormat}
 use Rattle.depfile.specs.Depfile.{HasReading}
 use Rattle.dyndep_law.specs.Readings.{HasReading as HasDyndeps}

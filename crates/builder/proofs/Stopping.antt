@@ -8,8 +8,8 @@ use Rattle.model.specs.Graph.{maker, later_number}
 use Rattle.model.specs.Phases.{Phase, IsNextLoad, GoesBefore, BySource, ByNamer, IsPointAfter}
 use Rattle.model.specs.Schedule.{Task, Step as Done}
 use Rattle.model.specs.SingleBuild.{IsNamedMissing, asked_with}
-use Rattle.log_theory.specs.Ledger.{IsCutOff}
-use Rattle.log_theory.proofs.Phased.{phased_on}
+use Rattle.theory.specs.Ledger.{IsCutOff}
+use Rattle.theory.proofs.PhasesGoOn.{phased_on}
 use Rattle.links.specs.declared.cone.Cone.{Cone}
 use Rattle.links.specs.declared.graph.Graph.{Graph}
 use Rattle.links.specs.Links.{links_of}

@@ -7,14 +7,14 @@ use Rattle.model.specs.Calls.{is_stop}
 use Rattle.model.specs.Schedule.{Step as Done}
 use Rattle.links.specs.declared.cone.Cone.{Cone}
 use Rattle.links.specs.declared.graph.Graph.{Graph}
-use Rattle.log_theory.specs.Ledger.{IsCutOff}
+use Rattle.theory.specs.Ledger.{IsCutOff}
 use Rattle.runner.specs.declared.cut.Cut.{Cut}
 use Rattle.runner.specs.declared.state.State.{State}
 use Rattle.runner.specs.After.{ComesAfter}
 use Rattle.runner.specs.Course.{Course}
 use Rattle.runner.specs.Cut.{fault_of, IsLeft}
 use Rattle.runner.specs.Cutting.{IsMet, TakesIn}
-use Rattle.build_theory.specs.Seen.{IsSeen}
+use Rattle.theory.specs.Seen.{IsSeen}
 use Rattle.builder.specs.declared.report.Refusal.{Refusal}
 use Rattle.builder.specs.declared.stop.Stop.{Stop}
 use Rattle.builder.specs.declared.stop.Stop.TheVariants as stop

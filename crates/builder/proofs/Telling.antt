@@ -5,7 +5,7 @@ use Rattle.std.proofs.lemmas.List.{map-append, take_more}
 use Rattle.model.specs.declared.event.Moment.{Moment}
 use Rattle.model.specs.declared.graph.Edge.{Edge}
 use Rattle.model.specs.Graph.{edge_at, first_output, maker, no_edge, inputs, outputs, has}
-use Rattle.build_theory.proofs.Lists.{bytes_same}
+use Rattle.theory.proofs.Lists.{bytes_same}
 use Rattle.std.proofs.lemmas.Bool.{false≢true, or_left}
 use Rattle.links.specs.declared.cone.Cone.{Cone}
 use Rattle.links.specs.declared.graph.Graph.{Graph}

@@ -7,8 +7,8 @@ use Rattle.model.specs.World.{World, runs, IsRunning, IsIdle}
 use Rattle.model.specs.Calls.{OthersWrote, OnlyLooks}
 use Rattle.model.specs.Records.{OwnFiles}
 use Rattle.model.specs.Premises.{LogsAreLeft, OnlyFreeIsEdited, IsNoEdit}
-use Rattle.build_theory.proofs.Looks.{edits_before, untouched}
-use Rattle.build_theory.proofs.Starting.{since}
+use Rattle.theory.proofs.Looks.{edits_before, untouched}
+use Rattle.theory.proofs.Starting.{since}
 use Rattle.looks.specs.Seen.{AreKept}
 use Rattle.runner.proofs.Quiet.{all_kept}
 use Rattle.builder.specs.Going.{is_bound}

@@ -29,14 +29,14 @@ use Rattle.builder.specs.declared.asked.Asked.{Asked as Request}
 use Rattle.builder.specs.declared.asked.Limits.{Limits}
 use Rattle.builder.specs.declared.reading.Reading.{Reading}
 use Rattle.builder.specs.declared.report.Report.TheVariants.{Success, Failed, Refused, Fault}
-use Rattle.build_theory.specs.Seen.{Looked}
+use Rattle.theory.specs.Seen.{Looked}
 use Rattle.builder.specs.Asked.{AreTargets, IsFolder}
 use Rattle.paths.specs.Told.{graph_of, text_at}
 use Rattle.builder.specs.Loads.{ReadsDyndeps, RefusesFile}
 use Rattle.links.specs.declared.fault.GraphFault.TheVariants as fault_of
 use Rattle.links.specs.Linked.{IsFaultOf}
 use Rattle.links.specs.Targets.{IsFirstUnknown}
-use Rattle.log_theory.specs.Alone.{AreLeftAlone}
+use Rattle.theory.specs.Alone.{AreLeftAlone}
 use Rattle.runner.specs.Removing.{AreRemoved}
 use Rattle.manifest.specs.Answer.{IsGraph}
 

@@ -14,14 +14,14 @@ use Rattle.model.specs.Records.{recorded_inputs}
 use Rattle.model.specs.Schedule.{Task, Step as Done, started_in}
 use Rattle.model.specs.SingleBuild as answer
 use Rattle.model.specs.SingleBuild.{Answer, HeldAt, IsAsked, IsNamedMissing, IsShownCycle, HasNoCycle, NamesOther, PassesNoFault, asked_with, declared_graph, task_of}
-use Rattle.build_theory.specs.Run.{IsRun}
-use Rattle.build_theory.specs.Seen.{IsSeen, Unrefused, StartsUnrefused}
+use Rattle.theory.specs.Run.{IsRun}
+use Rattle.theory.specs.Seen.{IsSeen, Unrefused, StartsUnrefused}
 use Rattle.paths.specs.Told.{text_at, texts_at}
 use Rattle.links.specs.declared.cone.Cone.{Cone}
 use Rattle.links.specs.declared.graph.Graph.{Graph}
 use Rattle.links.specs.Linked.{IsConeOf}
 use Rattle.links.specs.Told.{declared_by}
-use Rattle.log_theory.specs.Ledger.{IsPhased}
+use Rattle.theory.specs.Ledger.{IsPhased}
 use Rattle.plan.specs.declared.plan.Plan.{Plan}
 use Rattle.plan.specs.Planned.{IsPlanned, AreTaken}
 use Rattle.looks.specs.Seen.{AreSeenOf}

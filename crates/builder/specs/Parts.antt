@@ -5,7 +5,7 @@ use Rattle.model.specs.declared.graph.Edge.{Edge}
 use Rattle.model.specs.World.{World, IsIdle}
 use Rattle.model.specs.Outcome.{Behaviour}
 use Rattle.model.specs.Records.{LogFormat, OwnFiles}
-use Rattle.build_theory.specs.Seen.{Looked}
+use Rattle.theory.specs.Seen.{Looked}
 use Rattle.paths.specs.declared.manifest.Manifest.{Manifest}
 use Rattle.paths.specs.Told.{graph_of}
 use Rattle.links.specs.declared.graph.Graph.{Graph}

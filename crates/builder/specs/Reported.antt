@@ -6,7 +6,7 @@ use Rattle.model.specs.World.{World}
 use Rattle.model.specs.Phases.{Phase}
 use Rattle.model.specs.SingleBuild.{PassesNoFault}
 use Rattle.std.specs.Prelude.{Bool}
-use Rattle.build_theory.specs.Seen.{IsSeen}
+use Rattle.theory.specs.Seen.{IsSeen}
 use Rattle.links.specs.declared.cone.Cone.{Cone}
 use Rattle.links.specs.declared.graph.Graph.{Graph}
 use Rattle.looks.specs.declared.table.Look.TheVariants.{Unasked}

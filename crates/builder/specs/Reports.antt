@@ -12,7 +12,7 @@ use Rattle.model.specs.Premises.{LogsAreLeft}
 use Rattle.model.specs.Schedule.{Step}
 use Rattle.model.specs.Records.{Store, IsOwnIn, store_in}
 use Rattle.model.specs.SingleBuild.{Asked, NamesOther, task_of}
-use Rattle.build_theory.specs.Seen.{Looked}
+use Rattle.theory.specs.Seen.{Looked}
 use Rattle.paths.specs.declared.manifest.Manifest.{Manifest}
 use Rattle.paths.specs.Told.{text_at, texts_at, graph_of}
 use Rattle.links.specs.declared.cone.Cone.{Cone}

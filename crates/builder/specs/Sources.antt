@@ -7,7 +7,7 @@ use Rattle.model.specs.OutOfDate.{NothingIsMissing}
 use Rattle.model.specs.Schedule.{Step}
 use Rattle.model.specs.Records.{Store}
 use Rattle.model.specs.SingleBuild.{IsNamedMissing}
-use Rattle.build_theory.specs.Seen.{Unrefused}
+use Rattle.theory.specs.Seen.{Unrefused}
 use Rattle.links.specs.declared.cone.Cone.{Cone}
 use Rattle.links.specs.declared.graph.Graph.{Graph}
 use Rattle.links.specs.Told.{declared_by}

@@ -5,7 +5,7 @@ ghost use Rattle.model.specs.declared.graph.Edge.{Edge};
 ghost use Rattle.model.specs.World.{World};
 ghost use Rattle.model.specs.Phases.{Phase};
 ghost use Rattle.model.specs.SingleBuild.{PassesNoFault};
-ghost use Rattle.build_theory.specs.Seen.{IsSeen};
+ghost use Rattle.theory.specs.Seen.{IsSeen};
 ghost use Rattle.links.specs.declared.cone.Cone.{Cone as ConeOf};
 ghost use Rattle.links.specs.declared.graph.Graph.{Graph as GraphOf};
 ghost use Rattle.links.specs.Links.{links_of};

@@ -9,7 +9,7 @@ ghost use Rattle.model.specs.Records.{Store, recorded_inputs};
 ghost use Rattle.model.specs.SingleBuild.{Asked, declared_graph};
 ghost use Rattle.model.specs.Phases.{Phase};
 ghost use Rattle.model.specs.Calls.{OnlyLooks, is_stop};
-ghost use Rattle.build_theory.specs.Seen.{Unrefused};
+ghost use Rattle.theory.specs.Seen.{Unrefused};
 ghost use Rattle.paths.specs.Told.{text_at, texts_at};
 ghost use Rattle.links.specs.Back.{Undoes};
 ghost use Rattle.links.specs.Extended.{HasLoaded, IsRefusedLoad, addition_of};

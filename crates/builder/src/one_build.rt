@@ -7,7 +7,7 @@ ghost use Rattle.model.specs.declared.graph.Edge.{Edge};
 ghost use Rattle.model.specs.World.{IsIdle};
 ghost use Rattle.model.specs.Calls.{OnlyLooks};
 ghost use Rattle.model.specs.Records.{file_in, build_log_name, deps_log_name};
-ghost use Rattle.build_theory.specs.Seen.{Unrefused};
+ghost use Rattle.theory.specs.Seen.{Unrefused};
 ghost use Rattle.records.specs.Known.{AreKnown};
 ghost use Rattle.records.specs.Laws.{WereRead};
 ghost use Rattle.model.specs.Graph.{IsMadeOnce};

@@ -2,7 +2,7 @@
 
 ghost use Rattle.std.specs.Prelude.{◌≡◌, ◌<◌, ℕ, false, length, vec_len, All, IfOk, IfErr, OnOk};
 ghost use Rattle.std.specs.Option.{option_map};
-ghost use Rattle.build_theory.specs.Seen.{Unrefused};
+ghost use Rattle.theory.specs.Seen.{Unrefused};
 ghost use Rattle.looks.specs.Looking.{HasLooked};
 ghost use Rattle.paths.specs.Told.{text_at};
 ghost use Rattle.dues.specs.Lacks.{HasDue, IsEdgeBelow, IsLackOf};

@@ -13,10 +13,10 @@ use Rattle.model.specs.Records.{LogFormat, OwnFiles}
 use Rattle.model.specs.Premises.{HaveEnded, StampsGrow, NothingIsEdited}
 use Rattle.model.specs.History.{Visit, IsKeptBetween, Restarted, IsHistory, IsHistoryFrom, Keeps, edges_after, exit_of, last_edges, world_after}
 use Rattle.model.specs.Driven.{Reader, IsDriven, IsCutNext, StartsAgain, answers_in}
-use Rattle.build_theory.proofs.Lists.{all_append}
-use Rattle.log_theory.specs.Histories.{HasHeadline}
-use Rattle.log_theory.proofs.Edits.{edit_keeps, restarted_idle}
-use Rattle.log_theory.proofs.Over.{histories_are_as_claimed, histories_grow}
+use Rattle.theory.proofs.Lists.{all_append}
+use Rattle.theory.specs.Histories.{HasHeadline}
+use Rattle.theory.proofs.Edits.{edit_keeps, restarted_idle}
+use Rattle.theory.proofs.Over.{histories_are_as_claimed, histories_grow}
 use Rattle.builder.specs.declared.asked.Limits.{Limits}
 use Rattle.builder.specs.declared.report.Report.{Report}
 use Rattle.drive.specs.Driven.{words_in, WasDriven, EditLeavesOutputs, IsUnrefused, IsCutInEdit}

@@ -8,10 +8,10 @@ use Rattle.model.specs.Records.{LogFormat}
 use Rattle.model.specs.Premises.{HaveEnded}
 use Rattle.model.specs.History.{Visit, Restarted, IsHistory, EndsThese, entry_of, exit_of, last_edges}
 use Rattle.model.specs.Driven.{Reader, Does, is_restart, asks_restart, asks_at_end, StartsAgain, HasLogs}
-use Rattle.build_theory.proofs.Lists.{all_append}
-use Rattle.log_theory.specs.Histories.{HasHeadline}
-use Rattle.log_theory.proofs.Over.{histories_grow}
-use Rattle.log_theory.proofs.Driving.{no_restart, ends_any, some_moves, carries_on, carries_one, restarts_on, asks_last}
+use Rattle.theory.proofs.Lists.{all_append}
+use Rattle.theory.specs.Histories.{HasHeadline}
+use Rattle.theory.proofs.Over.{histories_grow}
+use Rattle.theory.proofs.Driving.{no_restart, ends_any, some_moves, carries_on, carries_one, restarts_on, asks_last}
 use Rattle.builder.specs.declared.asked.Limits.{Limits}
 use Rattle.builder.specs.declared.report.Report.{Report}
 use Rattle.drive.specs.Driven.{words_in, builds_in, words_of, ReportEach, HasFiles}

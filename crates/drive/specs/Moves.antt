@@ -16,7 +16,7 @@ use Rattle.model.specs.Records.{LogFormat}
 use Rattle.model.specs.World.{World, View}
 use Rattle.deps_log.specs.Format.{ReadsLogs}
 use Rattle.depfile.specs.Depfile.{IsReading}
-use Rattle.log_theory.specs.Histories.{HasHeadline}
+use Rattle.theory.specs.Histories.{HasHeadline}
 use Rattle.builder.specs.Build.{IsBuild}
 use Rattle.builder.specs.Loads.{ReadsDyndeps}
 use Rattle.builder.specs.declared.asked.Limits.{Limits}

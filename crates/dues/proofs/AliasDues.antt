@@ -11,8 +11,8 @@ use Rattle.model.specs.OutOfDate.{IsDue, WasJudged, Stale, Below, AliasOfNothing
 use Rattle.model.specs.Reading.{needs}
 use Rattle.model.specs.Records.{Store, recorded_inputs}
 use Rattle.model.specs.Schedule.{Step, out_of_date_in}
-use Rattle.build_theory.proofs.Lists.{has-left}
-use Rattle.build_theory.proofs.Orderly.{IsKept}
+use Rattle.theory.proofs.Lists.{has-left}
+use Rattle.theory.proofs.Orderly.{IsKept}
 use Rattle.paths.specs.Told.{text_at, texts_at}
 use Rattle.links.specs.Links.{Links}
 use Rattle.links.specs.Linked.{StandFor}

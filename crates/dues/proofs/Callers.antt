@@ -5,7 +5,7 @@ use Rattle.model.specs.Graph.{has_number, IsCommand}
 use Rattle.model.specs.Reading.{IsInCone}
 use Rattle.model.specs.Records.{Store, recorded_inputs}
 use Rattle.model.specs.Schedule.{Task, Step}
-use Rattle.build_theory.specs.Order.{IsOrderly}
+use Rattle.theory.specs.Order.{IsOrderly}
 use Rattle.paths.specs.Told.{texts_at}
 use Rattle.links.specs.declared.cone.Cone.{Cone}
 use Rattle.links.specs.declared.graph.Graph.{Graph}

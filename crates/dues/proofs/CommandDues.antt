@@ -14,8 +14,8 @@ use Rattle.model.specs.OutOfDate.{IsDue, WasJudged, Stale, Below, AliasOfNothing
 use Rattle.model.specs.Reading.{Counts, IsRead, Itself, Through, needs}
 use Rattle.model.specs.Records.{Store, recorded_inputs}
 use Rattle.model.specs.Schedule.{Step, judged_in, out_of_date_in}
-use Rattle.build_theory.proofs.Lists.{bytes_same, same_bytes, has-left, has-right, same_some, some_none, map_same}
-use Rattle.build_theory.proofs.Orderly.{IsKept}
+use Rattle.theory.proofs.Lists.{bytes_same, same_bytes, has-left, has-right, same_some, some_none, map_same}
+use Rattle.theory.proofs.Orderly.{IsKept}
 use Rattle.paths.specs.Told.{text_at}
 use Rattle.links.specs.declared.graph.Graph.{Graph}
 use Rattle.links.specs.Linked.{StandFor}

@@ -11,10 +11,10 @@ use Rattle.model.specs.OutOfDate.{IsDue, Counted}
 use Rattle.model.specs.Reading.{needs}
 use Rattle.model.specs.Records.{Store, recorded_inputs}
 use Rattle.model.specs.Schedule.{Step, IsSettled}
-use Rattle.build_theory.specs.Order.{AreMakersFirst}
-use Rattle.build_theory.proofs.Lists.{has-left, has-right, has-cases, has_number-push, has_number-push_other}
-use Rattle.build_theory.proofs.Nothing.{ReadsAre, reads_where_settled}
-use Rattle.build_theory.proofs.Turns.{settled_by_order, makers_within}
+use Rattle.theory.specs.Order.{AreMakersFirst}
+use Rattle.theory.proofs.Lists.{has-left, has-right, has-cases, has_number-push, has_number-push_other}
+use Rattle.theory.proofs.Nothing.{ReadsAre, reads_where_settled}
+use Rattle.theory.proofs.Turns.{settled_by_order, makers_within}
 use Rattle.dues.specs.Dues.{AreDue, AreListed, AreMakersKnown, due_at}
 use Rattle.dues.proofs.Slices.{same_or_other, at_has, has_suc, suc_has}
 

@@ -7,7 +7,7 @@ use Rattle.model.specs.Graph.{has_number, edge_at}
 use Rattle.model.specs.OutOfDate.{IsDue, WasJudged, Stale, Below, AliasOfNothing, AliasOfAbsent, AliasOfDue}
 use Rattle.model.specs.Records.{Store}
 use Rattle.model.specs.Schedule.{Step, Judged, Started, Ended, judged_in, clean_in, out_of_date_in, started_in, well_in, failed_in}
-use Rattle.build_theory.proofs.Orderly.{IsKept}
+use Rattle.theory.proofs.Orderly.{IsKept}
 use Rattle.plan.specs.declared.step.Standing.{Standing}
 use Rattle.plan.specs.declared.step.Standing.TheVariants.{Unjudged, Clean, OutOfDate, Running, Well, Failed}
 use Rattle.plan.specs.Planned.{standing_in}

@@ -11,7 +11,7 @@ use Rattle.model.specs.Graph.{has, has_number, edge_at, later_number, regular_in
 use Rattle.model.specs.OutOfDate.{IsDue, IsMissing, NoneIsMissing, IsFirstMissing}
 use Rattle.model.specs.Records.{Store, recorded_inputs}
 use Rattle.model.specs.Schedule.{Step, out_of_date_in}
-use Rattle.build_theory.proofs.Lists.{all_append, has-left, some_none}
+use Rattle.theory.proofs.Lists.{all_append, has-left, some_none}
 use Rattle.paths.specs.Told.{text_at, texts_at}
 use Rattle.links.specs.declared.graph.Graph.{Graph}
 use Rattle.links.specs.declared.cone.Mark.{Mark}

@@ -17,15 +17,15 @@ use Rattle.model.specs.Reading.{needs}
 use Rattle.model.specs.Records.{OwnFiles, Store, recorded_inputs}
 use Rattle.model.specs.Schedule.{Task, Step, Judged, Started, Ended, judged_in, out_of_date_in, started_in, ended_in, running_in, AreEventsOf}
 use Rattle.model.specs.SingleBuild.{IsOwnWrite}
-use Rattle.build_theory.specs.Run.{steps_until, AreOfRun, IsToldBy, IsRun}
-use Rattle.build_theory.proofs.Files.{IsElsewhere, file_stays}
-use Rattle.build_theory.proofs.Lists.{has-left, has-right, same_bytes, same_rest, same_some, some_none}
-use Rattle.build_theory.proofs.Makers.{maker_is}
-use Rattle.build_theory.proofs.Moments.{events_in-append, until_within, of_run_parts}
-use Rattle.build_theory.proofs.Orderly.{IsKept, kept_orderly}
-use Rattle.build_theory.proofs.Starting.{since}
-use Rattle.build_theory.proofs.Stated.{running_is_as_told}
-use Rattle.build_theory.proofs.Steps.{running_parts}
+use Rattle.theory.specs.Run.{steps_until, AreOfRun, IsToldBy, IsRun}
+use Rattle.theory.proofs.Files.{IsElsewhere, file_stays}
+use Rattle.theory.proofs.Lists.{has-left, has-right, same_bytes, same_rest, same_some, some_none}
+use Rattle.theory.proofs.Makers.{maker_is}
+use Rattle.theory.proofs.Moments.{events_in-append, until_within, of_run_parts}
+use Rattle.theory.proofs.Orderly.{IsKept, kept_orderly}
+use Rattle.theory.proofs.Starting.{since}
+use Rattle.theory.proofs.RunLawsStated.{running_is_as_told}
+use Rattle.theory.proofs.Steps.{running_parts}
 use Rattle.dues.specs.Quiet.{HasPathsFor, AreAlike}
 
 -- ---- which paths may be looked at

@@ -3,7 +3,7 @@ use Rattle.std.proofs.Common.{◌≡◌, ◌⊎◌, inl, inr, ℕ, zero, suc, �
 use Rattle.std.specs.List.{list_any}
 use Rattle.std.proofs.lemmas.Bool.{eqb-true, eq-eqb, or_cases, or_left, or_right, false≢true, cases_Bool}
 use Rattle.model.specs.Graph.{has, has_number}
-use Rattle.build_theory.proofs.Lists.{same_bytes, bytes_same}
+use Rattle.theory.proofs.Lists.{same_bytes, bytes_same}
 use Rattle.paths.specs.Told.{text_at, texts_at}
 
 pub if_ok_then : {T E : Type 0} {P Q : T → Type 0} (r : Result T E) → IfOk r P → ((x : T) → P x → Q x) → IfOk r Q

@@ -10,7 +10,7 @@ use Rattle.model.specs.Calls.{OnlyLooks}
 use Rattle.model.specs.Graph.{edge_at}
 use Rattle.model.specs.Records.{Store}
 use Rattle.model.specs.Schedule.{Step}
-use Rattle.build_theory.proofs.Lists.{bytes_same}
+use Rattle.theory.proofs.Lists.{bytes_same}
 use Rattle.links.specs.declared.graph.Graph.{Graph}
 use Rattle.links.specs.Told.{declared_by}
 use Rattle.looks.specs.declared.table.Looks.{Looks}

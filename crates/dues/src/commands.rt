@@ -6,7 +6,7 @@ ghost use Rattle.model.specs.Calls.{HasCause};
 ghost use Rattle.model.specs.Graph.{has_number};
 ghost use Rattle.model.specs.Records.{Store};
 ghost use Rattle.model.specs.Schedule.{Step, judged_in};
-ghost use Rattle.build_theory.specs.Order.{IsOrderly};
+ghost use Rattle.theory.specs.Order.{IsOrderly};
 ghost use Rattle.links.specs.Links.{links_of};
 ghost use Rattle.links.specs.Told.{declared_by};
 ghost use Rattle.looks.specs.Looking.{HasLooked};

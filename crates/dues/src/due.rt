@@ -4,7 +4,7 @@ ghost use Rattle.std.specs.Prelude.{◌≡◌, ◌<◌, ℕ, All, [], List, IfOk
 ghost use Rattle.model.specs.Calls.{HasCause};
 ghost use Rattle.model.specs.Records.{Store};
 ghost use Rattle.model.specs.Schedule.{Step};
-ghost use Rattle.build_theory.specs.Order.{IsOrderly};
+ghost use Rattle.theory.specs.Order.{IsOrderly};
 ghost use Rattle.links.specs.Told.{declared_by};
 ghost use Rattle.looks.specs.Looking.{HasLooked};
 ghost use Rattle.dues.specs.Stores.{IsStoreOf};

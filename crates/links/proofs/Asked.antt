@@ -9,7 +9,7 @@ use Rattle.model.specs.declared.graph.Edge.{Edge}
 use Rattle.model.specs.Graph.{has, has_number, is_named, roots, all_outputs, all_inputs, or_else, targets_of}
 use Rattle.model.specs.Records.{Store, recorded_inputs}
 use Rattle.model.specs.SingleBuild.{Asked, declared_graph}
-use Rattle.build_theory.proofs.Lists.{has_number-cases}
+use Rattle.theory.proofs.Lists.{has_number-cases}
 use Rattle.paths.specs.declared.line.Line.{Line}
 use Rattle.paths.specs.Numbers.{HaveOnePlace}
 use Rattle.paths.specs.Lists.{line_at, line_inputs, line_outputs}

@@ -5,7 +5,7 @@ use Rattle.std.proofs.lemmas.Bool.{cases_Bool, cases_eq, cases_lt, eqb-true, eq-
 use Rattle.std.proofs.lemmas.List.{map-append, get_or-set_same, get_or-set_other}
 use Rattle.model.specs.declared.graph.Edge.{Edge}
 use Rattle.model.specs.Graph.{has, has_number, edge_at, no_edge, outputs, first_output}
-use Rattle.build_theory.proofs.Lists.{bytes_same, has_number-left, has_number-right, has_number-cases, has_number-append}
+use Rattle.theory.proofs.Lists.{bytes_same, has_number-left, has_number-right, has_number-cases, has_number-append}
 use Rattle.paths.specs.declared.line.Line.{Line}
 use Rattle.paths.specs.declared.manifest.Action.{Action}
 use Rattle.paths.specs.declared.manifest.Action.TheVariants.{Alias, Command}

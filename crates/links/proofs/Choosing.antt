@@ -6,8 +6,8 @@ use Rattle.std.proofs.lemmas.Bool.{cases_Bool, cases_eq, cases_lt, eqb-true, eq-
 use Rattle.std.proofs.lemmas.List.{get_or_past}
 use Rattle.model.specs.declared.graph.Edge.{Edge}
 use Rattle.model.specs.Graph.{has, has_number, edge_at, no_edge, maker, outputs, first_output, later_number, Addition, IsMadeOnce}
-use Rattle.build_theory.proofs.Lists.{same_bytes, bytes_same}
-use Rattle.build_theory.proofs.Makers.{maker_has, maker_is}
+use Rattle.theory.proofs.Lists.{same_bytes, bytes_same}
+use Rattle.theory.proofs.Makers.{maker_has, maker_is}
 use Rattle.paths.specs.Commands.{no_action}
 use Rattle.paths.specs.Lists.{line_at, line_outputs}
 use Rattle.paths.specs.Told.{text_at, texts_at}

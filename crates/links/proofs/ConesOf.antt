@@ -8,9 +8,9 @@ use Rattle.model.specs.Graph.{has, has_number, edge_at, maker, later_number, out
 use Rattle.model.specs.Records.{Store, recorded_inputs}
 use Rattle.model.specs.Reading.{IsInCone, Wanted, Needed, Validating, IsCycle}
 use Rattle.model.specs.SingleBuild.{Asked, declared_graph, IsChainOf, IsShownCycle}
-use Rattle.build_theory.specs.Order.{AreMakersFirst}
-use Rattle.build_theory.proofs.Cones.{cone_within, no_cycle_by_order}
-use Rattle.build_theory.proofs.Lists.{same_bytes, bytes_same, has-left, has-right, has_number-right, all_parts}
+use Rattle.theory.specs.Order.{AreMakersFirst}
+use Rattle.theory.proofs.Cones.{cone_within, no_cycle_by_order}
+use Rattle.theory.proofs.Lists.{same_bytes, bytes_same, has-left, has-right, has_number-right, all_parts}
 use Rattle.links.specs.Links.{Links, needs_at}
 use Rattle.links.specs.declared.cone.Mark.{Mark}
 use Rattle.links.specs.Cone.{IsNeeded, Asked as Requested, Above, Beside, made_by, Follows, IsOrder, IsCone, IsChain, IsRound, IsConeFault}

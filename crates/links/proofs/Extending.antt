@@ -7,7 +7,7 @@ use Rattle.std.proofs.lemmas.List.{append-nil, get_or_past, map-append, length-a
 use Rattle.model.specs.declared.graph.Edge.{Edge}
 use Rattle.model.specs.Graph.{has, has_number, no_edge, edge_at, outputs, all_outputs, Addition, grown_edge, StandsTwice, IsMadeOnce, IsMadeTwice}
 use Rattle.model.specs.Phases.{IsOnlyFor, IsGrownBy}
-use Rattle.build_theory.proofs.Lists.{has_number-left, has_number-right}
+use Rattle.theory.proofs.Lists.{has_number-left, has_number-right}
 use Rattle.paths.specs.declared.line.Line.{Line}
 use Rattle.paths.specs.declared.manifest.Action.{Action}
 use Rattle.paths.specs.declared.manifest.Action.TheVariants.{Alias, Command}

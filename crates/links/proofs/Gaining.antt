@@ -7,7 +7,7 @@ use Rattle.std.proofs.lemmas.List.{append-nil, get_or_past, get_or_append_left, 
 use Rattle.std.proofs.lemmas.Option.{slice_get_within}
 use Rattle.std.proofs.Math.Seq.{get_or-append_seam}
 use Rattle.model.specs.Graph.{has_number, Addition}
-use Rattle.build_theory.proofs.Lists.{has_number-cases, has_number-is}
+use Rattle.theory.proofs.Lists.{has_number-cases, has_number-is}
 use Rattle.dyndep.specs.declared.addition.Addition.{Addition as Statement}
 use Rattle.paths.specs.declared.manifest.Action.{Action}
 use Rattle.paths.specs.Commands.{no_action}

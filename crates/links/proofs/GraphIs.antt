@@ -6,7 +6,7 @@ use Rattle.std.proofs.lemmas.List.{map-append}
 use Rattle.model.specs.declared.graph.Edge.{Edge}
 use Rattle.model.specs.Graph.{has, has_number, edge_at, inputs, maker, later_number}
 use Rattle.model.specs.Reading.{needs}
-use Rattle.build_theory.proofs.Lists.{bytes_same, has_number-cases}
+use Rattle.theory.proofs.Lists.{bytes_same, has_number-cases}
 use Rattle.paths.specs.declared.line.Line.{Line}
 use Rattle.paths.specs.Lists.{line_at, line_outputs}
 use Rattle.paths.specs.Commands.{no_action}

@@ -6,7 +6,7 @@ use Rattle.std.proofs.lemmas.Bool.{cases_eq, eqb-true, eq-eqb, false≢true, or_
 use Rattle.std.proofs.lemmas.List.{get_or-set_same, get_or-set_other, length-set}
 use Rattle.indexmap.specs.IndexSet.{insert_all}
 use Rattle.model.specs.Graph.{has_number}
-use Rattle.build_theory.proofs.Lists.{has_number-left, has_number-right}
+use Rattle.theory.proofs.Lists.{has_number-left, has_number-right}
 use Rattle.links.specs.declared.graph.Graph.{Graph}
 use Rattle.links.specs.Held.{list_at, times, StandOnce, AreRecorded, AreUsers, pushed}
 use Rattle.links.specs.Links.{links_of}

@@ -8,7 +8,7 @@ use Rattle.model.specs.declared.graph.BuildGraph.{BuildGraph}
 use Rattle.model.specs.declared.graph.Edge.{Edge}
 use Rattle.model.specs.declared.graph.Pool.{Pool}
 use Rattle.model.specs.Graph.{has, has_number}
-use Rattle.build_theory.proofs.Lists.{has_number-left, has_number-right}
+use Rattle.theory.proofs.Lists.{has_number-left, has_number-right}
 use Rattle.paths.specs.declared.line.Line.{Line}
 use Rattle.paths.specs.declared.manifest.Action.{Action}
 use Rattle.paths.specs.declared.manifest.Action.TheVariants.{Alias, Command}

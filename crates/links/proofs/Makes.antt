@@ -4,7 +4,7 @@ use Rattle.std.specs.List.{flat_map}
 use Rattle.std.specs.Option.{is_some}
 use Rattle.std.proofs.lemmas.Bool.{cases_Bool, cases_lt, eqb-true, eq-eqb, false≢true, false_from_ne_true}
 use Rattle.model.specs.Graph.{has, has_number, outputs, maker, later_number}
-use Rattle.build_theory.proofs.Lists.{same_bytes, bytes_same, one_if, has_number-left, has_number-right, has_number-cases}
+use Rattle.theory.proofs.Lists.{same_bytes, bytes_same, one_if, has_number-left, has_number-right, has_number-cases}
 use Rattle.paths.specs.declared.line.Line.{Line}
 use Rattle.paths.specs.declared.manifest.Action.{Action}
 use Rattle.paths.specs.declared.manifest.Manifest.{Manifest}

@@ -9,7 +9,7 @@ use Rattle.model.specs.declared.graph.Edge.{Edge}
 use Rattle.model.specs.World.{View}
 use Rattle.model.specs.Graph.{has, has_number, edge_at, inputs, regular_inputs, later_number}
 use Rattle.model.specs.Reading.{IsAlias, Counts, IsRead, Itself, Through}
-use Rattle.build_theory.proofs.Lists.{has_number-left, has_number-right, has_number-cases, has_number-one, has_number-is}
+use Rattle.theory.proofs.Lists.{has_number-left, has_number-right, has_number-cases, has_number-one, has_number-is}
 use Rattle.paths.specs.Lists.{line_at, line_regular_inputs}
 use Rattle.paths.specs.Commands.{no_action}
 use Rattle.paths.specs.Told.{text_at, texts_at}

@@ -6,7 +6,7 @@ use Rattle.std.proofs.lemmas.List.{take-append-drop, get_or_default, length-take
 use Rattle.model.specs.declared.graph.Edge.{Edge}
 use Rattle.model.specs.Graph.{has, edge_at, no_edge, inputs, outputs, all_outputs, StandsTwice, IsMadeTwice, IsMadeOnce}
 use Rattle.model.specs.SingleBuild.{NamesOther}
-use Rattle.build_theory.proofs.Lists.{same_bytes, bytes_same, one_if, has-cases}
+use Rattle.theory.proofs.Lists.{same_bytes, bytes_same, one_if, has-cases}
 use Rattle.links.specs.Linked.{AreDistinct, IsFirstRepeated, NamesDyndepInput}
 use Rattle.links.specs.Making.{IsMakingFault}
 use Rattle.links.specs.declared.fault.GraphFault.{GraphFault}

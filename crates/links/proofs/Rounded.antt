@@ -6,7 +6,7 @@ use Rattle.std.proofs.lemmas.Bool.Decides.{eqb_tells}
 use Rattle.std.proofs.lemmas.List.{get_or-set_same, get_or-set_other}
 use Rattle.indexmap.specs.IndexSet.{insert_key}
 use Rattle.model.specs.Graph.{has_number}
-use Rattle.build_theory.proofs.Lists.{has_number-push, has_number-push_other}
+use Rattle.theory.proofs.Lists.{has_number-push, has_number-push_other}
 use Rattle.links.specs.Marked.{AreOfRound}
 use Rattle.links.proofs.Lists.{once_push}
 

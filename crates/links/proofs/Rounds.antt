@@ -5,7 +5,7 @@ use Rattle.std.proofs.lemmas.List.{get_or-drop, length-drop, length-append, map-
 use Rattle.std.proofs.lemmas.Result.{IfOk-weaker}
 use Rattle.std.proofs.lemmas.Bool.{false≢true, or_cases, or_left, eqb-true, eq-eqb, ltb-false}
 use Rattle.model.specs.Graph.{has_number}
-use Rattle.build_theory.proofs.Lists.{all_append, all_parts, all_weaker, has_number-right}
+use Rattle.theory.proofs.Lists.{all_append, all_parts, all_weaker, has_number-right}
 use Rattle.links.specs.Links.{Links, needs_at}
 use Rattle.links.specs.declared.cone.Mark.{Mark}
 use Rattle.links.specs.Cone.{mark_at, IsNeeded, IsChain, IsRound, awaited, IsLeft, Awaits, IsLast, IsWalkAt}

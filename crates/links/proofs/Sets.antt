@@ -8,7 +8,7 @@ use Rattle.std.proofs.lemmas.List.{append-nil}
 use Rattle.std.proofs.lemmas.Option.{slice_get-get_or}
 use Rattle.indexmap.specs.IndexSet.{insert_key, insert_all}
 use Rattle.model.specs.Graph.{has_number}
-use Rattle.build_theory.proofs.Lists.{has_number-left, has_number-cases, has_number-is, has_number-push}
+use Rattle.theory.proofs.Lists.{has_number-left, has_number-cases, has_number-is, has_number-push}
 use Rattle.links.specs.Held.{StandOnce}
 use Rattle.links.proofs.Lists.{once_push, apart_of_once}
 

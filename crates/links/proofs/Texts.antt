@@ -7,7 +7,7 @@ use Rattle.std.proofs.lemmas.List.{map-append}
 use Rattle.std.proofs.lemmas.Option.{slice_get-get_or}
 use Rattle.model.specs.declared.graph.Edge.{Edge}
 use Rattle.model.specs.Graph.{has, has_number, no_edge, inputs, outputs, regular_inputs, all_inputs, all_outputs}
-use Rattle.build_theory.proofs.Lists.{same_bytes, bytes_same}
+use Rattle.theory.proofs.Lists.{same_bytes, bytes_same}
 use Rattle.paths.specs.declared.line.Line.{Line}
 use Rattle.paths.specs.declared.manifest.Action.{Action}
 use Rattle.paths.specs.declared.manifest.Action.TheVariants.{Alias, Command}

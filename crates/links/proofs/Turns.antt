@@ -11,7 +11,7 @@ use Rattle.std.proofs.lemmas.Grind.{flat_map-append}
 use Rattle.indexmap.specs.IndexSet.{insert_key, insert_all}
 use Rattle.model.specs.declared.graph.Edge.{Edge}
 use Rattle.model.specs.Graph.{has, has_number, maker}
-use Rattle.build_theory.proofs.Lists.{same_bytes, bytes_same, has-left, has-right, has-cases, has_number-left, has_number-append, has_number-push, has_number-push_cases, has_number-push_other}
+use Rattle.theory.proofs.Lists.{same_bytes, bytes_same, has-left, has-right, has-cases, has_number-left, has_number-append, has_number-push, has_number-push_cases, has_number-push_other}
 use Rattle.paths.specs.declared.line.Line.{Line}
 use Rattle.paths.specs.Lists.{line_at, line_inputs}
 use Rattle.paths.specs.Told.{text_at, texts_at}

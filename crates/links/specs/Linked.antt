@@ -5,7 +5,7 @@ use Rattle.model.specs.declared.graph.Edge.{Edge}
 use Rattle.model.specs.Graph.{has, has_number, edge_at, maker, later_number, outputs, inputs, regular_inputs, first_output, roots, all_outputs, or_else, StandsTwice, IsMadeTwice}
 use Rattle.model.specs.Reading.{needs, IsInCone}
 use Rattle.model.specs.SingleBuild.{NamesOther}
-use Rattle.build_theory.specs.Order.{AreMakersFirst}
+use Rattle.theory.specs.Order.{AreMakersFirst}
 use Rattle.paths.specs.Told.{text_at}
 use Rattle.links.specs.declared.fault.GraphFault.{GraphFault}
 use Rattle.links.specs.declared.fault.GraphFault.TheVariants.{Memory, MadeTwice, NoDyndepInput, Occupied}

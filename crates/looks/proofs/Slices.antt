@@ -3,7 +3,7 @@ use Rattle.std.proofs.Common.{◌≡◌, ◌⊎◌, inl, inr, ℕ, zero, suc, �
 use Rattle.std.proofs.lemmas.Bool.{eqb-true, eq-eqb, false≢true, cases_Bool, or_left, or_right}
 use Rattle.std.proofs.lemmas.List.{take_more}
 use Rattle.model.specs.Graph.{has_number}
-use Rattle.build_theory.proofs.Lists.{has_number-left, has_number-push, has_number-push_cases}
+use Rattle.theory.proofs.Lists.{has_number-left, has_number-push, has_number-push_cases}
 
 pub same_or_other : (i j : ℕ) → (j ≡ i) ⊎ (j ≡ i → ⊥)
 same_or_other i j = elim (cases_Bool (j == i)) [

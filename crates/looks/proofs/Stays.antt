@@ -2,7 +2,7 @@
 use Rattle.std.proofs.Common.{◌≡◌, ℕ, ◌<◌, Bool, true, List, Option, Some, None, length, slice_set, refl, ◌∙◌, ap}
 use Rattle.std.proofs.lemmas.List.{get_or-set_same}
 use Rattle.model.specs.World.{World}
-use Rattle.build_theory.proofs.Calls.{looks_none, looks_then}
+use Rattle.theory.proofs.SiteCalls.{looks_none, looks_then}
 use Rattle.links.specs.declared.graph.Graph.{Graph}
 use Rattle.looks.specs.declared.table.Looks.{Looks}
 use Rattle.looks.specs.Looking.{HasLooked}

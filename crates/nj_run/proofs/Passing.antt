@@ -12,9 +12,9 @@ use Rattle.model.specs.Calls.{OnlyLooks}
 use Rattle.model.specs.Graph.{Addition}
 use Rattle.model.specs.Outcome.{Behaviour}
 use Rattle.model.specs.Records.{OwnFiles, IsOwnIn, file_in, build_log_name, deps_log_name}
-use Rattle.build_theory.specs.Seen.{Looked}
-use Rattle.build_theory.proofs.Calls.{unrefused_none}
-use Rattle.build_theory.proofs.Looks.{looks_nothing, looks_then}
+use Rattle.theory.specs.Seen.{Looked}
+use Rattle.theory.proofs.SiteCalls.{unrefused_none}
+use Rattle.theory.proofs.Looks.{looks_nothing, looks_then}
 use Rattle.deps_log.specs.Format.{HasFormat}
 use Rattle.depfile.specs.Depfile.{HasReading}
 use Rattle.dyndep_law.specs.Readings.{HasReading as HasDyndeps}

@@ -9,7 +9,7 @@ use Rattle.model.specs.Graph.{has_number, edge_at, maker, later_number}
 use Rattle.model.specs.Reading.{IsInCone, Needed}
 use Rattle.model.specs.Schedule.{Task, Step, IsSettled, IsSettledPath, done_in}
 use Rattle.model.specs.Phases.{IsDueLoad, NoLoadIsDue, IsFirstNamer, GoesBefore, BySource as GoesBySource, ByNamer, IsNextLoad}
-use Rattle.build_theory.proofs.Lists.{has_number-left, has_number-right, has_number-cases, has_number-one, same_some, some_none}
+use Rattle.theory.proofs.Lists.{has_number-left, has_number-right, has_number-cases, has_number-one, same_some, some_none}
 use Rattle.lowest.specs.Flags.{has}
 use Rattle.paths.specs.Numbers.{HaveOnePlace}
 use Rattle.paths.specs.Told.{text_at}

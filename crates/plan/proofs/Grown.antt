@@ -8,10 +8,10 @@ use Rattle.model.specs.declared.graph.Pool.{Pool}
 use Rattle.model.specs.Graph.{has, has_number, edge_at, inputs, maker, no_edge, IsCommand, Addition}
 use Rattle.model.specs.Reading.{needs, IsInCone, Wanted, Needed, Validating}
 use Rattle.model.specs.Schedule.{Task, Step, Judged, Started, Ended, judged_in, done_in, Done}
-use Rattle.build_theory.specs.Order.{IsOrderlyStep, IsOrderlyFrom}
-use Rattle.build_theory.proofs.Lists.{has-left, has-right, has-cases}
-use Rattle.build_theory.proofs.Growth.{HasGrown, grown_by, cases_named, maker_still}
-use Rattle.build_theory.proofs.Settled.{settled_command}
+use Rattle.theory.specs.Order.{IsOrderlyStep, IsOrderlyFrom}
+use Rattle.theory.proofs.Lists.{has-left, has-right, has-cases}
+use Rattle.theory.proofs.Growth.{HasGrown, grown_by, cases_named, maker_still}
+use Rattle.theory.proofs.Settled.{settled_command}
 use Rattle.queue.specs.Turns.{Turns}
 use Rattle.paths.specs.declared.line.Line.{Line}
 use Rattle.paths.specs.declared.manifest.Action.{Action}

@@ -5,7 +5,7 @@ use Rattle.std.proofs.lemmas.List.{length-set, get_or-set_other}
 use Rattle.std.proofs.lemmas.Bool.{false≢true, true≢false, and_parts}
 use Rattle.model.specs.Graph.{has_number, edge_at, IsCommand}
 use Rattle.model.specs.Schedule.{Task, Step, Judged, judged_in, running_in, done_in, IsSettled, Done}
-use Rattle.build_theory.proofs.Lists.{has_number-one}
+use Rattle.theory.proofs.Lists.{has_number-one}
 use Rattle.lowest.specs.Flags.{has}
 use Rattle.queue.specs.Turns.{Turns, with_waiting}
 use Rattle.links.specs.declared.graph.Graph.{Graph}

@@ -4,7 +4,7 @@ use Rattle.std.proofs.lemmas.Bool.{false≢true, eq-eqb, eqb-true}
 use Rattle.std.proofs.lemmas.List.{length-map}
 use Rattle.model.specs.declared.graph.Pool.{Pool}
 use Rattle.model.specs.Graph.{console, declared_depth, depth_of, later_number}
-use Rattle.build_theory.proofs.Lists.{same_bytes}
+use Rattle.theory.proofs.Lists.{same_bytes}
 use Rattle.plan.specs.Pools.{limited, place_of, depths_of}
 
 none_some : {X : Type 0} (g : ℕ) → None ≡ Some g → X

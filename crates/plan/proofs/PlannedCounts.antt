@@ -6,10 +6,10 @@ use Rattle.std.proofs.lemmas.List.Sums.{sum_by-cons}
 use Rattle.std.proofs.lemmas.Bool.{false≢true, or_left, or_right, eq-eqb, eqb-true, cases_eq, false_from_ne_true, cond-true, cond-false}
 use Rattle.model.specs.Graph.{has_number}
 use Rattle.model.specs.Schedule.{Task, Step, Judged, Started, Ended, started_in, ended_in, well_in, failed_in, running_in}
-use Rattle.build_theory.proofs.Lists.{has_number-filter, has_number-push_cases}
-use Rattle.build_theory.specs.Order.{IsOrderlyStep, IsOrderlyFrom, IsOrderly}
-use Rattle.build_theory.proofs.Orderly.{kept_orderly, orderly_push}
-use Rattle.build_theory.proofs.Steps.{running_parts, started-append, well-append, failed-append}
+use Rattle.theory.proofs.Lists.{has_number-filter, has_number-push_cases}
+use Rattle.theory.specs.Order.{IsOrderlyStep, IsOrderlyFrom, IsOrderly}
+use Rattle.theory.proofs.Orderly.{kept_orderly, orderly_push}
+use Rattle.theory.proofs.Steps.{running_parts, started-append, well-append, failed-append}
 use Rattle.plan.specs.Planned.{AreTaken}
 use Rattle.plan.specs.declared.step.Standing.{Standing}
 use Rattle.plan.specs.declared.step.Standing.TheVariants.{Outside}

@@ -4,10 +4,10 @@ use Rattle.std.proofs.lemmas.Bool.{false≢true, false_from_ne_true, eqb-true, o
 use Rattle.model.specs.Graph.{has_number, IsCommand}
 use Rattle.model.specs.Reading.{IsInCone}
 use Rattle.model.specs.Schedule.{Task, Step, Judged, Started, Ended, judged_in, clean_in, out_of_date_in, started_in, ended_in, well_in, failed_in, running_in, done_in, MayBeJudged, MayStart}
-use Rattle.build_theory.proofs.Lists.{has_number-append, has_number-one}
-use Rattle.build_theory.proofs.Makers.{command_within}
-use Rattle.build_theory.proofs.Orderly.{IsKept, kept_orderly}
-use Rattle.build_theory.proofs.Steps.{Appends, in_push, in_right, running_is, running_parts, clean-append, out_of_date-append, started-append, well-append, failed-append}
+use Rattle.theory.proofs.Lists.{has_number-append, has_number-one}
+use Rattle.theory.proofs.Makers.{command_within}
+use Rattle.theory.proofs.Orderly.{IsKept, kept_orderly}
+use Rattle.theory.proofs.Steps.{Appends, in_push, in_right, running_is, running_parts, clean-append, out_of_date-append, started-append, well-append, failed-append}
 use Rattle.plan.specs.declared.step.Standing.{Standing}
 use Rattle.plan.specs.declared.step.Standing.TheVariants.{Unjudged, Clean, OutOfDate, Running, Well, Failed}
 use Rattle.plan.specs.Standing.{is_unjudged, is_out_of_date, is_running, is_failed, is_well}

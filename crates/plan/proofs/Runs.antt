@@ -6,8 +6,8 @@ use Rattle.std.proofs.lemmas.List.Elements.{filter-append}
 use Rattle.std.proofs.lemmas.Bool.{false≢true, or_cases, or_left, or_right, eq-eqb, eqb-true, cases_eq, false_from_ne_true}
 use Rattle.model.specs.Graph.{has_number}
 use Rattle.model.specs.Schedule.{Task, Step, Judged, Started, Ended, started_in, ended_in, running_in}
-use Rattle.build_theory.proofs.Lists.{has_number-append}
-use Rattle.build_theory.proofs.Steps.{started-append, ended-append, running_parts}
+use Rattle.theory.proofs.Lists.{has_number-append}
+use Rattle.theory.proofs.Steps.{started-append, ended-append, running_parts}
 use Rattle.queue.specs.Turns.{runs_in, set_runs}
 use Rattle.plan.specs.Planned.{is_place, AreTaken}
 use Rattle.plan.specs.Steps.{IsOnce}

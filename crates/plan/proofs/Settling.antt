@@ -14,7 +14,7 @@ use Rattle.plan.specs.Settling.{IsAhead, IsStill, SettlesAliases}
 use Rattle.plan.specs.declared.plan.Plan.{Plan}
 use Rattle.model.specs.Graph.{has_number, edge_at, inputs}
 use Rattle.model.specs.Schedule.{Task, IsSettled, Alias as ByAlias}
-use Rattle.build_theory.proofs.Lists.{has-left}
+use Rattle.theory.proofs.Lists.{has-left}
 use Rattle.links.specs.declared.graph.Graph.{Graph}
 use Rattle.links.specs.Links.{links_of, needs_at}
 use Rattle.links.specs.Linked.{HasMaker}

@@ -3,8 +3,8 @@ use Rattle.std.proofs.Common.{◌≡◌, ℕ, ◌||◌, Bool, true, false, List,
 use Rattle.std.proofs.lemmas.Bool.{false≢true, true≢false, false_from_ne_true}
 use Rattle.model.specs.Graph.{has_number}
 use Rattle.model.specs.Schedule.{Task, Step, Judged, Started, Ended, clean_in, out_of_date_in, started_in, well_in, failed_in, done_in, IsLawfulStep}
-use Rattle.build_theory.proofs.Lists.{has_number-append}
-use Rattle.build_theory.proofs.Orderly.{kept_orderly}
+use Rattle.theory.proofs.Lists.{has_number-append}
+use Rattle.theory.proofs.Orderly.{kept_orderly}
 use Rattle.plan.specs.Standing.{is_unjudged, is_out_of_date, is_settled}
 use Rattle.plan.specs.Planned.{standing_in, AreTaken}
 use Rattle.plan.specs.Steps.{edge_of, left_by, StepsMove, StandingsTell, StepsName, ListsCount}

@@ -7,7 +7,7 @@ use Rattle.std.proofs.lemmas.Bool.{true≢false, cases_eq}
 use Rattle.model.specs.Graph.{edge_at, IsCommand}
 use Rattle.model.specs.Reading.{IsInCone}
 use Rattle.model.specs.Schedule.{Task, Step, running_in, done_in, IsSettled}
-use Rattle.build_theory.proofs.Settled.{settled_more}
+use Rattle.theory.proofs.Settled.{settled_more}
 use Rattle.lowest.specs.Flags.{has}
 use Rattle.queue.specs.Turns.{Turns}
 use Rattle.links.specs.declared.graph.Graph.{Graph}

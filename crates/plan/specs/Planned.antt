@@ -4,7 +4,7 @@ use Rattle.std.specs.Option.{option_map}
 use Rattle.model.specs.Graph.{has_number, edge_at, maker, later_number, IsCommand}
 use Rattle.model.specs.Reading.{IsInCone}
 use Rattle.model.specs.Phases.{IsNextLoad, NoLoadIsDue}
-use Rattle.build_theory.specs.Order.{IsOrderly}
+use Rattle.theory.specs.Order.{IsOrderly}
 use Rattle.model.specs.Schedule.{Task, Step as Done, Judged, Started, Ended, IsLawfulStep, NoneMayBeJudged, NoneMayStart, IsSettled, judged_in, clean_in, out_of_date_in, started_in, well_in, failed_in, running_in, done_in}
 use Rattle.lowest.specs.Flags.{has, AreNone}
 use Rattle.queue.specs.Turns.{Turns, group_at, may}

@@ -2,7 +2,7 @@
 use Rattle.std.proofs.Common.{◌≡◌, inl, inr, ℕ, zero, suc, ◌<◌, ◌==◌, ◌&&◌, ◌||◌, not, cond, filter, Bool, true, false, List, [], ◌∷◌, length, refl, sym, ◌∙◌, ap, subst, arith}
 use Rattle.std.proofs.lemmas.Bool.{false≢true, or_left, or_right, eq-eqb, eqb-true, cases_eq, false_from_ne_true, cond-true, cond-false}
 use Rattle.model.specs.Graph.{has_number}
-use Rattle.build_theory.proofs.Lists.{has_number-filter}
+use Rattle.theory.proofs.Lists.{has_number-filter}
 use Rattle.plan.specs.Steps.{IsOnce}
 use Rattle.plan_plain.specs.Scan.{counted}
 

@@ -4,9 +4,9 @@ use Rattle.std.proofs.lemmas.Bool.{false≢true, or_cases, or_left, or_right, an
 use Rattle.model.specs.Graph.{has, has_number, edge_at, inputs, maker, depth_of, IsCommand}
 use Rattle.model.specs.Reading.{IsInCone, Needed}
 use Rattle.model.specs.Schedule.{Task, Step, Judged, Started, running_in, failed_in, done_in, IsSettled, Done, Alias as ByAlias, IsBelow, is_in_pool, MayBeJudged, NoneMayBeJudged, MayStart, NoneMayStart, IsLawfulStep}
-use Rattle.build_theory.proofs.Lists.{has-cases, has_number-filter}
-use Rattle.build_theory.proofs.Makers.{command_within}
-use Rattle.build_theory.proofs.Orderly.{kept_orderly}
+use Rattle.theory.proofs.Lists.{has-cases, has_number-filter}
+use Rattle.theory.proofs.Makers.{command_within}
+use Rattle.theory.proofs.Orderly.{kept_orderly}
 use Rattle.links.specs.declared.graph.Graph.{Graph}
 use Rattle.links.specs.Links.{links_of, needs_at}
 use Rattle.links.specs.Cone.{maker_at}

@@ -6,9 +6,9 @@ use Rattle.std.proofs.lemmas.Bool.{false≢true, true≢false, cases_eq}
 use Rattle.model.specs.declared.graph.Edge.{Edge}
 use Rattle.model.specs.Graph.{edge_at, has_number}
 use Rattle.model.specs.Schedule.{Task, Step, clean_in, well_in, done_in, IsSettled}
-use Rattle.build_theory.proofs.Lists.{has_number-append}
-use Rattle.build_theory.proofs.Settled.{settled_more}
-use Rattle.build_theory.proofs.Steps.{in_push, clean-append, well-append}
+use Rattle.theory.proofs.Lists.{has_number-append}
+use Rattle.theory.proofs.Settled.{settled_more}
+use Rattle.theory.proofs.Steps.{in_push, clean-append, well-append}
 use Rattle.plan.specs.declared.step.Standing.{Standing}
 use Rattle.plan.specs.declared.step.Standing.TheVariants.{Outside, Alias, Known}
 use Rattle.links.specs.Links.{Links}

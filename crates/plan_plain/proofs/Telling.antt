@@ -4,9 +4,9 @@ use Rattle.std.proofs.Math.ListN.{set}
 use Rattle.std.proofs.lemmas.Bool.{false≢true}
 use Rattle.model.specs.Graph.{has_number, IsCommand}
 use Rattle.model.specs.Schedule.{Task, Step, Judged, Started, Ended, running_in, done_in, Done, IsLawfulStep}
-use Rattle.build_theory.proofs.Lists.{has_number-one}
-use Rattle.build_theory.proofs.Orderly.{kept_orderly}
-use Rattle.build_theory.proofs.Steps.{running_parts}
+use Rattle.theory.proofs.Lists.{has_number-one}
+use Rattle.theory.proofs.Orderly.{kept_orderly}
+use Rattle.theory.proofs.Steps.{running_parts}
 use Rattle.links.specs.declared.graph.Graph.{Graph}
 use Rattle.plan.specs.declared.step.Standing.{Standing}
 use Rattle.plan.specs.declared.step.Standing.TheVariants.{Unjudged, Clean, OutOfDate, Running, Well, Failed}

@@ -7,7 +7,7 @@ use Rattle.std.specs.Option.{option_map}
 use Rattle.model.specs.Graph.{has, edge_at, inputs, maker}
 use Rattle.model.specs.Reading.{needs}
 use Rattle.model.specs.Schedule.{Task, IsSettled, Alias as ByAlias}
-use Rattle.build_theory.proofs.Lists.{has-left}
+use Rattle.theory.proofs.Lists.{has-left}
 use Rattle.paths.specs.Told.{text_at}
 use Rattle.links.specs.declared.graph.Graph.{Graph}
 use Rattle.links.specs.Links.{Links, links_of, needs_at}

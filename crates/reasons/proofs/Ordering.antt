@@ -4,7 +4,7 @@ use Rattle.std.proofs.lemmas.Bool.{eq-eqb, eqb-true, or_cases, or_left, or_right
 use Rattle.model.specs.declared.graph.Edge.{Edge}
 use Rattle.model.specs.Graph.{has_number}
 use Rattle.model.specs.Reading.{IsInCone, Needed, Validating}
-use Rattle.build_theory.proofs.Lists.{has_number-left, has_number-right, has_number-cases}
+use Rattle.theory.proofs.Lists.{has_number-left, has_number-right, has_number-cases}
 use Rattle.links.specs.declared.cone.Mark.{Mark}
 use Rattle.links.specs.Cone.{IsCone, IsNeeded, Asked, Above, Beside, is_listed, mark_at}
 use Rattle.links.specs.Linked.{IsConeOf, IsLinksOf}

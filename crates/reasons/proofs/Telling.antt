@@ -12,7 +12,7 @@ use Rattle.model.specs.declared.act.Act.{Act}
 use Rattle.model.specs.declared.reason.Reason.{Reason}
 use Rattle.model.specs.World.{World}
 use Rattle.model.specs.Graph.{has_number}
-use Rattle.build_theory.proofs.Lists.{all_append, has_number-cases}
+use Rattle.theory.proofs.Lists.{all_append, has_number-cases}
 use Rattle.links.specs.declared.graph.Graph.{Graph}
 use Rattle.links.specs.Links.{links_of}
 use Rattle.looks.specs.declared.table.Look.{Look}

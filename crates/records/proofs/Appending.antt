@@ -5,13 +5,13 @@ use Rattle.model.specs.World.{World, view_of}
 use Rattle.model.specs.Calls.{Appends, AppendsOrNot}
 use Rattle.model.specs.Records.{OwnFiles}
 use Rattle.model.specs.Premises.{FilesAreKept}
-use Rattle.build_theory.proofs.Looks.{kept_before}
+use Rattle.theory.proofs.Looks.{kept_before}
 use Rattle.build_log.specs.declared.form.Version.{Version}
 use Rattle.build_log.specs.declared.form.Version.TheVariants.{Two}
 use Rattle.build_log.specs.Form.{Form, IsLineOf}
 use Rattle.build_log.specs.Laws.{OneReading, LineGrowsLog, FrontOfLines}
-use Rattle.log_theory.specs.Writes.{WritesAt}
-use Rattle.log_theory.proofs.Writing.{appends_at, appends_or_not_at}
+use Rattle.theory.specs.Writes.{WritesAt}
+use Rattle.theory.proofs.Writing.{appends_at, appends_or_not_at}
 use Rattle.records.specs.declared.file.State.TheVariants.{Usable}
 use Rattle.records.specs.Held.{Held, IsSameLog, TellsMore, IsKeptOrWrittenAnew, MayTellMore}
 use Rattle.records.specs.Carried.{WhereKept, IsCarriedLog}

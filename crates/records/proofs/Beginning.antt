@@ -12,8 +12,8 @@ use Rattle.model.specs.Graph.{has_number}
 use Rattle.model.specs.Records.{OwnFiles, store_in, read_log, in_force}
 use Rattle.model.specs.Schedule.{well_in}
 use Rattle.model.specs.Premises.{FilesAreKept}
-use Rattle.build_theory.proofs.Looks.{looks_then, kept_before, looks_keep_file, looks_saw}
-use Rattle.build_theory.proofs.Makers.{one_maker}
+use Rattle.theory.proofs.Looks.{looks_then, kept_before, looks_keep_file, looks_saw}
+use Rattle.theory.proofs.Makers.{one_maker}
 use Rattle.build_log.specs.declared.form.Version.{Version}
 use Rattle.build_log.specs.declared.form.Version.TheVariants.{Two}
 use Rattle.build_log.specs.Form.{Form}
@@ -23,8 +23,8 @@ use Rattle.build_log.specs.Log.{Keeps, compaction}
 use Rattle.build_log.specs.Record.{forms as record_forms}
 use Rattle.deps_log.specs.Log.{Keeps as KeepsDeps, compaction as deps_compaction}
 use Rattle.deps_log.specs.Record.{forms as deps_forms}
-use Rattle.log_theory.specs.Logged.{KeepsBoth, HasNone, HasNew}
-use Rattle.log_theory.proofs.Calls.{entry_logged, looks_logged}
+use Rattle.theory.specs.Logged.{KeepsBoth, HasNone, HasNew}
+use Rattle.theory.proofs.LoggedCalls.{entry_logged, looks_logged}
 use Rattle.records.specs.declared.file.State.{State}
 use Rattle.records.specs.declared.file.State.TheVariants.{Usable, Stale}
 use Rattle.records.specs.Held.{Held, text_in, IsReadFrom, WasRead, HoldsStill}

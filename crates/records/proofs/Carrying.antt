@@ -10,19 +10,19 @@ use Rattle.model.specs.World.{World, File, file_at, content_of, view_of, runs, I
 use Rattle.model.specs.Calls.{Adds, Writes, WritesOrNot, Appends, AppendsOrNot, Extends, OnlyLooks, content_or_empty}
 use Rattle.model.specs.Records.{OwnFiles}
 use Rattle.model.specs.Premises.{FilesAreKept, IsWithinEdge, IsNoEdit}
-use Rattle.build_theory.proofs.Lists.{all_parts}
-use Rattle.build_theory.proofs.Files.{IsElsewhere, file_stays}
-use Rattle.build_theory.proofs.Looks.{kept_before}
-use Rattle.build_theory.proofs.Starting.{since}
+use Rattle.theory.proofs.Lists.{all_parts}
+use Rattle.theory.proofs.Files.{IsElsewhere, file_stays}
+use Rattle.theory.proofs.Looks.{kept_before}
+use Rattle.theory.proofs.Starting.{since}
 use Rattle.build_log.specs.declared.form.Version.{Version}
 use Rattle.build_log.specs.declared.form.Version.TheVariants.{Two}
 use Rattle.build_log.specs.declared.tail.Tail.TheVariants.{Whole}
 use Rattle.build_log.specs.Form.{Form, IsLineOf}
 use Rattle.build_log.specs.Laws.{LineGrowsLog, FrontOfLines, KeepsInForce}
 use Rattle.build_log.specs.Text.{IsLogOf}
-use Rattle.log_theory.specs.Writes.{WritesAt}
-use Rattle.log_theory.proofs.Calls.{log_elsewhere, log_written_at}
-use Rattle.log_theory.proofs.Writing.{writes_at, appends_at}
+use Rattle.theory.specs.Writes.{WritesAt}
+use Rattle.theory.proofs.LoggedCalls.{log_elsewhere, log_written_at}
+use Rattle.theory.proofs.Writing.{writes_at, appends_at}
 use Rattle.records.specs.declared.file.State.{State}
 use Rattle.records.specs.declared.file.State.TheVariants.{Usable, Stale}
 use Rattle.records.specs.Held.{Held, text_in, HoldsStill, IsToldBy, behind, TellsMore, IsKeptOrWrittenAnew, MayTellMore}

@@ -6,8 +6,8 @@ use Rattle.model.specs.declared.graph.Edge.{Edge}
 use Rattle.model.specs.World.{World}
 use Rattle.model.specs.Calls.{OnlyLooks, Ticks, TicksOrNot, StartsOrNot}
 use Rattle.model.specs.Records.{OwnFiles}
-use Rattle.log_theory.specs.Writes.{WritesAt}
-use Rattle.log_theory.proofs.Writing.{looks_at, ticks_grew}
+use Rattle.theory.specs.Writes.{WritesAt}
+use Rattle.theory.proofs.Writing.{looks_at, ticks_grew}
 use Rattle.records.specs.Carried.{WhereKept}
 use Rattle.records.specs.Laws.{LeavesTheLogs}
 

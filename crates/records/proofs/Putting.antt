@@ -9,7 +9,7 @@ use Rattle.model.specs.Outcome.{Behaviour}
 use Rattle.model.specs.Records.{OwnFiles, LogFormat, Store, store_in, read_log, in_force, deps_in_force}
 use Rattle.model.specs.Schedule.{Step}
 use Rattle.model.specs.Premises.{FilesAreKept}
-use Rattle.build_theory.proofs.Looks.{kept_before}
+use Rattle.theory.proofs.Looks.{kept_before}
 use Rattle.build_log.specs.declared.done.Done.{Done}
 use Rattle.build_log.specs.Kept.{Table}
 use Rattle.build_log.specs.Log.{Keeps}
@@ -17,10 +17,10 @@ use Rattle.build_log.specs.Record.{forms}
 use Rattle.deps_log.specs.declared.deps.Deps.{Deps}
 use Rattle.deps_log.specs.Log.{Keeps as KeepsDeps}
 use Rattle.deps_log.specs.Record.{forms as deps_forms}
-use Rattle.log_theory.specs.Logged.{IsLogged, IsLoggedAt}
-use Rattle.log_theory.specs.Writes.{WritesAt}
-use Rattle.log_theory.proofs.Calls.{same_logs}
-use Rattle.log_theory.proofs.Growing as growing
+use Rattle.theory.specs.Logged.{IsLogged, IsLoggedAt}
+use Rattle.theory.specs.Writes.{WritesAt}
+use Rattle.theory.proofs.LoggedCalls.{same_logs}
+use Rattle.theory.proofs.Growing as growing
 use Rattle.records.specs.declared.logs.Logs.{Logs}
 use Rattle.records.specs.Held.{Held, AreRecordsIn, HoldsStill, behind, TellsMore, MayTellMore}
 use Rattle.records.specs.Carried.{WhereKept, IsCarriedLog}

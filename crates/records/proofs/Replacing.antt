@@ -9,8 +9,8 @@ use Rattle.build_log.specs.declared.form.Version.TheVariants.{Two}
 use Rattle.build_log.specs.Form.{Form}
 use Rattle.build_log.specs.Laws.{KeepsInForce}
 use Rattle.build_log.specs.Text.{IsLogOf}
-use Rattle.log_theory.specs.Writes.{WritesAt}
-use Rattle.log_theory.proofs.Writing.{writes_at}
+use Rattle.theory.specs.Writes.{WritesAt}
+use Rattle.theory.proofs.Writing.{writes_at}
 use Rattle.records.specs.declared.file.State.TheVariants.{Usable, Stale}
 use Rattle.records.specs.Held.{Held, IsKeptOrWrittenAnew}
 use Rattle.records.specs.Carried.{WhereKept, IsCarriedLog}

@@ -21,9 +21,9 @@ use Rattle.build_log.specs.Record.{forms}
 use Rattle.deps_log.specs.declared.deps.Deps.{Deps}
 use Rattle.deps_log.specs.Log.{Keeps as KeepsDeps}
 use Rattle.deps_log.specs.Record.{forms as deps_forms}
-use Rattle.log_theory.specs.Logged.{IsLogged}
-use Rattle.log_theory.specs.Writes.{WritesAt}
-use Rattle.log_theory.proofs.Growing as growing
+use Rattle.theory.specs.Logged.{IsLogged}
+use Rattle.theory.specs.Writes.{WritesAt}
+use Rattle.theory.proofs.Growing as growing
 use Rattle.records.specs.declared.logs.Logs.{Logs}
 use Rattle.records.specs.Held.{Held, TellsMore, MayTellMore}
 use Rattle.records.specs.Carried.{WhereKept, IsCarriedLog}

@@ -11,11 +11,11 @@ use Rattle.model.specs.Calls.{Adds}
 use Rattle.model.specs.Graph.{IsCommand}
 use Rattle.model.specs.Records.{OwnFiles}
 use Rattle.model.specs.Premises.{FilesAreKept, IsWithinEdge, IsNoEdit}
-use Rattle.build_theory.proofs.Files.{file_stays}
-use Rattle.build_theory.proofs.Starting.{since}
-use Rattle.log_theory.specs.Writes.{GrewAt}
-use Rattle.log_theory.proofs.Calls.{log_elsewhere, log_stays_at}
-use Rattle.log_theory.proofs.Writing.{at_elsewhere}
+use Rattle.theory.proofs.Files.{file_stays}
+use Rattle.theory.proofs.Starting.{since}
+use Rattle.theory.specs.Writes.{GrewAt}
+use Rattle.theory.proofs.LoggedCalls.{log_elsewhere, log_stays_at}
+use Rattle.theory.proofs.Writing.{at_elsewhere}
 use Rattle.records.specs.Laws.{LeavesTheLogs}
 
 -- the history grew

@@ -15,7 +15,7 @@ use Rattle.build_log.specs.Record.{forms}
 use Rattle.deps_log.specs.Format.{ReadsLogs}
 use Rattle.deps_log.specs.Log.{Keeps as KeepsDeps, compaction as deps_compaction}
 use Rattle.deps_log.specs.Record.{forms as deps_forms}
-use Rattle.log_theory.specs.Writes.{GrewAt}
+use Rattle.theory.specs.Writes.{GrewAt}
 use Rattle.records.specs.declared.logs.Logs.{Logs}
 use Rattle.records.specs.Held.{Paths, WasRead}
 use Rattle.records.specs.Carried.{WhereKept}

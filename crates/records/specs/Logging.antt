@@ -15,7 +15,7 @@ use Rattle.build_log.specs.Record.{forms}
 use Rattle.deps_log.specs.Format.{ReadsLogs}
 use Rattle.deps_log.specs.Log.{Keeps as KeepsDeps}
 use Rattle.deps_log.specs.Record.{forms as deps_forms}
-use Rattle.log_theory.specs.Logged.{IsLoggedAt}
+use Rattle.theory.specs.Logged.{IsLoggedAt}
 use Rattle.records.specs.declared.logs.Logs.{Logs}
 use Rattle.records.specs.Held.{IsSameLog}
 use Rattle.records.specs.Carried.{WhereKept, IsHeldStill}

@@ -4,7 +4,7 @@ ghost use Rattle.std.specs.Prelude.{◌≡◌, ◌<◌, ◌≤◌, ◌↔◌, �
 ghost use Rattle.model.specs.Calls.{OnlyLooks, HasCause};
 ghost use Rattle.paths.specs.Told.{text_at};
 ghost use Rattle.build_log.specs.Keeping.{OfKept, at_number};
-ghost use Rattle.log_theory.specs.Writes.{WritesAt};
+ghost use Rattle.theory.specs.Writes.{WritesAt};
 ghost use Rattle.records.specs.Edges.{paths_in};
 ghost use Rattle.records.specs.Held.{text_in, WasReadSo, ArePlaces, AreMadeBehind, StaysWithin, Fills, GrowsTo, IsLonger, IsSameLog, IsKeptOrWrittenAnew, MayTellMore, IsJudged, OfRead, IsStateOf};
 ghost use Rattle.records.specs.Carried.{CarriesOn, CarriesLine, ChangesSo, PutsSo, TellsAlso};

@@ -4,7 +4,7 @@ ghost use Rattle.std.specs.Prelude.{◌≡◌, ◌≢◌, ◌<◌, ◌≤◌, []
 ghost use Rattle.std.specs.Option.{option_map};
 ghost use Rattle.model.specs.Calls.{OnlyLooks, HasCause};
 ghost use Rattle.model.specs.Graph.{IsCommand, IsMadeOnce};
-ghost use Rattle.log_theory.specs.Writes.{WritesAt};
+ghost use Rattle.theory.specs.Writes.{WritesAt};
 ghost use Rattle.records.specs.Edges.{paths_in, declared_edges, declared_outputs, OfEdge};
 ghost use Rattle.records.specs.Held.{IsLonger};
 ghost use Rattle.records.specs.Known.{Knows, KnowsAll, OfKnown, OfKnownDeps, IsMade, IsTold, OfGrown, AreStillKnown};

@@ -9,10 +9,10 @@ use Rattle.model.specs.declared.event.Moment.TheVariants.{Wrote, Happened}
 use Rattle.model.specs.declared.event.Writer.TheVariants.{Program}
 use Rattle.model.specs.World.{World, file_at, runs}
 use Rattle.model.specs.Calls.{OnlyLooks, Ticks, TicksOrNot, Writes, WritesOrNot, Starts, StartsOrNot, Finishes, content_or_empty}
-use Rattle.build_theory.proofs.Lists.{same_rest}
+use Rattle.theory.proofs.Lists.{same_rest}
 use Rattle.links.specs.declared.graph.Graph.{Graph}
-use Rattle.log_theory.specs.Writes.{WritesAt}
-use Rattle.log_theory.proofs.Writing.{writes_or_not_at}
+use Rattle.theory.specs.Writes.{WritesAt}
+use Rattle.theory.proofs.Writing.{writes_or_not_at}
 use Rattle.looks.specs.declared.table.Looks.{Looks}
 use Rattle.looks.specs.Looking.{HasLooked}
 use Rattle.looks.proofs.Stays.{looked_then}

@@ -11,9 +11,9 @@ use Rattle.model.specs.OutOfDate.{is_made_anew, input_facts}
 use Rattle.model.specs.Records.{OwnFiles}
 use Rattle.model.specs.Schedule.{Step as Done, well_in, failed_in, ended_in, out_of_date_in}
 use Rattle.model.specs.Premises.{FreeApart, OwnFilesApart}
-use Rattle.build_theory.proofs.Lists.{same_some}
-use Rattle.build_theory.proofs.Makers.{maker_has, maker_is}
-use Rattle.build_theory.proofs.Steps.{running_parts}
+use Rattle.theory.proofs.Lists.{same_some}
+use Rattle.theory.proofs.Makers.{maker_has, maker_is}
+use Rattle.theory.proofs.Steps.{running_parts}
 use Rattle.paths.specs.Told.{text_at}
 use Rattle.links.specs.declared.graph.Graph.{Graph}
 use Rattle.looks.specs.Seen.{AreKept}

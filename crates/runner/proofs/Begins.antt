@@ -8,7 +8,7 @@ use Rattle.model.specs.Graph.{edge_at, outputs, IsCommand, IsMadeOnce}
 use Rattle.model.specs.Outcome.{Behaviour}
 use Rattle.model.specs.Records.{LogFormat, OwnFiles, Store}
 use Rattle.model.specs.Schedule.{Step as Done}
-use Rattle.log_theory.specs.Writes.{WritesAt}
+use Rattle.theory.specs.Writes.{WritesAt}
 use Rattle.display.specs.declared.display.Display.{Display}
 use Rattle.links.specs.declared.graph.Graph.{Graph}
 use Rattle.links.specs.Told.{declared_by}

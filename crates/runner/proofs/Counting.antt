@@ -9,13 +9,13 @@ use Rattle.model.specs.Graph.{has_number}
 use Rattle.model.specs.Records.{OwnFiles}
 use Rattle.model.specs.declared.graph.Edge.{Edge}
 use Rattle.model.specs.Schedule.{Task, Step as Done, Judged, Started, Ended, started_in, ended_in, running_in}
-use Rattle.build_theory.specs.Order.{IsOrderlyFrom}
-use Rattle.build_theory.specs.Run.{IsRun}
-use Rattle.build_theory.proofs.Lists.{has_number-filter, has_number-one}
-use Rattle.build_theory.proofs.Events.{runs_push}
-use Rattle.build_theory.proofs.Orderly.{started_before}
-use Rattle.build_theory.proofs.Steps.{in_right, started-append}
-use Rattle.build_theory.proofs.Runs.{running_now}
+use Rattle.theory.specs.Order.{IsOrderlyFrom}
+use Rattle.theory.specs.Run.{IsRun}
+use Rattle.theory.proofs.Lists.{has_number-filter, has_number-one}
+use Rattle.theory.proofs.Events.{runs_push}
+use Rattle.theory.proofs.Orderly.{started_before}
+use Rattle.theory.proofs.Steps.{in_right, started-append}
+use Rattle.theory.proofs.Runs.{running_now}
 use Rattle.links.specs.Held.{times}
 use Rattle.runner.specs.Cutting.{SoManyRun}
 

@@ -8,12 +8,12 @@ use Rattle.model.specs.declared.fault.SiteFault.{SiteFault}
 use Rattle.model.specs.World.{World, runs}
 use Rattle.model.specs.Calls.{OnlyLooks, HasCause, is_stop}
 use Rattle.model.specs.SingleBuild.{Answer, PassesNoFault}
-use Rattle.build_theory.specs.Seen.{Unrefused, StartsUnrefused}
+use Rattle.theory.specs.Seen.{Unrefused, StartsUnrefused}
 use Rattle.runner.specs.declared.cut.Cut.{Cut}
 use Rattle.runner.specs.declared.cut.Cut.TheVariants.{Waiting, Other}
 use Rattle.runner.specs.Cut.{fault_of}
 use Rattle.runner.specs.Cutting.{SomeRuns, TakesIn, Cuts, IsMetBy, site_answer}
-use Rattle.build_theory.proofs.Calls.{cause_then, seen_of}
+use Rattle.theory.proofs.SiteCalls.{cause_then, seen_of}
 
 -- what was started in two calls one after the other
 pub starts_then : (old mid new : World) → Unrefused old mid → StartsUnrefused old mid → StartsUnrefused mid new → StartsUnrefused old new

@@ -5,8 +5,8 @@ use Rattle.model.specs.Calls.{OnlyLooks}
 use Rattle.model.specs.Graph.{has_number}
 use Rattle.model.specs.Schedule.{Task, Step as Done, well_in}
 use Rattle.model.specs.SingleBuild.{task_of}
-use Rattle.log_theory.specs.Ledger.{IsCutOff}
-use Rattle.log_theory.proofs.Ledger.{cut_off, carried_looks}
+use Rattle.theory.specs.Ledger.{IsCutOff}
+use Rattle.theory.proofs.Ledger.{cut_off, carried_looks}
 use Rattle.links.specs.declared.graph.Graph.{Graph}
 use Rattle.plan.specs.declared.plan.Plan.{Plan}
 use Rattle.plan.specs.declared.step.End.TheVariants as ending

@@ -18,16 +18,16 @@ use Rattle.model.specs.Graph.{has, has_number, edge_at, outputs, maker, later_nu
 use Rattle.model.specs.Schedule.{Task, Step as Done, Ended, started_in, ended_in, running_in, well_in, failed_in, out_of_date_in}
 use Rattle.model.specs.SingleBuild.{task_of}
 use Rattle.model.specs.Kept.{StartedUnder}
-use Rattle.build_theory.specs.Run.{IsRunOrRest}
-use Rattle.build_theory.proofs.Lists.{all_append, bytes_same, same_some, has_number-is, has_number-one, has_number-push_other}
-use Rattle.build_theory.proofs.Makers.{maker_has, maker_is}
-use Rattle.build_theory.proofs.Calls.{looks_none, looks_then}
-use Rattle.build_theory.proofs.Orderly.{IsKept, kept_orderly}
-use Rattle.build_theory.proofs.Steps.{running_is, running_parts, started-append, ended-append, well-append, failed-append, out_of_date-append, in_left, in_right, in_either}
-use Rattle.build_theory.proofs.Runs.{run_looks, run_takes_in}
-use Rattle.log_theory.specs.Ledger.{IsCutOff}
-use Rattle.log_theory.proofs.Ledger.{SaysAtEnd, ReadAtEnd, command_of, running_of, carried_well, carried_failed, cut_in_reading, cut_off, cut_looks, cut_finishes}
-use Rattle.log_theory.proofs.TakenIn.{ended_here, depfile_since}
+use Rattle.theory.specs.Run.{IsRunOrRest}
+use Rattle.theory.proofs.Lists.{all_append, bytes_same, same_some, has_number-is, has_number-one, has_number-push_other}
+use Rattle.theory.proofs.Makers.{maker_has, maker_is}
+use Rattle.theory.proofs.SiteCalls.{looks_none, looks_then}
+use Rattle.theory.proofs.Orderly.{IsKept, kept_orderly}
+use Rattle.theory.proofs.Steps.{running_is, running_parts, started-append, ended-append, well-append, failed-append, out_of_date-append, in_left, in_right, in_either}
+use Rattle.theory.proofs.Runs.{run_looks, run_takes_in}
+use Rattle.theory.specs.Ledger.{IsCutOff}
+use Rattle.theory.proofs.Ledger.{SaysAtEnd, ReadAtEnd, command_of, running_of, carried_well, carried_failed, cut_in_reading, cut_off, cut_looks, cut_finishes}
+use Rattle.theory.proofs.TakenIn.{ended_here, depfile_since}
 use Rattle.lowest.specs.Flags as flags
 use Rattle.paths.specs.Told.{text_at}
 use Rattle.links.specs.declared.graph.Graph.{Graph}

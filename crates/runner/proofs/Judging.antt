@@ -16,15 +16,15 @@ use Rattle.model.specs.OutOfDate.{input_facts, Counted, ReadsNoFree, IsStaleByOu
 use Rattle.model.specs.Schedule.{Step as Done, Judged, MayBeJudged, out_of_date_in, started_in, ended_in, well_in, failed_in, running_in}
 use Rattle.model.specs.Premises.{FilesAreKept, RecordedApart, IsWithinEdge, IsNoEdit}
 use Rattle.model.specs.SingleBuild.{task_of}
-use Rattle.build_theory.specs.Run.{IsRunOrRest}
-use Rattle.build_theory.proofs.Lists.{same_bytes, has_number-is}
-use Rattle.build_theory.proofs.Files.{IsElsewhere}
-use Rattle.build_theory.proofs.Runs.{rest_begins}
-use Rattle.build_theory.proofs.Starting.{OthersRun, since, private_elsewhere}
-use Rattle.build_theory.proofs.Orderly.{IsKept, kept_orderly}
-use Rattle.build_theory.proofs.Steps.{running_is, started-append, ended-append, out_of_date-append, well-append, failed-append, in_either}
-use Rattle.log_theory.proofs.Kept.{depfile_stays}
-use Rattle.log_theory.proofs.Ledger.{others_run, carried_judged}
+use Rattle.theory.specs.Run.{IsRunOrRest}
+use Rattle.theory.proofs.Lists.{same_bytes, has_number-is}
+use Rattle.theory.proofs.Files.{IsElsewhere}
+use Rattle.theory.proofs.Runs.{rest_begins}
+use Rattle.theory.proofs.Starting.{OthersRun, since, private_elsewhere}
+use Rattle.theory.proofs.Orderly.{IsKept, kept_orderly}
+use Rattle.theory.proofs.Steps.{running_is, started-append, ended-append, out_of_date-append, well-append, failed-append, in_either}
+use Rattle.theory.proofs.Kept.{depfile_stays}
+use Rattle.theory.proofs.Ledger.{others_run, carried_judged}
 use Rattle.display.specs.declared.display.Display.{Display}
 use Rattle.lowest.specs.Flags as flags
 use Rattle.paths.specs.Told.{text_at}

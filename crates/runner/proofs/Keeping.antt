@@ -15,20 +15,20 @@ use Rattle.model.specs.Records.{OwnFiles, in_force, deps_in_force}
 use Rattle.model.specs.Schedule.{Step as Done, started_in, ended_in, out_of_date_in, running_in, well_in}
 use Rattle.model.specs.SingleBuild.{task_of}
 use Rattle.model.specs.Kept.{StartedUnder}
-use Rattle.build_theory.specs.Run.{IsRunOrRest}
-use Rattle.build_theory.proofs.Lists.{same_some}
-use Rattle.build_theory.proofs.Runs.{rest_begins}
-use Rattle.build_theory.proofs.Orderly.{IsKept, kept_orderly}
-use Rattle.build_theory.proofs.Steps.{running_parts}
+use Rattle.theory.specs.Run.{IsRunOrRest}
+use Rattle.theory.proofs.Lists.{same_some}
+use Rattle.theory.proofs.Runs.{rest_begins}
+use Rattle.theory.proofs.Orderly.{IsKept, kept_orderly}
+use Rattle.theory.proofs.Steps.{running_parts}
 use Rattle.build_log.specs.declared.done.Done.{Done as Line}
 use Rattle.build_log.specs.Kept.{Table}
 use Rattle.build_log.specs.Log.{Keeps, makings}
 use Rattle.deps_log.specs.declared.deps.Deps.{Deps}
 use Rattle.deps_log.specs.Log.{Keeps as KeepsDeps, tolds}
-use Rattle.log_theory.specs.Writes.{WritesAt}
-use Rattle.log_theory.specs.Ledger.{IsCarried, IsCutOff}
-use Rattle.log_theory.proofs.Ledger.{command_of, running_of, stale_command, carried_looks, carried_ticks, carried_response, carried_depfile, carried_log, carried_hand, cut_off}
-use Rattle.log_theory.proofs.Writing.{looks_at, writes_or_not_at, ticks_grew}
+use Rattle.theory.specs.Writes.{WritesAt}
+use Rattle.theory.specs.Ledger.{IsCarried, IsCutOff}
+use Rattle.theory.proofs.Ledger.{command_of, running_of, stale_command, carried_looks, carried_ticks, carried_response, carried_depfile, carried_log, carried_hand, cut_off}
+use Rattle.theory.proofs.Writing.{looks_at, writes_or_not_at, ticks_grew}
 use Rattle.links.specs.declared.graph.Graph.{Graph}
 use Rattle.paths.specs.Told.{text_at}
 use Rattle.looks.specs.declared.table.Look.{Look}

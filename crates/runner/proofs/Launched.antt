@@ -12,11 +12,11 @@ use Rattle.model.specs.Calls.{OnlyLooks, Ticks, TicksOrNot, Starts, StartsOrNot,
 use Rattle.model.specs.Graph.{has_number, edge_at, IsCommand}
 use Rattle.model.specs.Schedule.{Step as Done, Started, running_in}
 use Rattle.model.specs.SingleBuild.{task_of}
-use Rattle.build_theory.proofs.Runs.{not_running}
-use Rattle.log_theory.specs.Writes.{WritesAt}
-use Rattle.log_theory.specs.Ledger.{IsReadyToStart}
-use Rattle.log_theory.proofs.Alone.{rests_unstarted}
-use Rattle.log_theory.proofs.Ledger.{carried_ticks_or_not}
+use Rattle.theory.proofs.Runs.{not_running}
+use Rattle.theory.specs.Writes.{WritesAt}
+use Rattle.theory.specs.Ledger.{IsReadyToStart}
+use Rattle.theory.proofs.Alone.{rests_unstarted}
+use Rattle.theory.proofs.Ledger.{carried_ticks_or_not}
 use Rattle.links.specs.declared.graph.Graph.{Graph}
 use Rattle.links.specs.Told.{declared_by}
 use Rattle.plan.specs.declared.plan.Plan.{Plan}

@@ -12,16 +12,16 @@ use Rattle.model.specs.Schedule.{Step as Done, Started, IsLawfulStep, started_in
 use Rattle.model.specs.Phases.{NoLoadIsDue}
 use Rattle.model.specs.SingleBuild.{task_of}
 use Rattle.model.specs.Kept.{StartedUnder}
-use Rattle.build_theory.proofs.Orderly.{IsKept, kept_orderly}
-use Rattle.build_theory.proofs.Steps.{running_is, running_parts, started-append, ended-append, out_of_date-append, well-append, failed-append, in_left, in_either}
-use Rattle.build_theory.proofs.Lists.{has_number-is}
-use Rattle.log_theory.specs.Writes.{GrewAt, WritesAt}
-use Rattle.log_theory.specs.Ledger.{HasNoRecord, HoldsStill, IsReadyToStart}
-use Rattle.build_theory.proofs.Starting.{IsPrivate}
-use Rattle.log_theory.proofs.Alone.{rests_unstarted}
-use Rattle.log_theory.proofs.Readying.{tick_given, holds_written, holds_over_own, depfile_over_response, no_record_apart}
-use Rattle.log_theory.proofs.Writing.{ticks_grew}
-use Rattle.log_theory.proofs.Ledger.{carried_starts, started_under}
+use Rattle.theory.proofs.Orderly.{IsKept, kept_orderly}
+use Rattle.theory.proofs.Steps.{running_is, running_parts, started-append, ended-append, out_of_date-append, well-append, failed-append, in_left, in_either}
+use Rattle.theory.proofs.Lists.{has_number-is}
+use Rattle.theory.specs.Writes.{GrewAt, WritesAt}
+use Rattle.theory.specs.Ledger.{HasNoRecord, HoldsStill, IsReadyToStart}
+use Rattle.theory.proofs.Starting.{IsPrivate}
+use Rattle.theory.proofs.Alone.{rests_unstarted}
+use Rattle.theory.proofs.Readying.{tick_given, holds_written, holds_over_own, depfile_over_response, no_record_apart}
+use Rattle.theory.proofs.Writing.{ticks_grew}
+use Rattle.theory.proofs.Ledger.{carried_starts, started_under}
 use Rattle.links.specs.declared.graph.Graph.{Graph}
 use Rattle.paths.specs.Told.{text_at}
 use Rattle.lowest.specs.Flags as flags

@@ -19,15 +19,15 @@ use Rattle.model.specs.Phases.{IsGrownBy, IsNextLoad, IsInOrderAt}
 use Rattle.model.specs.Premises.{FilesAreKept}
 use Rattle.model.specs.SingleBuild.{HeldAt, asked_with, task_of}
 use Rattle.model.specs.Kept.{StartedUnder}
-use Rattle.build_theory.specs.Run.{IsRunOrRest}
-use Rattle.build_theory.proofs.Growth.{HasGrown, grown_by}
-use Rattle.build_theory.proofs.Lists.{same_some, same_bytes, bytes_same}
-use Rattle.build_theory.proofs.Makers.{maker_has, maker_is}
-use Rattle.build_theory.proofs.Orderly.{IsKept, kept_orderly}
-use Rattle.build_theory.proofs.Runs.{rest_begins}
-use Rattle.log_theory.specs.Ledger.{IsCarried}
-use Rattle.log_theory.proofs.Loading.{carried_load}
-use Rattle.log_theory.proofs.Turned.{kept_then}
+use Rattle.theory.specs.Run.{IsRunOrRest}
+use Rattle.theory.proofs.Growth.{HasGrown, grown_by}
+use Rattle.theory.proofs.Lists.{same_some, same_bytes, bytes_same}
+use Rattle.theory.proofs.Makers.{maker_has, maker_is}
+use Rattle.theory.proofs.Orderly.{IsKept, kept_orderly}
+use Rattle.theory.proofs.Runs.{rest_begins}
+use Rattle.theory.specs.Ledger.{IsCarried}
+use Rattle.theory.proofs.Loading.{carried_load}
+use Rattle.theory.proofs.Turned.{kept_then}
 use Rattle.lowest.specs.Flags as flags
 use Rattle.paths.specs.Told.{text_at}
 use Rattle.links.specs.declared.graph.Graph.{Graph}

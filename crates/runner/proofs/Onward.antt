@@ -7,9 +7,9 @@ use Rattle.model.specs.Reading.{IsInCone}
 use Rattle.model.specs.Schedule.{Task, Step as Done, Judged, Started, Ended, IsLawfulStep, judged_in, running_in}
 use Rattle.model.specs.SingleBuild.{task_of}
 use Rattle.model.specs.Phases.{AreTakenIn}
-use Rattle.build_theory.proofs.Lists.{has_number-is}
-use Rattle.build_theory.proofs.Orderly.{orderly_step, orderly_push}
-use Rattle.build_theory.proofs.Steps.{judged-append, in_either}
+use Rattle.theory.proofs.Lists.{has_number-is}
+use Rattle.theory.proofs.Orderly.{orderly_step, orderly_push}
+use Rattle.theory.proofs.Steps.{judged-append, in_either}
 use Rattle.links.specs.declared.graph.Graph.{Graph}
 use Rattle.plan.specs.declared.plan.Plan.{Plan}
 use Rattle.plan.specs.declared.step.Step.{Step}

@@ -13,13 +13,13 @@ use Rattle.model.specs.Graph.{has, has_number, no_edge, edge_at, outputs, IsComm
 use Rattle.model.specs.Records.{OwnFiles}
 use Rattle.model.specs.Schedule.{Step as Done, Started, started_in, ended_in, running_in}
 use Rattle.model.specs.Premises.{FilesAreKept, IsWithinEdge, IsNoEdit}
-use Rattle.build_theory.proofs.Lists.{same_bytes, bytes_same, all_append, all_parts, same_rest}
-use Rattle.build_theory.proofs.Files.{IsElsewhere, file_stays, others_elsewhere}
-use Rattle.build_theory.proofs.Looks.{kept_before}
-use Rattle.build_theory.proofs.Starting.{since}
-use Rattle.build_theory.proofs.Steps.{running_is, running_parts, started-append, ended-append, in_left}
-use Rattle.log_theory.specs.Writes.{GrewAt}
-use Rattle.log_theory.proofs.Writing.{at_elsewhere}
+use Rattle.theory.proofs.Lists.{same_bytes, bytes_same, all_append, all_parts, same_rest}
+use Rattle.theory.proofs.Files.{IsElsewhere, file_stays, others_elsewhere}
+use Rattle.theory.proofs.Looks.{kept_before}
+use Rattle.theory.proofs.Starting.{since}
+use Rattle.theory.proofs.Steps.{running_is, running_parts, started-append, ended-append, in_left}
+use Rattle.theory.specs.Writes.{GrewAt}
+use Rattle.theory.proofs.Writing.{at_elsewhere}
 use Rattle.looks.specs.Seen.{AreKept}
 use Rattle.runner.specs.Course.{is_private, is_under_way, is_quiet}
 

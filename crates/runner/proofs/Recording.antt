@@ -17,16 +17,16 @@ use Rattle.model.specs.Records.{LogFormat, OwnFiles, Store, ListsOnce}
 use Rattle.model.specs.Premises.{EndedAt}
 use Rattle.model.specs.Schedule.{Task, Step as Done, Ended, started_in, ended_in, running_in, out_of_date_in}
 use Rattle.model.specs.SingleBuild.{task_of}
-use Rattle.build_theory.proofs.Lists.{has_number-one}
-use Rattle.build_theory.proofs.Looks.{kept_before}
-use Rattle.build_theory.proofs.Orderly.{IsKept, kept_orderly}
-use Rattle.build_theory.proofs.Steps.{ended-append, in_right}
-use Rattle.build_theory.proofs.Starting.{OthersRun}
-use Rattle.log_theory.specs.Ledger.{HoldsStill}
-use Rattle.log_theory.specs.Writes.{WritesAt}
-use Rattle.log_theory.proofs.Alone.{rests_ended}
-use Rattle.log_theory.proofs.Growing.{longer}
-use Rattle.log_theory.proofs.Ledger.{carried_depfile, carried_response}
+use Rattle.theory.proofs.Lists.{has_number-one}
+use Rattle.theory.proofs.Looks.{kept_before}
+use Rattle.theory.proofs.Orderly.{IsKept, kept_orderly}
+use Rattle.theory.proofs.Steps.{ended-append, in_right}
+use Rattle.theory.proofs.Starting.{OthersRun}
+use Rattle.theory.specs.Ledger.{HoldsStill}
+use Rattle.theory.specs.Writes.{WritesAt}
+use Rattle.theory.proofs.Alone.{rests_ended}
+use Rattle.theory.proofs.Growing.{longer}
+use Rattle.theory.proofs.Ledger.{carried_depfile, carried_response}
 use Rattle.links.specs.declared.graph.Graph.{Graph}
 use Rattle.links.specs.Told.{declared_by}
 use Rattle.records.specs.declared.records.Records.{Records}

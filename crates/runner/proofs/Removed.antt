@@ -14,16 +14,16 @@ use Rattle.model.specs.Graph.{has_number, edge_at, IsCommand}
 use Rattle.model.specs.Records.{OwnFiles}
 use Rattle.model.specs.Schedule.{Step as Done, well_in}
 use Rattle.model.specs.Premises.{FilesAreKept, OwnFilesApart, IsWithinEdge, IsNoEdit, EndedAt}
-use Rattle.build_theory.proofs.Lists.{all_parts, all_append, same_bytes, bytes_same}
-use Rattle.build_theory.proofs.Files.{IsElsewhere, file_stays}
-use Rattle.build_theory.proofs.Looks.{kept_before}
-use Rattle.build_theory.proofs.Moments.{events_in-append}
-use Rattle.build_theory.proofs.Starting.{IsPrivate, OthersRun, since, private_elsewhere, private_written}
-use Rattle.log_theory.specs.Writes.{GrewAt}
-use Rattle.log_theory.specs.Ledger.{HoldsStill}
-use Rattle.log_theory.proofs.Judged.{ended_back}
-use Rattle.log_theory.proofs.Ledger.{GrewBy, grew_at, grew_adding}
-use Rattle.log_theory.proofs.Writing.{at_elsewhere, looks_at}
+use Rattle.theory.proofs.Lists.{all_parts, all_append, same_bytes, bytes_same}
+use Rattle.theory.proofs.Files.{IsElsewhere, file_stays}
+use Rattle.theory.proofs.Looks.{kept_before}
+use Rattle.theory.proofs.Moments.{events_in-append}
+use Rattle.theory.proofs.Starting.{IsPrivate, OthersRun, since, private_elsewhere, private_written}
+use Rattle.theory.specs.Writes.{GrewAt}
+use Rattle.theory.specs.Ledger.{HoldsStill}
+use Rattle.theory.proofs.JudgedAtExit.{ended_back}
+use Rattle.theory.proofs.Ledger.{GrewBy, grew_at, grew_adding}
+use Rattle.theory.proofs.Writing.{at_elsewhere, looks_at}
 use Rattle.runner.specs.Removing.{DepfilesStay, AreRemoved}
 
 -- ---- one path

@@ -10,9 +10,9 @@ use Rattle.model.specs.declared.graph.Edge.{Edge}
 use Rattle.model.specs.World.{World, IsRunning}
 use Rattle.model.specs.Calls.{IsByOthers, AllByOthers, OnlyLooks, Writes, Finishes}
 use Rattle.model.specs.Graph.{edge_at}
-use Rattle.build_theory.proofs.Lists.{same_rest, all_append}
-use Rattle.log_theory.specs.Writes.{WritesAt}
-use Rattle.log_theory.proofs.Growing.{longer}
+use Rattle.theory.proofs.Lists.{same_rest, all_append}
+use Rattle.theory.specs.Writes.{WritesAt}
+use Rattle.theory.proofs.Growing.{longer}
 use Rattle.runner.specs.Removing.{EndsByRemoving}
 
 -- ---- the end of a command

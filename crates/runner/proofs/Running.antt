@@ -7,9 +7,9 @@ use Rattle.model.specs.Graph.{has_number, IsCommand}
 use Rattle.model.specs.Reading.{IsInCone}
 use Rattle.model.specs.Schedule.{Task, Step as Done, started_in, well_in, failed_in, clean_in, out_of_date_in, running_in}
 use Rattle.model.specs.SingleBuild.{task_of}
-use Rattle.build_theory.proofs.Orderly.{IsKept, kept_orderly}
-use Rattle.build_theory.proofs.Steps.{running_parts}
-use Rattle.build_theory.proofs.Runs.{running_now}
+use Rattle.theory.proofs.Orderly.{IsKept, kept_orderly}
+use Rattle.theory.proofs.Steps.{running_parts}
+use Rattle.theory.proofs.Runs.{running_now}
 use Rattle.links.specs.declared.graph.Graph.{Graph}
 use Rattle.plan.specs.declared.plan.Plan.{Plan}
 use Rattle.plan.specs.declared.step.Standing.{Standing}

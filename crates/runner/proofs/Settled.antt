@@ -11,14 +11,14 @@ use Rattle.model.specs.OutOfDate.{Counted, ReadsNoFree}
 use Rattle.model.specs.Schedule.{Task, Step as Done, IsSettled, Done as ByItself, Alias, judged_in, clean_in, well_in, failed_in, running_in, done_in}
 use Rattle.model.specs.Premises.{FilesAreKept, FreeApart, OwnFilesApart, RecordedApart}
 use Rattle.model.specs.SingleBuild.{Asked}
-use Rattle.build_theory.specs.Run.{IsRunOrRest}
-use Rattle.build_theory.proofs.Lists.{has-left, has-right, has_number-cases, same_some}
-use Rattle.build_theory.proofs.Makers.{maker_is}
-use Rattle.build_theory.proofs.Settled.{settled_command}
-use Rattle.build_theory.proofs.Steps.{running_parts}
-use Rattle.build_theory.proofs.Orderly.{IsKept, kept_orderly}
-use Rattle.build_theory.proofs.Exit.{unchanged, may_not}
-use Rattle.log_theory.proofs.Carried.{read_apart, read_bound}
+use Rattle.theory.specs.Run.{IsRunOrRest}
+use Rattle.theory.proofs.Lists.{has-left, has-right, has_number-cases, same_some}
+use Rattle.theory.proofs.Makers.{maker_is}
+use Rattle.theory.proofs.Settled.{settled_command}
+use Rattle.theory.proofs.Steps.{running_parts}
+use Rattle.theory.proofs.Orderly.{IsKept, kept_orderly}
+use Rattle.theory.proofs.Exit.{unchanged, may_not}
+use Rattle.theory.proofs.Carried.{read_apart, read_bound}
 use Rattle.verdict.specs.Judged.{everything, HasPathsOf, AreUntouched}
 use Rattle.runner.specs.Course.{is_quiet}
 use Rattle.runner.proofs.Quiet.{quiet_from}

@@ -24,7 +24,7 @@ use Rattle.plan.specs.Planned.{IsPlanned, AreTaken}
 use Rattle.looks.specs.Seen.{look_at, look_of, AreSeenOf}
 use Rattle.records.specs.Known.{AreKnown}
 use Rattle.records.specs.Logging.{IsLogging}
-use Rattle.log_theory.specs.Ledger.{IsCarried}
+use Rattle.theory.specs.Ledger.{IsCarried}
 use Rattle.runner.specs.Removing.{AreRemoved}
 use Rattle.runner.specs.declared.state.State.{State}
 

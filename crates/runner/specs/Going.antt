@@ -6,12 +6,12 @@ use Rattle.model.specs.Graph.{has_number, edge_at}
 use Rattle.model.specs.Schedule.{Task, Step as Done, Ended, MayStart, NoneMayBeJudged, NoneMayStart, out_of_date_in, started_in, ended_in, running_in}
 use Rattle.model.specs.Phases.{IsNextLoad, NoLoadIsDue}
 use Rattle.model.specs.SingleBuild.{task_of}
-use Rattle.build_theory.specs.Run.{IsRun}
+use Rattle.theory.specs.Run.{IsRun}
 use Rattle.lowest.specs.Flags as flags
 use Rattle.links.specs.declared.graph.Graph.{Graph}
 use Rattle.links.specs.Links.{links_of}
 use Rattle.links.specs.Told.{declared_by}
-use Rattle.log_theory.specs.Ledger.{IsCutOff}
+use Rattle.theory.specs.Ledger.{IsCutOff}
 use Rattle.paths.specs.Told.{text_at}
 use Rattle.looks.specs.declared.table.Looks.{Looks}
 use Rattle.looks.specs.Looking.{HasLooked}

@@ -4,9 +4,9 @@ use Rattle.model.specs.World.{World}
 use Rattle.model.specs.Schedule.{Step, well_in, failed_in}
 use Rattle.model.specs.Phases.{NoLoadIsDue}
 use Rattle.model.specs.SingleBuild.{task_of}
-use Rattle.build_theory.specs.Run.{IsRun}
+use Rattle.theory.specs.Run.{IsRun}
 use Rattle.links.specs.declared.graph.Graph.{Graph}
-use Rattle.log_theory.specs.Ledger.{IsCutOff}
+use Rattle.theory.specs.Ledger.{IsCutOff}
 use Rattle.plan.specs.declared.step.End.TheVariants as ending
 use Rattle.plan.specs.declared.step.Step.TheVariants.{Ended as Over}
 use Rattle.plan.specs.Planned.{IsNextOf}

@@ -13,7 +13,7 @@ use Rattle.model.specs.Graph.{has_number, edge_at}
 use Rattle.model.specs.Records.{OwnFiles}
 use Rattle.model.specs.Schedule.{Step as Done, well_in}
 use Rattle.model.specs.Premises.{EndedAt}
-use Rattle.log_theory.specs.Ledger.{HoldsStill}
+use Rattle.theory.specs.Ledger.{HoldsStill}
 
 -- The program removed the file, and since then it wrote nothing, and nothing was started or ended.
 pub record IsRemovedLast (path : List ℕ) (running : ℕ → Type 0) (old new : List Moment) : Type 0 where

@@ -3,7 +3,7 @@
 ghost use Rattle.std.specs.Prelude.{◌≡◌, None, false, IfOk, IfErr, OnOk, OnErr};
 ghost use Rattle.model.specs.SingleBuild.{PassesNoFault};
 ghost use Rattle.model.specs.SingleBuild as answer;
-ghost use Rattle.build_theory.specs.Seen.{IsSeen, Unrefused, StartsUnrefused};
+ghost use Rattle.theory.specs.Seen.{IsSeen, Unrefused, StartsUnrefused};
 ghost use Rattle.runner.specs.After.{ComesAfter, LooksUnlessMore};
 ghost use Rattle.runner.specs.Course.{Course, goes_on, Suits, IsOn};
 ghost use Rattle.runner.specs.Cut.{fault_of, IsLeft};

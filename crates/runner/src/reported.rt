@@ -4,7 +4,7 @@ ghost use Rattle.std.specs.Prelude.{◌≡◌, ◌≢◌, ◌≤◌, [], ◌<◌
 ghost use Rattle.model.specs.declared.fault.SiteFault.TheVariants.{Memory};
 ghost use Rattle.model.specs.declared.graph.Deps.TheVariants.{Gcc};
 ghost use Rattle.model.specs.Calls.{OnlyLooks, HasCause, Writes, WritesOrNot};
-ghost use Rattle.log_theory.specs.Writes.{WritesAt};
+ghost use Rattle.theory.specs.Writes.{WritesAt};
 ghost use Rattle.runner.specs.Course.{Course, Suits};
 ghost use Rattle.runner.specs.Going.{IsCut};
 ghost use Rattle.runner.specs.Starting.{IsTakenIn, MayBeDone};

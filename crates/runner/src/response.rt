@@ -2,7 +2,7 @@
 
 ghost use Rattle.std.specs.Prelude.{◌≡◌, ◌≢◌, [], Some, None, false, OnOk, IsOk};
 ghost use Rattle.model.specs.Calls.{HasCause, Writes};
-ghost use Rattle.log_theory.specs.Writes.{WritesAt};
+ghost use Rattle.theory.specs.Writes.{WritesAt};
 
 use model::{Act, SiteFault};
 use site::Site;

@@ -5,7 +5,7 @@ ghost use Rattle.model.specs.World.{World, IsIdle};
 ghost use Rattle.model.specs.Schedule.{Step as Done};
 ghost use Rattle.model.specs.Calls.{HasCause, is_stop};
 ghost use Rattle.links.specs.declared.graph.Graph.{Graph};
-ghost use Rattle.log_theory.specs.Ledger.{IsCutOff};
+ghost use Rattle.theory.specs.Ledger.{IsCutOff};
 ghost use Rattle.runner.specs.After.{ComesAfter};
 ghost use Rattle.runner.specs.Course.{Course};
 ghost use Rattle.runner.specs.declared.cut.Cut.TheVariants.{Other};

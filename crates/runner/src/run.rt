@@ -4,7 +4,7 @@ ghost use Rattle.std.specs.Prelude.{◌≡◌, Bool, true, false, None, IfOk, If
 ghost use Rattle.model.specs.World.{World};
 ghost use Rattle.model.specs.SingleBuild.{PassesNoFault};
 ghost use Rattle.model.specs.SingleBuild as answer;
-ghost use Rattle.build_theory.specs.Seen.{IsSeen, Unrefused, StartsUnrefused};
+ghost use Rattle.theory.specs.Seen.{IsSeen, Unrefused, StartsUnrefused};
 ghost use Rattle.runner.specs.Cut.{fault_of, IsLeft};
 ghost use Rattle.runner.specs.After.{ComesAfter, LooksUnlessMore};
 ghost use Rattle.runner.specs.Course.{Course, goes_on, Suits, IsOn};

@@ -5,7 +5,7 @@ ghost use Rattle.model.specs.World.{World};
 ghost use Rattle.model.specs.Schedule.{Started};
 ghost use Rattle.model.specs.Calls.{OnlyLooks, HasCause};
 ghost use Rattle.model.specs.Graph.{edge_at, IsCommand};
-ghost use Rattle.build_theory.specs.Seen.{StartsUnrefused};
+ghost use Rattle.theory.specs.Seen.{StartsUnrefused};
 ghost use Rattle.links.specs.Told.{declared_by};
 ghost use Rattle.plan.specs.declared.step.Standing.{Standing};
 ghost use Rattle.plan.specs.declared.step.Step.TheVariants as step;

@@ -6,9 +6,9 @@ use Rattle.model.specs.declared.fault.SiteFault.{SiteFault}
 use Rattle.model.specs.declared.fault.SiteFault.TheVariants.{Device, Memory, Stopped}
 use Rattle.model.specs.Calls.{HasCause, OnlyLooks}
 use Rattle.model.specs.World.{World}
-use Rattle.build_theory.specs.Seen.{Looked, Unrefused}
-use Rattle.build_theory.proofs.Calls.{unrefused_call}
-use Rattle.build_theory.proofs.Looks.{looks_nothing, looks_then}
+use Rattle.theory.specs.Seen.{Looked, Unrefused}
+use Rattle.theory.proofs.SiteCalls.{unrefused_call}
+use Rattle.theory.proofs.Looks.{looks_nothing, looks_then}
 use Rattle.stand_in.specs.Moves.{AsksWell, FailedAt, OnlyAsks}
 use Rattle.stand_in.proofs.Stages.{looked_nothing, looked_then}
 

@@ -12,7 +12,7 @@ use Rattle.model.specs.Premises.{HaveEnded}
 use Rattle.model.specs.Records.{LogFormat, OwnFiles}
 use Rattle.model.specs.SingleBuild.{Answer, is_fault}
 use Rattle.model.specs.World.{View, World, runs}
-use Rattle.log_theory.proofs.Edits.{nothing_keeps, others_keep, restarted_idle}
+use Rattle.theory.proofs.Edits.{nothing_keeps, others_keep, restarted_idle}
 use Rattle.manifest.specs.declared.fault.ReadError.{ReadError}
 use Rattle.manifest.specs.declared.fault.ReadError.TheVariants as read
 use Rattle.builder.specs.Build.{IsBuilt, IsUnread, Says, limits_of, unread}

@@ -2,7 +2,7 @@
 use Rattle.std.proofs.Common.{Bool}
 use Rattle.model.specs.Calls.{OnlyLooks}
 use Rattle.model.specs.World.{World}
-use Rattle.build_theory.proofs.Looks.{looks_nothing, looks_then}
+use Rattle.theory.proofs.Looks.{looks_nothing, looks_then}
 
 pub looks_same : (tells : Bool) (w : World) → OnlyLooks tells w w
 looks_same tells w = looks_nothing tells w

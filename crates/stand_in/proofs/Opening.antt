@@ -10,8 +10,8 @@ use Rattle.model.specs.Calls.{HasCause, OnlyLooks}
 use Rattle.model.specs.Graph.{IsMadeOnce}
 use Rattle.model.specs.SingleBuild.{NamesOther}
 use Rattle.model.specs.World.{View, World}
-use Rattle.build_theory.specs.Seen.{Looked}
-use Rattle.build_theory.proofs.Calls.{unrefused_call}
+use Rattle.theory.specs.Seen.{Looked}
+use Rattle.theory.proofs.SiteCalls.{unrefused_call}
 use Rattle.paths.specs.declared.manifest.Manifest.{Manifest}
 use Rattle.paths.specs.Told.{graph_of}
 use Rattle.links.specs.declared.graph.Graph.{Graph}

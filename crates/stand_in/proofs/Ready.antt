@@ -12,7 +12,7 @@ use Rattle.model.specs.Outcome.{Behaviour}
 use Rattle.model.specs.Records.{IsOwnIn, OwnFiles, build_log_name, deps_log_name, file_in}
 use Rattle.model.specs.SingleBuild.{NamesOther}
 use Rattle.model.specs.World.{IsIdle, View, World}
-use Rattle.build_theory.specs.Seen.{Looked}
+use Rattle.theory.specs.Seen.{Looked}
 use Rattle.deps_log.specs.Format.{HasFormat}
 use Rattle.depfile.specs.Depfile.{HasReading}
 use Rattle.dyndep_law.specs.Readings.{HasReading as HasDyndeps}

@@ -8,9 +8,9 @@ use Rattle.model.specs.declared.fault.SiteFault.TheVariants.{Device, Memory, Sto
 use Rattle.model.specs.declared.outcome.Outcome.{Outcome}
 use Rattle.model.specs.Calls.{HasCause, IsRestart, OnlyLooks}
 use Rattle.model.specs.World.{IsIdle, View, World}
-use Rattle.build_theory.specs.Seen.{Looked, Unrefused}
-use Rattle.build_theory.proofs.Calls.{unrefused_none, unrefused_then}
-use Rattle.build_theory.proofs.Looks.{looks_nothing, looks_then}
+use Rattle.theory.specs.Seen.{Looked, Unrefused}
+use Rattle.theory.proofs.SiteCalls.{unrefused_none, unrefused_then}
+use Rattle.theory.proofs.Looks.{looks_nothing, looks_then}
 use Rattle.manifest.specs.declared.fault.ReadError.TheVariants as read
 use Rattle.tools.specs.declared.declared.Declared.{Declared}
 use Rattle.builder.specs.Build.{IsBuild, limits_of}

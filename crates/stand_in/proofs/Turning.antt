@@ -5,8 +5,8 @@ use Rattle.model.specs.declared.fault.SiteFault.{SiteFault}
 use Rattle.model.specs.declared.outcome.Outcome.{Outcome}
 use Rattle.model.specs.Calls.{OnlyLooks}
 use Rattle.model.specs.World.{IsIdle, View, World}
-use Rattle.build_theory.specs.Seen.{Looked}
-use Rattle.build_theory.proofs.Looks.{looks_nothing}
+use Rattle.theory.specs.Seen.{Looked}
+use Rattle.theory.proofs.Looks.{looks_nothing}
 use Rattle.tools.specs.declared.declared.Declared.{Declared}
 use Rattle.tools.specs.declared.fault.Fault.{Fault as Refusal}
 use Rattle.tools.specs.declared.fault.Fault.TheVariants as no_memory

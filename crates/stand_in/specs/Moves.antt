@@ -5,7 +5,7 @@ use Rattle.model.specs.declared.outcome.Outcome.{Outcome}
 use Rattle.model.specs.World.{World, View, IsIdle}
 use Rattle.model.specs.Calls.{HasCause, IsRestart, OnlyLooks}
 use Rattle.model.specs.declared.fault.SiteFault.{SiteFault}
-use Rattle.build_theory.specs.Seen.{Looked}
+use Rattle.theory.specs.Seen.{Looked}
 use Rattle.manifest.specs.Answer.{IsGraph, ReadsFile}
 use Rattle.links.specs.Told.{declared_by}
 use Rattle.tools.specs.declared.declared.Declared.{Declared}

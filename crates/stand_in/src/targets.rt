@@ -1,7 +1,7 @@
 //! What is built beside what generators make.
 
 ghost use Rattle.std.specs.Prelude.{◌≡◌, false, IfErr, OnOk};
-ghost use Rattle.build_theory.specs.Seen.{Looked};
+ghost use Rattle.theory.specs.Seen.{Looked};
 ghost use Rattle.model.specs.Calls.{OnlyLooks};
 ghost use Rattle.tools.specs.Joined.{KeepsEdges};
 

@@ -8,7 +8,7 @@ use Rattle.model.specs.declared.record.Record.{Record}
 use Rattle.model.specs.declared.record.Record.TheVariants.{Begun, Done as DoneRecord}
 use Rattle.model.specs.Graph.{has, has_number, is_named, paths_of}
 use Rattle.model.specs.Records.{Made, in_force, in_force_from}
-use Rattle.build_theory.proofs.Lists.{has_number-cases, same_bytes}
+use Rattle.theory.proofs.Lists.{has_number-cases, same_bytes}
 use Rattle.build_log.specs.Kept.{Saying, Telling, is_place, outputs_at, outputs_left, place_from, place_of, tellings}
 use Rattle.build_log.specs.Log.{made_of, makings, saying}
 use Rattle.build_log.specs.declared.done.Done.{Done}

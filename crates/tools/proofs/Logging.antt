@@ -10,8 +10,8 @@ use Rattle.model.specs.declared.record.DepsRecord.{DepsRecord}
 use Rattle.model.specs.Calls.{HasCause, is_stop}
 use Rattle.model.specs.Graph.{has, has_number}
 use Rattle.model.specs.World.{World}
-use Rattle.build_theory.specs.Seen.{Looked}
-use Rattle.build_theory.proofs.Looks.{looks_then}
+use Rattle.theory.specs.Seen.{Looked}
+use Rattle.theory.proofs.Looks.{looks_then}
 use Rattle.paths.specs.Told.{text_at}
 use Rattle.links.specs.Grown.{HasNumbered}
 use Rattle.links.specs.Held.{list_at}

@@ -6,7 +6,7 @@ use denote.Ref.{Bor}
 use Rattle.model.specs.Calls.{OnlyLooks, WritesOrNot}
 use Rattle.model.specs.Graph.{has}
 use Rattle.model.specs.World.{World}
-use Rattle.build_theory.proofs.Looks.{looks_nothing, looks_then}
+use Rattle.theory.proofs.Looks.{looks_nothing, looks_then}
 use Rattle.tools.specs.Moves.{AreAmong, AreRemoved, IsRemoved, NoMore, OneMore, RemovesOf, RemovesOne}
 use Rattle.tools.proofs.Adding.{has_cases, has_either, has_first, has_later}
 

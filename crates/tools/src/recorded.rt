@@ -1,7 +1,7 @@
 //! What logs tell, as tools see it.
 
 ghost use Rattle.std.specs.Prelude.{◌≡◌, false, IfErr, IfOk, OnOk};
-ghost use Rattle.build_theory.specs.Seen.{Looked};
+ghost use Rattle.theory.specs.Seen.{Looked};
 ghost use Rattle.model.specs.Calls.{OnlyLooks};
 ghost use Rattle.records.specs.Known.{Knows, SomeOfBoth};
 ghost use Rattle.tools.specs.Joined.{KeepsEdges};

@@ -17,7 +17,7 @@ use Rattle.model.specs.Graph.{has, has_number, edge_at, outputs}
 use Rattle.model.specs.Records.{Store}
 use Rattle.model.specs.OutOfDate.{Counted, ListsCounted, output_facts, input_facts}
 use Rattle.model.specs.Judgement.{OutputFacts, InputFacts, Facts as AllFacts, reason_of}
-use Rattle.build_theory.proofs.Lists.{has_number-left, has_number-right, has_number-cases}
+use Rattle.theory.proofs.Lists.{has_number-left, has_number-right, has_number-cases}
 use Rattle.paths.specs.declared.line.Line.{Line}
 use Rattle.paths.specs.declared.manifest.Action.TheVariants.{Command}
 use Rattle.paths.specs.declared.manifest.Command.{Command as Commanded}

@@ -4,7 +4,7 @@ use Rattle.std.proofs.lemmas.List.{append-nil}
 use Rattle.model.specs.declared.event.Moment.{Moment}
 use Rattle.model.specs.World.{File, file_at, stamp_of}
 use Rattle.model.specs.Calls.{Sees}
-use Rattle.build_theory.proofs.Lists.{bytes_same}
+use Rattle.theory.proofs.Lists.{bytes_same}
 use Rattle.looks.specs.Seen.{AreKept}
 
 there_by_stamp : (file : Option File) → is_some (stamp_of file) ≡ is_some file

@@ -17,7 +17,7 @@ use Rattle.model.specs.Graph.{has, has_number}
 use Rattle.model.specs.Records.{Store, in_force, deps_in_force}
 use Rattle.model.specs.OutOfDate.{deps_start, output_facts, input_facts}
 use Rattle.model.specs.Judgement.{OutputFacts, InputFacts, Facts, holds, start_of, is_empty_text, is_unset, is_same_number, reason_of, all_reasons}
-use Rattle.build_theory.proofs.Lists.{same_bytes, bytes_same, has_number-left, has_number-right, has_number-cases}
+use Rattle.theory.proofs.Lists.{same_bytes, bytes_same, has_number-left, has_number-right, has_number-cases}
 use Rattle.paths.specs.Told.{text_at, texts_at}
 use Rattle.links.specs.declared.graph.Graph.{Graph}
 use Rattle.links.specs.Links.{links_of}

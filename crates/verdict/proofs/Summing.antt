@@ -11,7 +11,7 @@ use Rattle.model.specs.declared.event.Moment.{Moment}
 use Rattle.model.specs.Graph.{has_number}
 use Rattle.model.specs.Reading.{IsRead}
 use Rattle.model.specs.Judgement.{InputFacts}
-use Rattle.build_theory.proofs.Lists.{all_append, has_number-left, has_number-right, has_number-cases, has_number-is, has_number-push, has_number-push_other}
+use Rattle.theory.proofs.Lists.{all_append, has_number-left, has_number-right, has_number-cases, has_number-is, has_number-push, has_number-push_other}
 use Rattle.links.specs.declared.graph.Graph.{Graph}
 use Rattle.links.specs.Links.{Links, links_of}
 use Rattle.links.specs.Alias.{alias_at, counts_if_present}

@@ -13,7 +13,7 @@ use Rattle.model.specs.Calls.{OnlyLooks}
 use Rattle.model.specs.OutOfDate.{deps_start}
 use Rattle.model.specs.Records.{in_force, deps_in_force}
 use Rattle.model.specs.Judgement.{OutputFacts, InputFacts}
-use Rattle.build_theory.proofs.Lists.{all_parts, bytes_same}
+use Rattle.theory.proofs.Lists.{all_parts, bytes_same}
 use Rattle.paths.specs.Told.{text_at}
 use Rattle.links.specs.declared.graph.Graph.{Graph}
 use Rattle.looks.specs.declared.table.Looks.{Looks}

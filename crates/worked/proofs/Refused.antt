@@ -24,8 +24,8 @@ use Rattle.model.specs.Premises.{none_free, IsWithinEdge, IsNoEdit, OwnFilesApar
 use Rattle.model.specs.SingleBuild.{Answer, is_fault, IsFrame, IsMadeBy, IsReadyFor, HeldAt, PassesNoFault}
 use Rattle.model.specs.History.{Visit, Edited, Built, Unread, Restarted, IsHistoryFrom, IsEdit}
 use Rattle.model.specs.Driven.{CarriesOut, RestartsFrom, Does, is_restart, answers_in}
-use Rattle.build_theory.proofs.Files.{IsElsewhere, file_stays}
-use Rattle.build_theory.proofs.Lists.{all_parts, same_bytes}
+use Rattle.theory.proofs.Files.{IsElsewhere, file_stays}
+use Rattle.theory.proofs.Lists.{all_parts, same_bytes}
 use Rattle.worked.specs.Small.{act_with, copy, edge_with, edges, copies, words, done_under}
 use Rattle.worked.specs.Refused.{RefusedRecords, RefusedFaults, RefusedMoves, RefusedFiles, RefusedStarts, RefusedLoads, RefusedEnds, RefusedRows, naming, dd_there, refuses_depfiles, anything, own, with_both, start_of_both, response, old_depfile, starts_one, one_path, start_of_one, over_depfile, too_early}
 use Rattle.model.specs.Faithful.{IsFaithfulStore}

@@ -11,9 +11,9 @@ use Rattle.model.specs.Premises.{Increases, StampsGrow, FilesAreKept, KeepToOutp
 use Rattle.model.specs.Outcome.{Behaviour, given}
 use Rattle.model.specs.Records.{OwnFiles}
 use Rattle.model.specs.Graph.{edge_at, outputs}
-use Rattle.build_theory.specs.Order.{LeftAsNow}
-use Rattle.build_theory.proofs.Lists.{all_has, all_from_has}
-use Rattle.build_theory.proofs.Looks.{logs_left, logs_unedited}
+use Rattle.theory.specs.Order.{LeftAsNow}
+use Rattle.theory.proofs.Lists.{all_has, all_from_has}
+use Rattle.theory.proofs.Looks.{logs_left, logs_unedited}
 use Rattle.worked.specs.Stricter.{AreLater, AreOfWrites, StricterSuffice, LogsAreLeftByBoth}
 
 below_or : (a b : ℕ) → (a < b) ⊎ (b ≤ a)

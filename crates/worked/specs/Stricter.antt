@@ -11,7 +11,7 @@ use Rattle.model.specs.Outcome.{Behaviour}
 use Rattle.model.specs.Premises.{LogsAreLeft, FilesAreKept, OneOutcome, KeepToOutputs, OwnFilesApart, NothingIsEdited, none_free, RecordedApart, ReportsComeFromAbove, DyndepOutputsAreReadBelow, Premises, KeepsFaith}
 use Rattle.model.specs.Records.{OwnFiles, Store}
 use Rattle.model.specs.Schedule.{Step, judged_in, well_in}
-use Rattle.build_theory.specs.Order.{LeaveAsNow}
+use Rattle.theory.specs.Order.{LeaveAsNow}
 
 -- each of these writes is stamped later than all before
 abbrev pub AreLater : ℕ → List Moment → Type 0

@@ -1,4 +1,4 @@
-use Rattle.build_theory.proofs.Looks.{looks_then}
+use Rattle.theory.proofs.Looks.{looks_then}
 use Rattle.builder.proofs.Builds.{idle_after}
 use Rattle.builder.proofs.explaining.explain.Goals as goal
 

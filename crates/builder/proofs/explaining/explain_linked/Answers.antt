@@ -3,7 +3,7 @@ use Rattle.model.specs.declared.graph.BuildGraph.{BuildGraph}
 use Rattle.model.specs.Graph.{IsMadeOnce}
 use Rattle.model.specs.Outcome.{Behaviour}
 use Rattle.model.specs.SingleBuild.{NamesOther}
-use Rattle.build_theory.proofs.Looks.{looks_then}
+use Rattle.theory.proofs.Looks.{looks_then}
 use Rattle.links.specs.Told.{declared_by}
 use Rattle.manifest.specs.Answer.{IsGraph}
 use Rattle.builder.specs.Build.{asked_of}

@@ -2,7 +2,7 @@ use Rattle.std.proofs.Common.{List, ℕ, sym, ap, subst}
 use Rattle.model.specs.declared.graph.BuildGraph.{BuildGraph}
 use Rattle.model.specs.Graph.{IsMadeOnce}
 use Rattle.model.specs.SingleBuild.{NamesOther}
-use Rattle.build_theory.proofs.Looks.{looks_nothing}
+use Rattle.theory.proofs.Looks.{looks_nothing}
 use Rattle.manifest.specs.Answer.{IsGraph}
 use Rattle.paths.specs.Told.{graph_of}
 use Rattle.builder.specs.Explained.{ExplainsBuild}

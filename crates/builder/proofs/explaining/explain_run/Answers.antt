@@ -1,5 +1,5 @@
 use Rattle.std.proofs.Common.{◌∙◌, List, Bool, length, ap, subst}
-use Rattle.build_theory.proofs.Looks.{looks_then}
+use Rattle.theory.proofs.Looks.{looks_then}
 use Rattle.builder.specs.Explained.{SaysDue}
 use Rattle.builder.proofs.Asking.{order_within, same_edges}
 use Rattle.builder.proofs.explaining.explain_run.Goals as goal

@@ -1,4 +1,4 @@
-use Rattle.build_theory.proofs.Looks.{looks_then}
+use Rattle.theory.proofs.Looks.{looks_then}
 use Rattle.builder.proofs.explaining.explain_state.Goals as goal
 
 pub explain_run-requires-clause-begins : goal.explain_run-requires-clause-begins

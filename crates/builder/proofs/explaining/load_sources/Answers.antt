@@ -1,5 +1,5 @@
 use Rattle.std.proofs.Common.{[], ◌∷◌, ◌++◌}
-use Rattle.build_theory.proofs.Looks.{looks_nothing, looks_then}
+use Rattle.theory.proofs.Looks.{looks_nothing, looks_then}
 use Rattle.builder.proofs.Stopping.{source_next}
 use Rattle.builder.proofs.explaining.load_sources.Goals as goal
 

@@ -5,8 +5,8 @@ use Rattle.model.specs.Graph.{IsMadeOnce}
 use Rattle.model.specs.Outcome.{Behaviour}
 use Rattle.model.specs.Records.{store_in}
 use Rattle.model.specs.SingleBuild.{NamesOther}
-use Rattle.build_theory.proofs.Calls.{cause_then}
-use Rattle.build_theory.proofs.Looks.{looks_then}
+use Rattle.theory.proofs.SiteCalls.{cause_then}
+use Rattle.theory.proofs.Looks.{looks_then}
 use Rattle.links.specs.Told.{declared_by}
 use Rattle.manifest.specs.Answer.{IsGraph}
 use Rattle.builder.specs.declared.report.Report.{Report}

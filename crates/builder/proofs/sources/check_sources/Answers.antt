@@ -1,5 +1,5 @@
 use Rattle.std.proofs.Common.{IfSome, inr, refl, subst}
-use Rattle.build_theory.proofs.Calls.{unrefused_call}
+use Rattle.theory.proofs.SiteCalls.{unrefused_call}
 use Rattle.links.specs.Told.{declared_by}
 use Rattle.paths.specs.Told.{text_at}
 use Rattle.dues.specs.declared.lack.Found.{Found}

@@ -1,6 +1,6 @@
 use Rattle.std.proofs.Common.{◌≡◌, ℕ, true, sym, ◌∙◌, ap, subst, arith}
 use Rattle.std.proofs.lemmas.List.{take_all}
-use Rattle.build_theory.proofs.Calls.{unrefused_call, unrefused_then}
+use Rattle.theory.proofs.SiteCalls.{unrefused_call, unrefused_then}
 use Rattle.paths.specs.Told.{text_at}
 use Rattle.dues.specs.Dues.{is_absent}
 use Rattle.dues.proofs.Stays.{looked_then, passed_by, found_one, none_found}

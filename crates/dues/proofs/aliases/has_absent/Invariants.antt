@@ -1,6 +1,6 @@
 use Rattle.std.proofs.Common.{◌≡◌, false, take}
 use Rattle.std.specs.List.{list_any}
-use Rattle.build_theory.specs.Seen.{Unrefused}
+use Rattle.theory.specs.Seen.{Unrefused}
 use Rattle.looks.specs.Looking.{HasLooked}
 use Rattle.verdict.specs.Facts.{AreIn}
 use Rattle.dues.specs.Quiet.{IfStill}

@@ -1,5 +1,5 @@
 use Rattle.std.proofs.Common.{◌≡◌, [], true, false, suc, refl, sym, ◌∙◌, is_some, rules}
-use Rattle.build_theory.proofs.Orderly.{kept_orderly}
+use Rattle.theory.proofs.Orderly.{kept_orderly}
 use Rattle.links.specs.Links.{links_of}
 use Rattle.links.specs.Told.{declared_by}
 use Rattle.dues.specs.Dues.{reads_due}

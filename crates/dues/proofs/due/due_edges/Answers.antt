@@ -4,8 +4,8 @@ use Rattle.std.proofs.lemmas.List.{take_all, length-set, get_or_default}
 use Rattle.model.specs.Graph.{has_number}
 use Rattle.model.specs.OutOfDate.{IsDue}
 use Rattle.model.specs.Records.{recorded_inputs}
-use Rattle.build_theory.specs.Order.{AreMakersFirst}
-use Rattle.build_theory.proofs.Calls.{unrefused_none, unrefused_call, unrefused_then}
+use Rattle.theory.specs.Order.{AreMakersFirst}
+use Rattle.theory.proofs.SiteCalls.{unrefused_none, unrefused_call, unrefused_then}
 use Rattle.links.specs.Told.{declared_by}
 use Rattle.dues.specs.Dues.{AreDue, AreListed, AreMakersKnown, IsDueEdge}
 use Rattle.looks.proofs.Stays.{looked_none}

@@ -1,7 +1,7 @@
 use Rattle.std.proofs.Common.{◌≡◌, [], ℕ, List, length, take}
 use Rattle.model.specs.Records.{Store}
 use Rattle.model.specs.Schedule.{Step}
-use Rattle.build_theory.specs.Seen.{Unrefused}
+use Rattle.theory.specs.Seen.{Unrefused}
 use Rattle.links.specs.Told.{declared_by}
 use Rattle.looks.specs.Looking.{HasLooked}
 use Rattle.verdict.specs.Summed.{AreSums}

@@ -2,7 +2,7 @@ use Rattle.std.proofs.Common.{◌≡◌, [], Some, None, true, false, suc, sym, 
 use Rattle.std.proofs.lemmas.Bool.{false≢true, false_from_ne_true}
 use Rattle.model.specs.Graph.{has_number}
 use Rattle.model.specs.Schedule.{out_of_date_in}
-use Rattle.build_theory.proofs.Orderly.{kept_orderly}
+use Rattle.theory.proofs.Orderly.{kept_orderly}
 use Rattle.links.specs.Links.{links_of}
 use Rattle.links.specs.Told.{declared_by}
 use Rattle.plan.specs.Planned.{standing_in}

@@ -2,7 +2,7 @@ use Rattle.std.proofs.Common.{◌≡◌, ◌<◌, ℕ, true, List, length, sym, 
 use Rattle.std.proofs.lemmas.List.{take_all}
 use Rattle.model.specs.Graph.{has_number}
 use Rattle.model.specs.OutOfDate.{NoneIsMissing}
-use Rattle.build_theory.proofs.Calls.{unrefused_call, unrefused_then}
+use Rattle.theory.proofs.SiteCalls.{unrefused_call, unrefused_then}
 use Rattle.paths.specs.Told.{texts_at}
 use Rattle.links.specs.Told.{declared_by}
 use Rattle.dues.proofs.Lacking.{missing_passed, missing_found}

@@ -1,5 +1,5 @@
 use Rattle.std.proofs.Common.{take}
-use Rattle.build_theory.specs.Seen.{Unrefused}
+use Rattle.theory.specs.Seen.{Unrefused}
 use Rattle.model.specs.OutOfDate.{NoneIsMissing}
 use Rattle.paths.specs.Told.{texts_at}
 use Rattle.links.specs.Told.{declared_by}

@@ -1,5 +1,5 @@
 use Rattle.std.proofs.Common.{◌≡◌, ℕ, true, Option, Some, IfSome, subst, arith}
-use Rattle.build_theory.proofs.Calls.{unrefused_call, unrefused_then}
+use Rattle.theory.proofs.SiteCalls.{unrefused_call, unrefused_then}
 use Rattle.dues.specs.Dues.{due_at}
 use Rattle.dues.specs.Lacks.{IsSourceFor}
 use Rattle.dues.proofs.Lacking.{edge_passed, edge_found}

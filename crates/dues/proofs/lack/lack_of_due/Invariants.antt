@@ -1,4 +1,4 @@
-use Rattle.build_theory.specs.Seen.{Unrefused}
+use Rattle.theory.specs.Seen.{Unrefused}
 use Rattle.links.specs.Told.{declared_by}
 use Rattle.looks.specs.Looking.{HasLooked}
 use Rattle.dues.specs.Quiet.{IfStill}

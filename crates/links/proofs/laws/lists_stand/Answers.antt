@@ -1,7 +1,7 @@
 use Rattle.std.proofs.Common.{ℕ, sym, ◌∙◌, ap, get_or, arith, List}
 use Rattle.model.specs.declared.graph.Edge.{Edge}
 use Rattle.model.specs.Graph.{outputs, regular_inputs}
-use Rattle.build_theory.proofs.Lists.{has_number-left}
+use Rattle.theory.proofs.Lists.{has_number-left}
 use Rattle.paths.specs.declared.line.Line.{Line}
 use Rattle.paths.specs.declared.manifest.Action.{Action}
 use Rattle.paths.specs.Lists.{line_at, line_regular_inputs}

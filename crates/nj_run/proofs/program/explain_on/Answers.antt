@@ -1,4 +1,4 @@
-use Rattle.build_theory.proofs.Looks.{looks_nothing}
+use Rattle.theory.proofs.Looks.{looks_nothing}
 use Rattle.nj_run.proofs.program.explain_on.Goals as goal
 
 pub returns-in-Err : goal.returns-in-Err

@@ -4,7 +4,7 @@ use Rattle.std.proofs.lemmas.Bool.{false≢true}
 use Rattle.model.specs.declared.graph.BuildGraph.{BuildGraph}
 use Rattle.model.specs.declared.graph.Edge.{Edge}
 use Rattle.model.specs.Graph.{has, edge_at, maker}
-use Rattle.build_theory.proofs.Lists.{bytes_same}
+use Rattle.theory.proofs.Lists.{bytes_same}
 use Rattle.std.proofs.lemmas.Bool.{or_left}
 use Rattle.paths.specs.declared.line.Line.{Line}
 use Rattle.paths.specs.declared.manifest.Action.{Action}

@@ -1,6 +1,6 @@
 use Rattle.std.proofs.Common.{take}
 use Rattle.std.specs.List.{flat_map}
-use Rattle.build_theory.specs.Seen.{Unrefused}
+use Rattle.theory.specs.Seen.{Unrefused}
 use Rattle.links.specs.Links.{links_of}
 use Rattle.looks.specs.Looking.{HasLooked}
 use Rattle.reasons.specs.Why.{HaveAsked}

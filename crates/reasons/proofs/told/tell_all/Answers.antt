@@ -1,6 +1,6 @@
 use Rattle.std.proofs.Common.{◌≡◌, ◌<◌, ◌∙◌, ℕ, [], map, filter, length, sym, ap, subst, arith, rules}
 use Rattle.std.proofs.lemmas.List.{take_all}
-use Rattle.build_theory.proofs.Calls.{unrefused_none, unrefused_call, unrefused_then}
+use Rattle.theory.proofs.SiteCalls.{unrefused_none, unrefused_call, unrefused_then}
 use Rattle.looks.proofs.Stays.{looked_none}
 use Rattle.dues.specs.Dues.{due_at}
 use Rattle.reasons.specs.Why.{AreWhy, edge_in}

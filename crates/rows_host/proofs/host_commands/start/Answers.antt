@@ -2,7 +2,7 @@ use Rattle.std.proofs.Common.{true, refl, ◌∙◌, ap, cond}
 use Rattle.std.proofs.lemmas.Bool.{eq-eqb}
 use Rattle.model.specs.declared.event.Event.TheVariants.{Start}
 use Rattle.model.specs.World.{runs}
-use Rattle.build_theory.proofs.Events.{runs_push}
+use Rattle.theory.proofs.Events.{runs_push}
 use Rattle.rows_host.proofs.host_commands.start.Goals as goal
 
 pub returns : goal.returns

@@ -4,7 +4,7 @@ use Rattle.model.specs.declared.act.Act.{Act}
 use Rattle.model.specs.declared.event.Event.TheVariants.{Start}
 use Rattle.model.specs.World.{World, runs}
 use Rattle.model.specs.Calls.{Starts}
-use Rattle.build_theory.proofs.Events.{runs_push}
+use Rattle.theory.proofs.Events.{runs_push}
 use Rattle.rows_worlds.proofs.toys.run_with.Goals as goal
 
 one_runs : {act : Act} {old new : World} → Starts true 1 act old new → runs 1 new.events ≡ true

@@ -1,6 +1,6 @@
 use Rattle.std.proofs.Common.{◌∙◌}
 use Rattle.model.specs.SingleBuild.{task_of}
-use Rattle.build_theory.proofs.Calls.{unrefused_call, unrefused_then}
+use Rattle.theory.proofs.SiteCalls.{unrefused_call, unrefused_then}
 use Rattle.runner.proofs.Cutting.{starts_then}
 use Rattle.runner.proofs.Onward.{may_finish, none_runs}
 use Rattle.runner.proofs.Results.{on_err}

@@ -1,5 +1,5 @@
 use Rattle.std.proofs.Common.{◌≡◌, false, None}
-use Rattle.build_theory.specs.Seen.{Unrefused, StartsUnrefused}
+use Rattle.theory.specs.Seen.{Unrefused, StartsUnrefused}
 use Rattle.runner.specs.After.{ComesAfter, LooksUnlessMore}
 use Rattle.runner.specs.Course.{Course, goes_on, Suits, IsOn}
 use Rattle.runner.specs.Going.{work_left}

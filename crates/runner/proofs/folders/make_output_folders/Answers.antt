@@ -1,4 +1,4 @@
-use Rattle.build_theory.proofs.Calls.{looks_then, unrefused_call, unrefused_then}
+use Rattle.theory.proofs.SiteCalls.{looks_then, unrefused_call, unrefused_then}
 use Rattle.runner.proofs.Places.{read_item, output_within}
 use Rattle.runner.proofs.folders.make_output_folders.Goals as goal
 

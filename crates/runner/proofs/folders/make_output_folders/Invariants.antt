@@ -1,5 +1,5 @@
 use Rattle.model.specs.Calls.{OnlyLooks}
-use Rattle.build_theory.specs.Seen.{Unrefused}
+use Rattle.theory.specs.Seen.{Unrefused}
 use Rattle.runner.proofs.folders.make_output_folders.Given as goal
 
 abbrev pub invariant-loop-output : goal.invariant-loop-output

@@ -1,7 +1,7 @@
 use Rattle.std.proofs.Common.{true, refl, ◌∙◌, ap}
-use Rattle.build_theory.proofs.Calls.{looks_none}
+use Rattle.theory.proofs.SiteCalls.{looks_none}
 use Rattle.build_log.specs.Found.{texts_in}
-use Rattle.log_theory.proofs.Writing.{looks_at}
+use Rattle.theory.proofs.Writing.{looks_at}
 use Rattle.runner.proofs.Cutting.{cause_none}
 use Rattle.runner.proofs.Launched.{err_then}
 use Rattle.runner.proofs.Recording.{taken_some, taken_once, cut_telling, tells_nothing, reported, cut_reporting}

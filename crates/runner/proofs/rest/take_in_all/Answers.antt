@@ -1,6 +1,6 @@
 use Rattle.std.proofs.Common.{Some, ◌∙◌, ap}
-use Rattle.build_theory.proofs.Calls.{unrefused_call, unrefused_then}
-use Rattle.log_theory.proofs.Ledger.{cut_looks, cut_finishes}
+use Rattle.theory.proofs.SiteCalls.{unrefused_call, unrefused_then}
+use Rattle.theory.proofs.Ledger.{cut_looks, cut_finishes}
 use Rattle.runner.proofs.Counting.{some_of_many, many_less}
 use Rattle.runner.proofs.Cutting.{some_still}
 use Rattle.runner.proofs.Results.{on_err}

@@ -1,7 +1,7 @@
 use Rattle.std.proofs.Common.{◌≡◌, ℕ, List, Option}
 use Rattle.model.specs.Schedule.{Step as Done}
-use Rattle.build_theory.specs.Seen.{Unrefused}
-use Rattle.log_theory.specs.Ledger.{IsCutOff}
+use Rattle.theory.specs.Seen.{Unrefused}
+use Rattle.theory.specs.Ledger.{IsCutOff}
 use Rattle.runner.specs.After.{ComesAfter}
 use Rattle.runner.specs.Course.{Course}
 use Rattle.runner.specs.Cutting.{SoManyRun}

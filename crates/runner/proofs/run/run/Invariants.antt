@@ -1,5 +1,5 @@
 use Rattle.std.proofs.Common.{◌≡◌, true, None}
-use Rattle.build_theory.specs.Seen.{Unrefused, StartsUnrefused}
+use Rattle.theory.specs.Seen.{Unrefused, StartsUnrefused}
 use Rattle.verdict.specs.Lasting.{AreMarked}
 use Rattle.verdict.specs.Summed.{AreSums}
 use Rattle.runner.specs.After.{ComesAfter, LooksUnlessMore}

@@ -2,7 +2,7 @@ use Rattle.std.proofs.Common.{ℕ, ◌<◌, List, slice_set, Err, subst, ap, sym
 use Rattle.std.specs.Vec.{with_items}
 use Rattle.std.proofs.lemmas.Result.{err_from_is_err_and}
 use Rattle.model.specs.World.{runs}
-use Rattle.build_theory.proofs.Calls.{unrefused_call, unrefused_then, cause_then}
+use Rattle.theory.proofs.SiteCalls.{unrefused_call, unrefused_then, cause_then}
 use Rattle.plan.specs.declared.step.Standing.{Standing}
 use Rattle.runner.specs.Going.{work_left}
 use Rattle.runner.proofs.Cutting.{cause_err}

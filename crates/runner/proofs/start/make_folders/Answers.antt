@@ -1,4 +1,4 @@
-use Rattle.build_theory.proofs.Calls.{looks_then}
+use Rattle.theory.proofs.SiteCalls.{looks_then}
 use Rattle.runner.proofs.start.make_folders.Goals as goal
 
 pub returns-in_err-make_output_folders-clause-looks : goal.returns-in_err-make_output_folders-clause-looks

@@ -1,5 +1,5 @@
 use Rattle.std.proofs.Common.{suc}
-use Rattle.build_theory.proofs.Calls.{looks_then}
+use Rattle.theory.proofs.SiteCalls.{looks_then}
 use Rattle.runner.proofs.Results.{on_err, ok_then}
 use Rattle.runner.proofs.Launched.{err_then}
 use Rattle.runner.proofs.Begins.{declared_once, declared_some, next_command, cut_looking, cut_beginning, begun_now}

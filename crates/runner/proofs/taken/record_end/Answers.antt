@@ -2,7 +2,7 @@ use Rattle.std.proofs.Common.{◌≡◌, ◌≢◌, ℕ, [], ◌∙◌, None, ge
 use Rattle.model.specs.declared.act.Act.{Act}
 use Rattle.model.specs.declared.graph.Deps.TheVariants.{Gcc}
 use Rattle.model.specs.Calls.{Writes, WritesOrNot}
-use Rattle.log_theory.proofs.Writing.{writes_or_not_at}
+use Rattle.theory.proofs.Writing.{writes_or_not_at}
 use Rattle.runner.proofs.Places.{read_item}
 use Rattle.runner.specs.Removing.{EndsByRemoving}
 use Rattle.runner.proofs.Results.{ok_then, on_err}

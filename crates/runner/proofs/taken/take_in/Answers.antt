@@ -4,7 +4,7 @@ use Rattle.model.specs.declared.act.Act.{Act}
 use Rattle.model.specs.declared.graph.BuildGraph.{BuildGraph}
 use Rattle.model.specs.Calls.{Finishes}
 use Rattle.model.specs.Graph.{edge_at}
-use Rattle.build_theory.proofs.Calls.{unrefused_call, unrefused_then}
+use Rattle.theory.proofs.SiteCalls.{unrefused_call, unrefused_then}
 use Rattle.plan.specs.Standing.{standing_at}
 use Rattle.runner.proofs.Cutting.{some_still, cause_err, cuts_then}
 use Rattle.runner.proofs.Ends.{cut_looking}

@@ -1,4 +1,4 @@
-use Rattle.build_theory.proofs.Looks.{looks_then}
+use Rattle.theory.proofs.Looks.{looks_then}
 use Rattle.stand_in.proofs.Opening.{unread_alone}
 use Rattle.stand_in.proofs.Stages.{alone_by, alone_last, unread_last}
 use Rattle.stand_in.proofs.build.read_alone.Goals as goal

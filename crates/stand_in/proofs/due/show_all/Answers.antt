@@ -1,4 +1,4 @@
-use Rattle.build_theory.proofs.Looks.{looks_then}
+use Rattle.theory.proofs.Looks.{looks_then}
 use Rattle.stand_in.proofs.due.show_all.Goals as goal
 
 pub returns-in_err-show_one : goal.returns-in_err-show_one

@@ -1,4 +1,4 @@
-use Rattle.build_theory.proofs.Looks.{looks_nothing}
+use Rattle.theory.proofs.Looks.{looks_nothing}
 use Rattle.stand_in.proofs.Telling.{asks_looks}
 use Rattle.stand_in.proofs.due.show_one.Goals as goal
 

@@ -1,4 +1,4 @@
-use Rattle.build_theory.proofs.Looks.{looks_then}
+use Rattle.theory.proofs.Looks.{looks_then}
 use Rattle.stand_in.proofs.processors.default_jobs.Goals as goal
 use Rattle.stand_in.proofs.processors.default_jobs.Goals.{in-Some, in-None}
 

@@ -1,4 +1,4 @@
-use Rattle.build_theory.proofs.Looks.{looks_then}
+use Rattle.theory.proofs.Looks.{looks_then}
 use Rattle.stand_in.proofs.processors.granted.Goals as goal
 
 pub returns : goal.returns

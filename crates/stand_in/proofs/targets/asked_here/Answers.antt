@@ -1,7 +1,7 @@
 use Rattle.std.proofs.Common.{◌≡◌, false}
 use Rattle.tools.specs.declared.fault.Fault.{Fault}
 use Rattle.tools.specs.declared.fault.Fault.TheVariants.{Memory}
-use Rattle.build_theory.proofs.Looks.{looks_nothing}
+use Rattle.theory.proofs.Looks.{looks_nothing}
 use Rattle.stand_in.proofs.Calls.{if_err_by, if_err_each, on_ok}
 use Rattle.stand_in.proofs.Ready.{keeps_none}
 use Rattle.stand_in.proofs.Stages.{looked_nothing}

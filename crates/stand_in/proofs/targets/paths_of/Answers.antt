@@ -1,4 +1,4 @@
-use Rattle.build_theory.proofs.Looks.{looks_nothing}
+use Rattle.theory.proofs.Looks.{looks_nothing}
 use Rattle.stand_in.proofs.Calls.{if_err_each, on_ok}
 use Rattle.stand_in.proofs.Ready.{keeps_none}
 use Rattle.stand_in.proofs.Stages.{looked_nothing}

@@ -1,4 +1,4 @@
-use Rattle.build_theory.proofs.Looks.{looks_then}
+use Rattle.theory.proofs.Looks.{looks_then}
 use Rattle.stand_in.proofs.tools_here.answer_alone.Goals as goal
 
 pub answer_read-requires : goal.answer_read-requires

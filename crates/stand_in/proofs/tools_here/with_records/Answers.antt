@@ -1,4 +1,4 @@
-use Rattle.build_theory.proofs.Looks.{looks_then}
+use Rattle.theory.proofs.Looks.{looks_then}
 use Rattle.stand_in.proofs.tools_here.with_records.Goals as goal
 
 pub returns-in_err-told : goal.returns-in_err-told

@@ -1,4 +1,4 @@
-use Rattle.build_theory.proofs.Looks.{looks_nothing, looks_then}
+use Rattle.theory.proofs.Looks.{looks_nothing, looks_then}
 use Rattle.tools.proofs.dyndeps.load_dyndeps.Goals as goal
 
 pub returns-in_err-files_of : goal.returns-in_err-files_of

@@ -1,4 +1,4 @@
-use Rattle.build_theory.proofs.Looks.{looks_then}
+use Rattle.theory.proofs.Looks.{looks_then}
 use Rattle.tools.proofs.Logging.{if_err_each, keeps_none, looked_then}
 use Rattle.tools.proofs.Putting.{on_ok}
 use Rattle.tools.proofs.recorded.read_joined.Goals as goal

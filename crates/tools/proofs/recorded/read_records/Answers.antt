@@ -1,5 +1,5 @@
-use Rattle.build_theory.proofs.Calls.{unrefused_call}
-use Rattle.build_theory.proofs.Looks.{looks_nothing}
+use Rattle.theory.proofs.SiteCalls.{unrefused_call}
+use Rattle.theory.proofs.Looks.{looks_nothing}
 use Rattle.tools.proofs.Logging.{if_err_each, memory_goes_on, some_known}
 use Rattle.tools.proofs.recorded.read_records.Goals as goal
 

@@ -1,4 +1,4 @@
-use Rattle.build_theory.proofs.Looks.{looks_nothing, looks_then}
+use Rattle.theory.proofs.Looks.{looks_nothing, looks_then}
 use Rattle.tools.proofs.told_deps.deps.Goals as goal
 
 pub loop-path-init : goal.loop-path-init

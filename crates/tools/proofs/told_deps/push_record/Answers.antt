@@ -1,4 +1,4 @@
-use Rattle.build_theory.proofs.Looks.{looks_nothing}
+use Rattle.theory.proofs.Looks.{looks_nothing}
 use Rattle.tools.proofs.told_deps.push_record.Goals as goal
 
 pub returns-in-None : goal.returns-in-None

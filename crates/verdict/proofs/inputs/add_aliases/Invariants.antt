@@ -1,7 +1,7 @@
 use Rattle.std.proofs.Common.{take}
 use Rattle.verdict.specs.Lasting.{AreMarked}
 use Rattle.verdict.specs.Summed.{AreSums, HasJoined}
-use Rattle.build_theory.specs.Seen.{Unrefused}
+use Rattle.theory.specs.Seen.{Unrefused}
 use Rattle.looks.specs.Looking.{HasLooked}
 use Rattle.verdict.proofs.inputs.add_aliases.Given as goal
 

@@ -1,7 +1,7 @@
 use Rattle.std.proofs.Common.{◌<◌, ◌∙◌, ℕ, false, List, length, sym, ap, subst, arith}
 use Rattle.std.specs.List.{flat_map}
 use Rattle.std.proofs.lemmas.List.{take_all}
-use Rattle.build_theory.proofs.Calls.{unrefused_none, unrefused_call, unrefused_then}
+use Rattle.theory.proofs.SiteCalls.{unrefused_none, unrefused_call, unrefused_then}
 use Rattle.looks.proofs.Stays.{looked_none}
 use Rattle.links.specs.Links.{links_of}
 use Rattle.verdict.specs.Facts.{HasTaken}

@@ -2,7 +2,7 @@ use Rattle.std.proofs.Common.{take, false}
 use Rattle.std.specs.List.{flat_map}
 use Rattle.links.specs.Links.{links_of}
 use Rattle.verdict.specs.Facts.{HasTaken}
-use Rattle.build_theory.specs.Seen.{Unrefused}
+use Rattle.theory.specs.Seen.{Unrefused}
 use Rattle.looks.specs.Looking.{HasLooked}
 use Rattle.verdict.proofs.inputs.add_edges.Given as goal
 

@@ -1,6 +1,6 @@
 use Rattle.std.proofs.Common.{◌<◌, ◌∷◌, [], ℕ, List, length, sym, subst, arith}
 use Rattle.std.proofs.lemmas.List.{take_all}
-use Rattle.build_theory.proofs.Calls.{unrefused_none, unrefused_call, unrefused_then}
+use Rattle.theory.proofs.SiteCalls.{unrefused_none, unrefused_call, unrefused_then}
 use Rattle.looks.proofs.Stays.{looked_none}
 use Rattle.verdict.specs.Facts.{HasTaken}
 use Rattle.verdict.proofs.Reasons.{at_has}

@@ -1,6 +1,6 @@
 use Rattle.std.proofs.Common.{take}
 use Rattle.verdict.specs.Facts.{HasTaken}
-use Rattle.build_theory.specs.Seen.{Unrefused}
+use Rattle.theory.specs.Seen.{Unrefused}
 use Rattle.looks.specs.Looking.{HasLooked}
 use Rattle.verdict.proofs.inputs.add_paths.Given as goal
 

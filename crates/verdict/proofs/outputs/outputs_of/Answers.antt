@@ -2,7 +2,7 @@ use Rattle.std.proofs.Common.{◌<◌, ◌∙◌, ℕ, List, length, sym, ap, su
 use Rattle.std.proofs.lemmas.List.{take_all}
 use Rattle.model.specs.OutOfDate.{deps_start}
 use Rattle.model.specs.Records.{in_force, deps_in_force}
-use Rattle.build_theory.proofs.Calls.{unrefused_none, unrefused_call, unrefused_then}
+use Rattle.theory.proofs.SiteCalls.{unrefused_none, unrefused_call, unrefused_then}
 use Rattle.paths.specs.Told.{text_at}
 use Rattle.looks.specs.Seen.{IfKept, IsStampIn}
 use Rattle.verdict.specs.Facts.{HasOutputs}

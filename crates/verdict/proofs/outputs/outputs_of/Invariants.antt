@@ -1,7 +1,7 @@
 use Rattle.std.proofs.Common.{List, take}
 use Rattle.model.specs.declared.record.Record.{Record}
 use Rattle.model.specs.declared.record.DepsRecord.{DepsRecord}
-use Rattle.build_theory.specs.Seen.{Unrefused}
+use Rattle.theory.specs.Seen.{Unrefused}
 use Rattle.looks.specs.Looking.{HasLooked}
 use Rattle.looks.specs.Seen.{IfKept}
 use Rattle.verdict.specs.Facts.{AreKnownOf, HasOutputs}

@@ -1,7 +1,7 @@
 use Rattle.std.proofs.Common.{◌≡◌, ◌∙◌, ◌<◌, ◌++◌, ◌∷◌, [], ap, subst, arith, length}
 use Rattle.std.specs.List.{AllByRecursion}
 use Rattle.std.proofs.lemmas.List.{length-set}
-use Rattle.build_theory.proofs.Lists.{all_parts}
+use Rattle.theory.proofs.Lists.{all_parts}
 use Rattle.links.proofs.Ends.{popped_next}
 use Rattle.links.proofs.Lists.{length-pushed}
 use Rattle.links.proofs.users.Users.pop_all.Goals as goal

@@ -2,7 +2,7 @@ use Rattle.std.proofs.Common.{◌≡◌, ℕ, ◌<◌, true, List, length, sym, 
 use Rattle.std.proofs.lemmas.Bool.{false≢true}
 use Rattle.std.proofs.lemmas.List.{take_all, length-set}
 use Rattle.model.specs.Graph.{has_number}
-use Rattle.build_theory.proofs.Calls.{unrefused_none, unrefused_call, unrefused_then}
+use Rattle.theory.proofs.SiteCalls.{unrefused_none, unrefused_call, unrefused_then}
 use Rattle.looks.specs.declared.table.Looks.{Looks}
 use Rattle.looks.specs.Seen.{look_at, look_of, is_asked}
 use Rattle.looks.proofs.Slices.{item_has, there_last}

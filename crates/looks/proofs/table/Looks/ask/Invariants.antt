@@ -1,6 +1,6 @@
 use Rattle.std.proofs.Common.{◌≡◌, ℕ, true, take}
 use Rattle.model.specs.Graph.{has_number}
-use Rattle.build_theory.specs.Seen.{Unrefused}
+use Rattle.theory.specs.Seen.{Unrefused}
 use Rattle.looks.specs.Looking.{HasLooked}
 use Rattle.looks.specs.Seen.{look_at, is_asked}
 use Rattle.looks.proofs.table.Looks.ask.Given as goal

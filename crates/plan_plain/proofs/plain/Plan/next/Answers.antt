@@ -1,6 +1,6 @@
 use Rattle.std.proofs.Common.{◌∙◌, sym, arith}
 use Rattle.std.proofs.lemmas.Bool.{false≢true}
-use Rattle.build_theory.proofs.Loads.{none_is_due}
+use Rattle.theory.proofs.Loads.{none_is_due}
 use Rattle.plan_plain.proofs.Waiting.{none_named}
 use Rattle.plan_plain.proofs.Deciding.{judge_lawful, none_judged, start_lawful, none_started, some_run, none_run, some_failed, none_failed}
 use Rattle.plan_plain.proofs.plain.Plan.next.Goals as goal

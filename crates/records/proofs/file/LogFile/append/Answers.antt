@@ -1,7 +1,7 @@
 use Rattle.std.proofs.Common.{inl, ℕ, List, subst, ap, ◌∙◌}
 use Rattle.model.specs.Calls.{Appends, AppendsOrNot}
-use Rattle.log_theory.specs.Writes.{WritesAt}
-use Rattle.log_theory.proofs.Writing.{then_at, appends_at, appends_or_not_at}
+use Rattle.theory.specs.Writes.{WritesAt}
+use Rattle.theory.proofs.Writing.{then_at, appends_at, appends_or_not_at}
 use Rattle.records.specs.Held.{Held}
 use Rattle.records.proofs.Results.{on_err}
 use Rattle.records.proofs.Appending.{append_ok, append_more, append_err}

@@ -1,4 +1,4 @@
-use Rattle.build_theory.proofs.Looks.{looks_then}
+use Rattle.theory.proofs.Looks.{looks_then}
 use Rattle.build_log.specs.Log.{Keeps, compaction}
 use Rattle.build_log.specs.Record.{forms}
 use Rattle.deps_log.specs.Log.{Keeps as KeepsDeps, compaction as deps_compaction}

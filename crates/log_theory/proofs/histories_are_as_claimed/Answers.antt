@@ -1,5 +1,0 @@
-use Rattle.log_theory.proofs.Over as law
-use Rattle.log_theory.proofs.histories_are_as_claimed.Goals as goal
-
-pub returns : goal.returns
-returns c = law.histories_are_as_claimed

@@ -1,5 +1,0 @@
-use Rattle.log_theory.proofs.Over as law
-use Rattle.log_theory.proofs.no_logs_are_faithful.Goals as goal
-
-pub returns : goal.returns
-returns c = law.no_logs_are_faithful

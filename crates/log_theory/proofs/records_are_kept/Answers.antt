@@ -1,5 +1,0 @@
-use Rattle.log_theory.proofs.Recorded as recorded
-use Rattle.log_theory.proofs.records_are_kept.Goals as goal
-
-pub returns : goal.returns
-returns c = recorded.records_are_kept

@@ -1,5 +1,0 @@
-use Rattle.log_theory.proofs.Carried as carried
-use Rattle.log_theory.proofs.verdict_stands.Goals as goal
-
-pub returns : goal.returns
-returns c = carried.verdict_stands

@@ -1,5 +1,0 @@
-use Rattle.log_theory.proofs.Turned as law
-use Rattle.log_theory.proofs.verdicts_with_loads.Goals as goal
-
-pub returns : goal.returns
-returns c = law.verdicts_with_loads

@@ -1,0 +1,13 @@
+pub mod Order
+pub mod Run
+pub mod RunLaws
+pub mod Seen
+pub mod Logged
+pub mod Judged
+pub mod LogLaws
+pub mod Histories
+pub mod Builds
+pub mod Driving
+pub mod Writes
+pub mod Alone
+pub mod Ledger
