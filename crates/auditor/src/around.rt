@@ -2,9 +2,9 @@
 
 use crate::graphs::{maker_of, text_of};
 use audit::{Around, canonical_at};
-use build_log::Log;
 use indexmap::IndexMap;
 use links::Graph;
+use log_text::BuildLog;
 use paths::{EdgeId, PathId, Paths};
 use std::alloc::{AllocError, Global};
 use text::Path;
@@ -16,7 +16,7 @@ pub struct Names {
     folder: String,
     makers: IndexMap<String, Option<EdgeId>>,
     /// The build log, if there is one.
-    log: Option<Log>,
+    log: Option<BuildLog>,
 }
 
 impl Names {
@@ -25,7 +25,7 @@ impl Names {
         alloc: Global,
         graph: &Graph,
         folder: &str,
-        log: Option<Log>,
+        log: Option<BuildLog>,
     ) -> Result<Names, AllocError> {
         let mut names = Names {
             folder: String::from_str(alloc, folder)?,

@@ -3,8 +3,8 @@
 use crate::around::Names;
 use crate::graphs::{action_of, order_only_inputs_of, outputs_of, regular_inputs_of, text_of};
 use audit::Lists;
-use deps_log::Log;
 use links::Graph;
+use log_text::DepsLog;
 use model::Act;
 use paths::{Action, EdgeId, PathId, Paths};
 use std::alloc::{AllocError, Global};
@@ -15,7 +15,7 @@ pub struct Declared<'d> {
     pub graph: &'d Graph,
     pub names: &'d Names,
     /// The deps log, if there is one.
-    pub deps: Option<&'d Log>,
+    pub deps: Option<&'d DepsLog>,
 }
 
 /// The paths of an edge.
@@ -180,7 +180,7 @@ fn push_all_reported(
 fn push_reported(
     alloc: Global,
     declared: Declared<'_>,
-    log: &Log,
+    log: &DepsLog,
     output: &str,
     table: &mut Paths,
 ) -> Result<(), AllocError> {

@@ -10,9 +10,8 @@ use crate::listed::{Declared, lists_of};
 use crate::tally::Tally;
 use crate::twins::Twins;
 use audit::{Around, Breach, Lists, Use, Uses, Whole, breaches, connects, uses_of, wholes_of};
-use build_log::Log as BuildLog;
-use deps_log::Log;
 use links::Graph;
+use log_text::{BuildLog, DepsLog};
 use paths::{EdgeId, PathId, Paths};
 use std::alloc::{AllocError, Global};
 use text::{Items, Path};
@@ -24,7 +23,7 @@ pub struct Auditor {
     alloc: Global,
     graph: Graph,
     /// The deps log, if there is one.
-    deps: Option<Log>,
+    deps: Option<BuildLog>,
     names: Names,
     twins: Twins,
 }
@@ -36,7 +35,7 @@ impl Auditor {
         graph: Graph,
         folder: &str,
         log: Option<BuildLog>,
-        deps: Option<Log>,
+        deps: Option<BuildLog>,
     ) -> Result<Auditor, AllocError> {
         let names = Names::of(alloc, &graph, folder, log)?;
         Ok(Auditor {

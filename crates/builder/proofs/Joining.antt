@@ -14,8 +14,8 @@ use Rattle.model.specs.declared.record.DepsRecord.{DepsRecord}
 use Rattle.model.specs.Graph.{has, has_number, edge_at, no_edge, outputs}
 use Rattle.model.specs.Records.{Store, Told, in_force, deps_in_force, is_known, paths_in, all_paths_in, recorded_inputs}
 use Rattle.theory.proofs.Lists.{has_number-append, has_number-push, has_number-push_other}
-use Rattle.build_log.specs.Kept.{if_some, texts_at as logged_at}
-use Rattle.deps_log.specs.Log.{tolds}
+use Rattle.log_text.specs.Kept.{if_some, texts_at as logged_at}
+use Rattle.log_text.specs.DepsLog.{tolds}
 use Rattle.paths.specs.declared.line.Line.{Line}
 use Rattle.paths.specs.declared.manifest.Action.{Action}
 use Rattle.paths.specs.declared.manifest.Action.TheVariants.{Alias, Command}

@@ -12,14 +12,14 @@ use Rattle.model.specs.Records.{LogFormat, OwnFiles, Store, read_log, store_in, 
 use Rattle.theory.specs.Seen.{IsSeen, Looked, Unrefused}
 use Rattle.theory.proofs.SiteCalls.{seen_since}
 use Rattle.theory.proofs.Looks.{logs_left, looks_saw}
-use Rattle.build_log.specs.declared.form.Version.{Version}
-use Rattle.build_log.specs.Form.{Form}
-use Rattle.build_log.specs.Laws.{Reads}
-use Rattle.build_log.specs.Log.{Keeps, compaction}
-use Rattle.build_log.specs.Record.{forms}
-use Rattle.deps_log.specs.Format.{ReadsLogs}
-use Rattle.deps_log.specs.Log.{Keeps as KeepsDeps, compaction as deps_compaction}
-use Rattle.deps_log.specs.Record.{forms as deps_forms}
+use Rattle.log_text.specs.declared.form.Version.{Version}
+use Rattle.log_text.specs.Form.{Form}
+use Rattle.log_text.specs.Laws.{Reads}
+use Rattle.log_text.specs.BuildLog.{Keeps, compaction}
+use Rattle.log_text.specs.BuildRecord.{forms}
+use Rattle.log_text.specs.DepsFormat.{ReadsLogs}
+use Rattle.log_text.specs.DepsLog.{Keeps as KeepsDeps, compaction as deps_compaction}
+use Rattle.log_text.specs.DepsRecordLine.{forms as deps_forms}
 use Rattle.depfile.specs.Depfile.{IsReading}
 use Rattle.theory.specs.Logged.{IsLoggedAt}
 use Rattle.links.specs.declared.graph.Graph.{Graph}

@@ -12,7 +12,7 @@ use Rattle.model.specs.Calls.{OnlyLooks, HasCause}
 use Rattle.model.specs.Outcome.{Behaviour}
 use Rattle.model.specs.Records.{store_in}
 use Rattle.theory.proofs.SiteCalls.{unrefused_call}
-use Rattle.deps_log.specs.Format.{HasFormat}
+use Rattle.log_text.specs.DepsFormat.{HasFormat}
 use Rattle.depfile.specs.Depfile.{HasReading}
 use Rattle.dyndep_law.specs.Readings.{HasReading as HasDyndeps}
 use Rattle.links.specs.Extended.{addition_of}

@@ -14,7 +14,7 @@ use Rattle.model.specs.Premises.{FilesAreKept}
 use Rattle.model.specs.Records.{LogFormat, OwnFiles, IsOwnIn}
 use Rattle.model.specs.History.{IsHeadline}
 use Rattle.model.specs.Kept.{KeepsLogs}
-use Rattle.deps_log.specs.Format.{ReadsLogs}
+use Rattle.log_text.specs.DepsFormat.{ReadsLogs}
 use Rattle.depfile.specs.Depfile.{IsReading}
 use Rattle.model.specs.Phases.{steps_of}
 use Rattle.model.specs.SingleBuild.{Asked, Answer, is_fault, NamesOther, SingleBuild, asked_with}

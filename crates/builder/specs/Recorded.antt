@@ -11,7 +11,7 @@ use Rattle.paths.specs.Told.{text_at, texts_at}
 use Rattle.links.specs.declared.graph.Graph.{Graph}
 use Rattle.links.specs.Held.{list_at}
 use Rattle.links.specs.Told.{declared_by, recorded_by, AreSameInputs}
-use Rattle.build_log.specs.Kept.{joined}
+use Rattle.log_text.specs.Kept.{joined}
 use Rattle.records.specs.declared.records.Records.{Records}
 use Rattle.records.specs.Known.{AreKnown}
 

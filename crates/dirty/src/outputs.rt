@@ -5,7 +5,7 @@ ghost use Rattle.model.specs.Judgement.{has_other_act, is_same_number, start_of}
 ghost use Rattle.dirty.specs.Summaries.{AreOutputs, TakesOutput};
 
 use crate::stamps::earlier_of;
-use build_log::Done;
+use log_text::Done;
 use model::Act;
 use std::marker::Model;
 
@@ -23,7 +23,7 @@ pub struct OutputFacts<'a> {
 impl<'a> Model for OutputFacts<'a> {
     ghost use Rattle.std.specs.Option.{option_map, option_copied};
     ghost use Rattle.model.specs.Judgement.{OutputFacts};
-    ghost use Rattle.build_log.specs.Log.{made_of};
+    ghost use Rattle.log_text.specs.BuildLog.{made_of};
 
     ghost Value = { OutputFacts };
 

@@ -21,7 +21,7 @@ use Rattle.model.specs.Premises.{HaveEnded}
 use Rattle.model.specs.Records.{LogFormat, OwnFiles, IsOwnIn, file_in, build_log_name, deps_log_name}
 use Rattle.model.specs.SingleBuild.{Asked, Answer, SingleBuild, is_fault, asked_with}
 use Rattle.model.specs.World.{World, View, IsIdle}
-use Rattle.deps_log.specs.Format.{ReadsLogs, HasFormat}
+use Rattle.log_text.specs.DepsFormat.{ReadsLogs, HasFormat}
 use Rattle.depfile.specs.Depfile.{IsReading, HasReading}
 use Rattle.dyndep_law.specs.Readings.{HasReading as HasDyndeps}
 use Rattle.links.specs.Extended.{addition_of}

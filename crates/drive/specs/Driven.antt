@@ -19,7 +19,7 @@ use Rattle.model.specs.Records.{LogFormat, OwnFiles, IsOwnIn}
 use Rattle.model.specs.SingleBuild as answer
 use Rattle.model.specs.SingleBuild.{Asked, Answer, SingleBuild, asked_with}
 use Rattle.model.specs.World.{World, View}
-use Rattle.deps_log.specs.Format.{ReadsLogs}
+use Rattle.log_text.specs.DepsFormat.{ReadsLogs}
 use Rattle.depfile.specs.Depfile.{IsReading}
 use Rattle.manifest.specs.Answer.{IsGraph}
 use Rattle.manifest.specs.declared.fault.ReadError.{ReadError}

@@ -14,7 +14,7 @@ use Rattle.model.specs.Outcome.{Behaviour}
 use Rattle.model.specs.Premises.{HaveEnded}
 use Rattle.model.specs.Records.{LogFormat}
 use Rattle.model.specs.World.{World, View}
-use Rattle.deps_log.specs.Format.{ReadsLogs}
+use Rattle.log_text.specs.DepsFormat.{ReadsLogs}
 use Rattle.depfile.specs.Depfile.{IsReading}
 use Rattle.theory.specs.Histories.{HasHeadline}
 use Rattle.builder.specs.Build.{IsBuild}

@@ -10,8 +10,8 @@ ghost use Rattle.drive.specs.Moves.{reports_fault, builds_among, IsReported, IsC
 use crate::edits::{delete, write};
 use builder::{Options, Report, build};
 use depfile::has_reading;
-use deps_log::has_format;
 use dyndep_law::has_reading as has_dyndeps;
+use log_text::has_format;
 use model::Move;
 use site::Site;
 use std::alloc::{AllocError, Global};

@@ -7,11 +7,11 @@ use Rattle.model.specs.Outcome.{Behaviour}
 use Rattle.model.specs.Records.{Store, LogFormat, OwnFiles, IsOwnIn, store_in, recorded_inputs}
 use Rattle.model.specs.Schedule.{Step, Judged, Started, Ended}
 use Rattle.model.specs.Premises.{Premises, KeepsFaith}
-use Rattle.build_log.specs.declared.form.Version.TheVariants.{Two}
-use Rattle.build_log.specs.Form.{HaveLines}
-use Rattle.build_log.specs.Record.{forms as record_forms}
-use Rattle.deps_log.specs.Record.{forms as deps_forms}
-use Rattle.deps_log.specs.Format.{ReadsLogs}
+use Rattle.log_text.specs.declared.form.Version.TheVariants.{Two}
+use Rattle.log_text.specs.Form.{HaveLines}
+use Rattle.log_text.specs.BuildRecord.{forms as record_forms}
+use Rattle.log_text.specs.DepsRecordLine.{forms as deps_forms}
+use Rattle.log_text.specs.DepsFormat.{ReadsLogs}
 use Rattle.met.specs.Scanning.{edges, toys, own, told, store_of}
 use Rattle.met.specs.Worlds.{failed_log, stopped_log, built_log, last_log, failing, stopping, succeeding, again, named, failed, edited, stopped, restarted_world, built, edited_again, last}
 use Rattle.met.proofs.Given.{ReadsNames, h_is_name, k_is_name}

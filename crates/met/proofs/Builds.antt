@@ -12,7 +12,7 @@ use Rattle.model.specs.Records.{Store, LogFormat, OwnFiles, IsOwnIn, tick_name, 
 use Rattle.model.specs.OutOfDate.{IsVerdict}
 use Rattle.model.specs.Schedule.{Step, Judged, Started, Ended, IsSettled, Done, done_in}
 use Rattle.model.specs.SingleBuild.{SingleBuild, Success, Failed, Fault, InCone, IsOfBuild, MayChange}
-use Rattle.deps_log.specs.Format.{ReadsLogs}
+use Rattle.log_text.specs.DepsFormat.{ReadsLogs}
 use Rattle.met.specs.Scanning.{cat, scan, edges, asked, toys}
 use Rattle.met.specs.Worlds.{failing, stopping, succeeding, again, named, failed_events, failed, edited, stopped, restarted_world, built_events, built, edited_again, more_events, last}
 use Rattle.met.proofs.Lists.{none_some}

@@ -9,11 +9,11 @@ use Rattle.model.specs.declared.record.Record.{Record}
 use Rattle.model.specs.World.{World, file_at, view_of}
 use Rattle.model.specs.Calls.{content_or_empty}
 use Rattle.model.specs.Records.{build_log_name, deps_log_name, tick_name}
-use Rattle.build_log.specs.declared.form.Version.TheVariants.{Two}
-use Rattle.build_log.specs.Form.{Form, record_line, lines_text}
-use Rattle.build_log.specs.Text.{header}
-use Rattle.build_log.specs.Record.{forms as record_forms}
-use Rattle.deps_log.specs.Record.{forms as deps_forms}
+use Rattle.log_text.specs.declared.form.Version.TheVariants.{Two}
+use Rattle.log_text.specs.Form.{Form, record_line, lines_text}
+use Rattle.log_text.specs.Text.{header}
+use Rattle.log_text.specs.BuildRecord.{forms as record_forms}
+use Rattle.log_text.specs.DepsRecordLine.{forms as deps_forms}
 use Rattle.sim.specs.World.{ticked, started, happened, worked}
 use Rattle.met.specs.Scanning.{cat, scan, naming, begun, copied, scanned, told, log_text, deps_text}
 use Rattle.met.specs.Worlds.{Call, now_given, waits, stops, after, logs, tells, copying, scanning, recording, writes, removes, failing_calls, stopping_calls, first_calls, second_calls, failed_log, stopped_log, built_log, named, failed, edited, stopped, restarted_world, built, edited_again, last}

@@ -10,13 +10,13 @@ use Rattle.model.specs.declared.record.Record.{Record}
 use Rattle.model.specs.World.{View}
 use Rattle.model.specs.Graph.{has}
 use Rattle.model.specs.Records.{OwnFiles, IsOwnIn, LogFormat, store_in, read_log, build_log_name, deps_log_name}
-use Rattle.build_log.specs.declared.form.Version.TheVariants.{Two}
-use Rattle.build_log.specs.declared.tail.Tail.TheVariants.{Whole}
-use Rattle.build_log.specs.Kept.{AreDistinct}
-use Rattle.build_log.specs.Form.{HasLine, HaveLines}
-use Rattle.build_log.specs.Record.{forms as record_forms}
-use Rattle.deps_log.specs.Record.{forms as deps_forms}
-use Rattle.deps_log.specs.Format.{ReadsLogs}
+use Rattle.log_text.specs.declared.form.Version.TheVariants.{Two}
+use Rattle.log_text.specs.declared.tail.Tail.TheVariants.{Whole}
+use Rattle.log_text.specs.Kept.{AreDistinct}
+use Rattle.log_text.specs.Form.{HasLine, HaveLines}
+use Rattle.log_text.specs.BuildRecord.{forms as record_forms}
+use Rattle.log_text.specs.DepsRecordLine.{forms as deps_forms}
+use Rattle.log_text.specs.DepsFormat.{ReadsLogs}
 use Rattle.met.specs.Scanning.{begun, copied, scanned, told, log_text, deps_text, store_of}
 use Rattle.met.proofs.Given.{low, text_of}
 

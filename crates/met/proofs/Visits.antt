@@ -20,7 +20,7 @@ use Rattle.model.specs.History.{Visit, Edited, Built, Unread, Restarted, IsEdit,
 use Rattle.model.specs.Driven.{CarriesOut, HasLogs}
 use Rattle.depfile.specs.Depfile.{IsRead}
 use Rattle.depfile.specs.declared.fault.DepFault.{DepFault}
-use Rattle.deps_log.specs.Format.{ReadsLogs}
+use Rattle.log_text.specs.DepsFormat.{ReadsLogs}
 use Rattle.met.specs.Scanning.{edges, asked, file_text, naming, toys, own}
 use Rattle.met.specs.Worlds.{put, moves, first, declared, sourced, named, failed, edited, stopped, restarted_world, built, edited_again, last}
 use Rattle.met.specs.Met.{one_graph, IsInFolder, Meets, HistoryIsMet}

@@ -11,7 +11,7 @@ use Rattle.model.specs.Faithful.{IsFaithfulStore}
 use Rattle.model.specs.History.{Visit, Edited, Built, Unread, Restarted, IsHistory, Keeps, exit_of}
 use Rattle.model.specs.Driven.{Reader, CarriesOut, RestartsFrom, HasLogs, answers_in}
 use Rattle.depfile.specs.Depfile.{IsReading}
-use Rattle.deps_log.specs.Format.{ReadsLogs}
+use Rattle.log_text.specs.DepsFormat.{ReadsLogs}
 use Rattle.sim.specs.World.{fresh, restarted}
 use Rattle.met.specs.Scanning.{scan, edges, asked, toys, own, file_text, naming}
 use Rattle.met.specs.Worlds.{AreOfSim, writes, after, moves, failing_calls, stopping_calls, first_calls, second_calls, first, declared, sourced, named, failed, edited, stopped, restarted_world, built, edited_again, last, worlds}

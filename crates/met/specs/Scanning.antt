@@ -12,11 +12,11 @@ use Rattle.model.specs.Graph.{Addition, has}
 use Rattle.model.specs.Outcome.{Behaviour}
 use Rattle.model.specs.Records.{Store, OwnFiles, build_log_name, deps_log_name, tick_name, output_name, new_suffix}
 use Rattle.model.specs.SingleBuild.{Asked}
-use Rattle.build_log.specs.declared.form.Version.TheVariants.{Two}
-use Rattle.build_log.specs.Form.{lines_text}
-use Rattle.build_log.specs.Text.{header}
-use Rattle.build_log.specs.Record.{forms as record_forms}
-use Rattle.deps_log.specs.Record.{forms as deps_forms}
+use Rattle.log_text.specs.declared.form.Version.TheVariants.{Two}
+use Rattle.log_text.specs.Form.{lines_text}
+use Rattle.log_text.specs.Text.{header}
+use Rattle.log_text.specs.BuildRecord.{forms as record_forms}
+use Rattle.log_text.specs.DepsRecordLine.{forms as deps_forms}
 use Rattle.sim.specs.Toy.{toy_outcome}
 
 -- ---- the graph

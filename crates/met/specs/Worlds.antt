@@ -15,11 +15,11 @@ use Rattle.model.specs.declared.record.Record.{Record}
 use Rattle.model.specs.declared.act.Act.{Act}
 use Rattle.model.specs.World.{World, view_of}
 use Rattle.model.specs.Records.{build_log_name, deps_log_name, tick_name}
-use Rattle.build_log.specs.declared.form.Version.TheVariants.{Two}
-use Rattle.build_log.specs.Form.{record_line}
-use Rattle.build_log.specs.Text.{header}
-use Rattle.build_log.specs.Record.{forms as record_forms}
-use Rattle.deps_log.specs.Record.{forms as deps_forms}
+use Rattle.log_text.specs.declared.form.Version.TheVariants.{Two}
+use Rattle.log_text.specs.Form.{record_line}
+use Rattle.log_text.specs.Text.{header}
+use Rattle.log_text.specs.BuildRecord.{forms as record_forms}
+use Rattle.log_text.specs.DepsRecordLine.{forms as deps_forms}
 use Rattle.sim.specs.Toy.{toy_outcome}
 use Rattle.sim.specs.Sim.{Ends, Halts, noting}
 use Rattle.sim.specs.World.{wrote, ticked, appended, started, happened, worked}

@@ -15,7 +15,7 @@ use Rattle.model.specs.Records.{OwnFiles, IsOwnIn, file_in, build_log_name, deps
 use Rattle.theory.specs.Seen.{Looked}
 use Rattle.theory.proofs.SiteCalls.{unrefused_none}
 use Rattle.theory.proofs.Looks.{looks_nothing, looks_then}
-use Rattle.deps_log.specs.Format.{HasFormat}
+use Rattle.log_text.specs.DepsFormat.{HasFormat}
 use Rattle.depfile.specs.Depfile.{HasReading}
 use Rattle.dyndep_law.specs.Readings.{HasReading as HasDyndeps}
 use Rattle.links.specs.Extended.{addition_of}

@@ -1,9 +1,9 @@
 //! What is declared and recorded, read anew once a build has ended.
 
 use auditor::{Auditor, dyndep_in, load};
-use build_log::Log;
 use host::Host;
 use links::Graph;
+use log_text::BuildLog;
 use paths::Manifest;
 use site::{Site, Texts};
 use std::alloc::{AllocError, Global};
@@ -84,10 +84,14 @@ fn read_in<W: Write>(host: &mut Host<'_, W>, path: &str) -> Option<Bytes> {
 }
 
 /// The build log, if there is one.
-pub fn build_log_in<W: Write>(alloc: Global, host: &mut Host<'_, W>, folder: &str) -> Option<Log> {
+pub fn build_log_in<W: Write>(
+    alloc: Global,
+    host: &mut Host<'_, W>,
+    folder: &str,
+) -> Option<BuildLog> {
     let path = own_path(alloc, folder, ".nj_log").ok()?;
     let bytes = read_in(host, path.as_str())?;
-    let (log, _) = Log::parse(alloc, bytes.as_slice()).ok()?;
+    let (log, _) = BuildLog::parse(alloc, bytes.as_slice()).ok()?;
     Some(log)
 }
 
@@ -96,10 +100,10 @@ pub fn deps_log_in<W: Write>(
     alloc: Global,
     host: &mut Host<'_, W>,
     folder: &str,
-) -> Option<deps_log::Log> {
+) -> Option<log_text::DepsLog> {
     let path = own_path(alloc, folder, ".nj_deps").ok()?;
     let bytes = read_in(host, path.as_str())?;
-    let (log, _) = deps_log::Log::parse(alloc, bytes.as_slice()).ok()?;
+    let (log, _) = log_text::DepsLog::parse(alloc, bytes.as_slice()).ok()?;
     Some(log)
 }
 

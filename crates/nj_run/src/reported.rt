@@ -3,8 +3,8 @@
 ghost use Rattle.std.specs.Prelude.{◌<◌, IfSome, length};
 
 use crate::anew::deps_log_in;
-use deps_log::{Deps, Log};
 use host::Host;
+use log_text::{Deps, DepsLog};
 use model::{Act, Event};
 use notes::{MadeLater, Note, Reported, made_later, makers_of};
 use paths::{Action, EdgeId, Manifest};
@@ -50,7 +50,7 @@ fn by_log<W: Write>(
     alloc: Global,
     host: &mut Host<'_, W>,
     file: &str,
-    log: &Log,
+    log: &DepsLog,
 ) -> Option<Vec<Note>> {
     let manifest = manifest::read(alloc, host, file).ok()?;
     by_both(alloc, host.events(), &manifest, log).ok()
@@ -60,7 +60,7 @@ fn by_both(
     alloc: Global,
     events: &[Event],
     manifest: &Manifest,
-    log: &Log,
+    log: &DepsLog,
 ) -> Result<Vec<Note>, AllocError> {
     let reports = reports_of(alloc, events, manifest, log)?;
     notes_of(alloc, events, manifest, log, &reports)
@@ -71,7 +71,7 @@ fn notes_of(
     alloc: Global,
     events: &[Event],
     manifest: &Manifest,
-    log: &Log,
+    log: &DepsLog,
     reports: &[Reported],
 ) -> Result<Vec<Note>, AllocError> {
     let found = made_later(alloc, events, reports)?;
@@ -91,7 +91,7 @@ fn reports_of(
     alloc: Global,
     events: &[Event],
     manifest: &Manifest,
-    log: &Log,
+    log: &DepsLog,
 ) -> Result<Vec<Reported>, AllocError> {
     let makers = makers_of(alloc, manifest)?;
     let mut reports = Vec::new(alloc);
@@ -105,7 +105,7 @@ fn reports_of(
 fn push_reports(
     event: &Event,
     manifest: &Manifest,
-    log: &Log,
+    log: &DepsLog,
     makers: &[Option<EdgeId>],
     reports: &mut Vec<Reported>,
 ) -> Result<(), AllocError> {
@@ -133,7 +133,7 @@ fn push_reports(
 }
 
 /// What was recorded of this output after the start under this stamp.
-fn deps_of<'a>(log: &'a Log, output: &str, stamp: u64) -> Option<&'a Deps> {
+fn deps_of<'a>(log: &'a DepsLog, output: &str, stamp: u64) -> Option<&'a Deps> {
     let deps = log.lookup(output)?;
     if deps.start == stamp {
         Some(deps)
@@ -175,7 +175,7 @@ fn first_output(manifest: &Manifest, edge: EdgeId) -> Option<&str>
 /// The job that makes the path with this number of the log, if there is one.
 fn maker_of(
     manifest: &Manifest,
-    log: &Log,
+    log: &DepsLog,
     makers: &[Option<EdgeId>],
     path: usize,
 ) -> Option<usize> {
@@ -188,7 +188,7 @@ fn maker_of(
 fn push_note(
     alloc: Global,
     manifest: &Manifest,
-    log: &Log,
+    log: &DepsLog,
     report: Reported,
     notes: &mut Vec<Note>,
 ) -> Result<(), AllocError> {

@@ -6,10 +6,10 @@ use Rattle.model.specs.Calls.{Appends, AppendsOrNot}
 use Rattle.model.specs.Records.{OwnFiles}
 use Rattle.model.specs.Premises.{FilesAreKept}
 use Rattle.theory.proofs.Looks.{kept_before}
-use Rattle.build_log.specs.declared.form.Version.{Version}
-use Rattle.build_log.specs.declared.form.Version.TheVariants.{Two}
-use Rattle.build_log.specs.Form.{Form, IsLineOf}
-use Rattle.build_log.specs.Laws.{OneReading, LineGrowsLog, FrontOfLines}
+use Rattle.log_text.specs.declared.form.Version.{Version}
+use Rattle.log_text.specs.declared.form.Version.TheVariants.{Two}
+use Rattle.log_text.specs.Form.{Form, IsLineOf}
+use Rattle.log_text.specs.Laws.{OneReading, LineGrowsLog, FrontOfLines}
 use Rattle.theory.specs.Writes.{WritesAt}
 use Rattle.theory.proofs.Writing.{appends_at, appends_or_not_at}
 use Rattle.records.specs.declared.file.State.TheVariants.{Usable}

@@ -14,15 +14,15 @@ use Rattle.model.specs.Schedule.{well_in}
 use Rattle.model.specs.Premises.{FilesAreKept}
 use Rattle.theory.proofs.Looks.{looks_then, kept_before, looks_keep_file, looks_saw}
 use Rattle.theory.proofs.Makers.{one_maker}
-use Rattle.build_log.specs.declared.form.Version.{Version}
-use Rattle.build_log.specs.declared.form.Version.TheVariants.{Two}
-use Rattle.build_log.specs.Form.{Form}
-use Rattle.build_log.specs.Text.{IsLogOf}
-use Rattle.build_log.specs.Laws.{Reads}
-use Rattle.build_log.specs.Log.{Keeps, compaction}
-use Rattle.build_log.specs.Record.{forms as record_forms}
-use Rattle.deps_log.specs.Log.{Keeps as KeepsDeps, compaction as deps_compaction}
-use Rattle.deps_log.specs.Record.{forms as deps_forms}
+use Rattle.log_text.specs.declared.form.Version.{Version}
+use Rattle.log_text.specs.declared.form.Version.TheVariants.{Two}
+use Rattle.log_text.specs.Form.{Form}
+use Rattle.log_text.specs.Text.{IsLogOf}
+use Rattle.log_text.specs.Laws.{Reads}
+use Rattle.log_text.specs.BuildLog.{Keeps, compaction}
+use Rattle.log_text.specs.BuildRecord.{forms as record_forms}
+use Rattle.log_text.specs.DepsLog.{Keeps as KeepsDeps, compaction as deps_compaction}
+use Rattle.log_text.specs.DepsRecordLine.{forms as deps_forms}
 use Rattle.theory.specs.Logged.{KeepsBoth, HasNone, HasNew}
 use Rattle.theory.proofs.LoggedCalls.{entry_logged, looks_logged}
 use Rattle.records.specs.declared.file.State.{State}

@@ -14,12 +14,12 @@ use Rattle.theory.proofs.Lists.{all_parts}
 use Rattle.theory.proofs.Files.{IsElsewhere, file_stays}
 use Rattle.theory.proofs.Looks.{kept_before}
 use Rattle.theory.proofs.Starting.{since}
-use Rattle.build_log.specs.declared.form.Version.{Version}
-use Rattle.build_log.specs.declared.form.Version.TheVariants.{Two}
-use Rattle.build_log.specs.declared.tail.Tail.TheVariants.{Whole}
-use Rattle.build_log.specs.Form.{Form, IsLineOf}
-use Rattle.build_log.specs.Laws.{LineGrowsLog, FrontOfLines, KeepsInForce}
-use Rattle.build_log.specs.Text.{IsLogOf}
+use Rattle.log_text.specs.declared.form.Version.{Version}
+use Rattle.log_text.specs.declared.form.Version.TheVariants.{Two}
+use Rattle.log_text.specs.declared.tail.Tail.TheVariants.{Whole}
+use Rattle.log_text.specs.Form.{Form, IsLineOf}
+use Rattle.log_text.specs.Laws.{LineGrowsLog, FrontOfLines, KeepsInForce}
+use Rattle.log_text.specs.Text.{IsLogOf}
 use Rattle.theory.specs.Writes.{WritesAt}
 use Rattle.theory.proofs.LoggedCalls.{log_elsewhere, log_written_at}
 use Rattle.theory.proofs.Writing.{writes_at, appends_at}

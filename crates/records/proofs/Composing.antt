@@ -1,11 +1,11 @@
 -- What a log tells behind two steps: it was made usable, and then something was put behind it.
 use Rattle.std.proofs.Common.{◌≡◌, ◌⊎◌, inl, inr, ℕ, Bool, IsTrue, List, [], ◌∷◌, ◌++◌, Option, Some, None, refl, sym, ◌∙◌, ap, subst}
-use Rattle.build_log.specs.declared.form.Version.{Version}
-use Rattle.build_log.specs.declared.form.Version.TheVariants.{Two}
-use Rattle.build_log.specs.declared.tail.Tail.TheVariants.{Whole, Torn}
-use Rattle.build_log.specs.Form.{Form}
-use Rattle.build_log.specs.Laws.{OneReading}
-use Rattle.build_log.specs.Text.{IsRead}
+use Rattle.log_text.specs.declared.form.Version.{Version}
+use Rattle.log_text.specs.declared.form.Version.TheVariants.{Two}
+use Rattle.log_text.specs.declared.tail.Tail.TheVariants.{Whole, Torn}
+use Rattle.log_text.specs.Form.{Form}
+use Rattle.log_text.specs.Laws.{OneReading}
+use Rattle.log_text.specs.Text.{IsRead}
 use Rattle.records.specs.Held.{text_in, AreRecordsIn, IsToldBy, behind, TellsMore, IsKeptOrWrittenAnew, MayTellMore}
 
 module _ {R X : Type 0} (forms : Version → Form R) (in_force : List R → List ℕ → Option X) (one : OneReading forms) where

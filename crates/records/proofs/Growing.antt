@@ -7,8 +7,8 @@ use Rattle.model.specs.Graph.{has_number}
 use Rattle.model.specs.Records.{in_force, deps_in_force}
 use Rattle.links.specs.declared.graph.Graph.{Graph}
 use Rattle.links.proofs.Makes.{output_below}
-use Rattle.build_log.specs.Log.{Keeps, makings}
-use Rattle.deps_log.specs.Log.{Keeps as KeepsDeps, tolds}
+use Rattle.log_text.specs.BuildLog.{Keeps, makings}
+use Rattle.log_text.specs.DepsLog.{Keeps as KeepsDeps, tolds}
 use Rattle.records.specs.Held.{ArePlaces}
 use Rattle.records.specs.Known.{IsOf, IsOfDeps, AreKnown}
 use Rattle.records.specs.declared.logs.Logs.{Logs}

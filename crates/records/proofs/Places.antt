@@ -13,7 +13,7 @@ use Rattle.paths.specs.declared.manifest.Action.TheVariants.{Alias, Command}
 use Rattle.paths.specs.declared.manifest.Command.{Command as Commanded}
 use Rattle.paths.specs.Lists.{line_outputs}
 use Rattle.paths.specs.Told.{text_at, texts_at, edge_of}
-use Rattle.build_log.specs.Kept.{joined}
+use Rattle.log_text.specs.Kept.{joined}
 use Rattle.records.specs.Held.{ArePlaces, AreMadeFrom, IsLonger}
 
 joined_get : (places : List (Option ℕ)) (p : ℕ) → p < length places → joined (slice_get places p) ≡ get_or places p None

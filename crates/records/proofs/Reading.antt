@@ -3,8 +3,8 @@ use Rattle.std.proofs.Common.{◌≡◌, ℕ, Bool, IsTrue, List, ◌++◌, sym,
 use Rattle.model.specs.declared.event.Moment.{Moment}
 use Rattle.model.specs.World.{World}
 use Rattle.model.specs.Calls.{OnlyLooks, Sees}
-use Rattle.build_log.specs.declared.form.Version.{Version}
-use Rattle.build_log.specs.Form.{Form}
+use Rattle.log_text.specs.declared.form.Version.{Version}
+use Rattle.log_text.specs.Form.{Form}
 use Rattle.records.specs.Held.{Held, WasRead}
 
 sees_before : {A : Type 0} (so : List Moment → A) (seen : A) (a b c more : List Moment) → c ≡ b ++ more → Sees so seen a b → Sees so seen a c

@@ -4,11 +4,11 @@ use Rattle.model.specs.declared.graph.Edge.{Edge}
 use Rattle.model.specs.World.{World, view_of}
 use Rattle.model.specs.Calls.{Writes, WritesOrNot}
 use Rattle.model.specs.Records.{OwnFiles}
-use Rattle.build_log.specs.declared.form.Version.{Version}
-use Rattle.build_log.specs.declared.form.Version.TheVariants.{Two}
-use Rattle.build_log.specs.Form.{Form}
-use Rattle.build_log.specs.Laws.{KeepsInForce}
-use Rattle.build_log.specs.Text.{IsLogOf}
+use Rattle.log_text.specs.declared.form.Version.{Version}
+use Rattle.log_text.specs.declared.form.Version.TheVariants.{Two}
+use Rattle.log_text.specs.Form.{Form}
+use Rattle.log_text.specs.Laws.{KeepsInForce}
+use Rattle.log_text.specs.Text.{IsLogOf}
 use Rattle.theory.specs.Writes.{WritesAt}
 use Rattle.theory.proofs.Writing.{writes_at}
 use Rattle.records.specs.declared.file.State.TheVariants.{Usable, Stale}

@@ -14,13 +14,13 @@ use Rattle.model.specs.Records.{OwnFiles, LogFormat, Store, in_force, deps_in_fo
 use Rattle.model.specs.Schedule.{Step}
 use Rattle.model.specs.Premises.{FilesAreKept, EndedAt}
 use Rattle.model.specs.Kept.{StartedUnder}
-use Rattle.build_log.specs.declared.done.Done.{Done}
-use Rattle.build_log.specs.Kept.{Table}
-use Rattle.build_log.specs.Log.{Keeps}
-use Rattle.build_log.specs.Record.{forms}
-use Rattle.deps_log.specs.declared.deps.Deps.{Deps}
-use Rattle.deps_log.specs.Log.{Keeps as KeepsDeps}
-use Rattle.deps_log.specs.Record.{forms as deps_forms}
+use Rattle.log_text.specs.declared.done.Done.{Done}
+use Rattle.log_text.specs.Kept.{Table}
+use Rattle.log_text.specs.BuildLog.{Keeps}
+use Rattle.log_text.specs.BuildRecord.{forms}
+use Rattle.log_text.specs.declared.deps.Deps.{Deps}
+use Rattle.log_text.specs.DepsLog.{Keeps as KeepsDeps}
+use Rattle.log_text.specs.DepsRecordLine.{forms as deps_forms}
 use Rattle.theory.specs.Logged.{IsLogged}
 use Rattle.theory.specs.Writes.{WritesAt}
 use Rattle.theory.proofs.Growing as growing

@@ -1,12 +1,12 @@
 -- Which texts may be appended to.
 use Rattle.std.proofs.Common.{◌≡◌, inr, ℕ, List, [], ◌∷◌, ◌++◌, length, arith}
-use Rattle.build_log.specs.declared.form.Version.{Version}
-use Rattle.build_log.specs.declared.form.Version.TheVariants.{Two}
-use Rattle.build_log.specs.declared.tail.Tail.{Tail}
-use Rattle.build_log.specs.declared.tail.Tail.TheVariants.{Whole}
-use Rattle.build_log.specs.Form.{Form, lines_text}
-use Rattle.build_log.specs.Text.{IsRead, IsLogOf}
-use Rattle.build_log.specs.Laws.{OneReading}
+use Rattle.log_text.specs.declared.form.Version.{Version}
+use Rattle.log_text.specs.declared.form.Version.TheVariants.{Two}
+use Rattle.log_text.specs.declared.tail.Tail.{Tail}
+use Rattle.log_text.specs.declared.tail.Tail.TheVariants.{Whole}
+use Rattle.log_text.specs.Form.{Form, lines_text}
+use Rattle.log_text.specs.Text.{IsRead, IsLogOf}
+use Rattle.log_text.specs.Laws.{OneReading}
 
 no_text : (a b : List ℕ) → [] ≡ (a ++ 10 ∷ []) ++ b → ⊥
 no_text [] b is = cc

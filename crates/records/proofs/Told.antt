@@ -2,13 +2,13 @@
 use Rattle.std.proofs.Common.{◌≡◌, ◌⊎◌, inl, inr, ℕ, List, [], ◌∷◌, ◌++◌, Option, Some, None, refl, sym, ◌∙◌, ap, subst}
 use Rattle.std.proofs.lemmas.List.{append-nil}
 use Rattle.model.specs.Records.{read_log}
-use Rattle.build_log.specs.declared.form.Version.{Version}
-use Rattle.build_log.specs.declared.form.Version.TheVariants.{Two}
-use Rattle.build_log.specs.declared.tail.Tail.{Tail}
-use Rattle.build_log.specs.declared.tail.Tail.TheVariants.{Whole, Old, Torn, Damaged}
-use Rattle.build_log.specs.Text.{IsRead, IsLogOf}
-use Rattle.build_log.specs.Form.{Form, IsLineOf, record_line}
-use Rattle.build_log.specs.Laws.{Reads, IsEndedOrTorn, FrontOfLines}
+use Rattle.log_text.specs.declared.form.Version.{Version}
+use Rattle.log_text.specs.declared.form.Version.TheVariants.{Two}
+use Rattle.log_text.specs.declared.tail.Tail.{Tail}
+use Rattle.log_text.specs.declared.tail.Tail.TheVariants.{Whole, Old, Torn, Damaged}
+use Rattle.log_text.specs.Text.{IsRead, IsLogOf}
+use Rattle.log_text.specs.Form.{Form, IsLineOf, record_line}
+use Rattle.log_text.specs.Laws.{Reads, IsEndedOrTorn, FrontOfLines}
 use Rattle.records.specs.Held.{AreRecordsIn, IsToldBy, behind}
 
 module _ {R : Type 0} (forms : Version → Form R) where

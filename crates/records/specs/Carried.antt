@@ -6,10 +6,10 @@ use Rattle.model.specs.World.{World, view_of, runs}
 use Rattle.model.specs.Graph.{IsCommand}
 use Rattle.model.specs.Records.{OwnFiles}
 use Rattle.model.specs.Premises.{FilesAreKept}
-use Rattle.build_log.specs.declared.form.Version.{Version}
-use Rattle.build_log.specs.declared.form.Version.TheVariants.{Two}
-use Rattle.build_log.specs.Form.{Form, IsLineOf}
-use Rattle.build_log.specs.Keeping.{Keeping}
+use Rattle.log_text.specs.declared.form.Version.{Version}
+use Rattle.log_text.specs.declared.form.Version.TheVariants.{Two}
+use Rattle.log_text.specs.Form.{Form, IsLineOf}
+use Rattle.log_text.specs.Keeping.{Keeping}
 use Rattle.records.specs.Held.{Content, Forms, InForce, Held, HoldsStill, TellsMore}
 
 -- so it is where the site tells its files and the files are kept

@@ -8,7 +8,7 @@ use Rattle.model.specs.declared.record.DepsRecord.{DepsRecord}
 use Rattle.model.specs.Graph.{edge_at, outputs}
 use Rattle.links.specs.declared.graph.Graph.{Graph}
 use Rattle.links.specs.Told.{declared_by}
-use Rattle.deps_log.specs.Record.{reported}
+use Rattle.log_text.specs.DepsRecordLine.{reported}
 use Rattle.records.specs.Held.{Paths}
 
 abbrev pub paths_in : Graph → Paths

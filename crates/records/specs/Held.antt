@@ -5,13 +5,13 @@ use Rattle.std.specs.Option.{option_and_then}
 use Rattle.model.specs.World.{World, file_at, content_of}
 use Rattle.model.specs.Calls.{Sees}
 use Rattle.paths.specs.Told.{text_at}
-use Rattle.build_log.specs.declared.form.Version.{Version}
-use Rattle.build_log.specs.declared.form.Version.TheVariants.{Two}
-use Rattle.build_log.specs.declared.tail.Tail.{Tail}
-use Rattle.build_log.specs.Form.{Form}
-use Rattle.build_log.specs.Kept.{WantsCompaction, joined}
-use Rattle.build_log.specs.Keeping.{Keeping}
-use Rattle.build_log.specs.Text.{IsRead, IsLogOf, IsEnded, IsTornOf}
+use Rattle.log_text.specs.declared.form.Version.{Version}
+use Rattle.log_text.specs.declared.form.Version.TheVariants.{Two}
+use Rattle.log_text.specs.declared.tail.Tail.{Tail}
+use Rattle.log_text.specs.Form.{Form}
+use Rattle.log_text.specs.Kept.{WantsCompaction, joined}
+use Rattle.log_text.specs.Keeping.{Keeping}
+use Rattle.log_text.specs.Text.{IsRead, IsLogOf, IsEnded, IsTornOf}
 use Rattle.records.specs.declared.file.State.{State}
 use Rattle.records.specs.declared.file.State.TheVariants.{Usable, Stale}
 

@@ -8,10 +8,10 @@ use Rattle.model.specs.Records.{in_force, deps_in_force}
 use Rattle.links.specs.declared.graph.Graph.{Graph}
 use Rattle.links.specs.Links.{links_of}
 use Rattle.paths.specs.Told.{text_at}
-use Rattle.build_log.specs.declared.done.Done.{Done}
-use Rattle.build_log.specs.Log.{Keeps, makings, made_in}
-use Rattle.deps_log.specs.declared.deps.Deps.{Deps}
-use Rattle.deps_log.specs.Log.{Keeps as KeepsDeps, tolds, told_found}
+use Rattle.log_text.specs.declared.done.Done.{Done}
+use Rattle.log_text.specs.BuildLog.{Keeps, makings, made_in}
+use Rattle.log_text.specs.declared.deps.Deps.{Deps}
+use Rattle.log_text.specs.DepsLog.{Keeps as KeepsDeps, tolds, told_found}
 use Rattle.records.specs.Edges.{paths_in}
 use Rattle.records.specs.Held.{Paths, ArePlaces}
 use Rattle.records.specs.declared.records.Records.{Records}

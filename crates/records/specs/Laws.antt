@@ -10,11 +10,11 @@ use Rattle.model.specs.Graph.{has_number, IsCommand, IsMadeOnce}
 use Rattle.model.specs.Outcome.{Behaviour}
 use Rattle.model.specs.Records.{OwnFiles, LogFormat, Store, store_in}
 use Rattle.model.specs.Schedule.{Step, started_in, well_in}
-use Rattle.build_log.specs.Log.{Keeps, compaction}
-use Rattle.build_log.specs.Record.{forms}
-use Rattle.deps_log.specs.Format.{ReadsLogs}
-use Rattle.deps_log.specs.Log.{Keeps as KeepsDeps, compaction as deps_compaction}
-use Rattle.deps_log.specs.Record.{forms as deps_forms}
+use Rattle.log_text.specs.BuildLog.{Keeps, compaction}
+use Rattle.log_text.specs.BuildRecord.{forms}
+use Rattle.log_text.specs.DepsFormat.{ReadsLogs}
+use Rattle.log_text.specs.DepsLog.{Keeps as KeepsDeps, compaction as deps_compaction}
+use Rattle.log_text.specs.DepsRecordLine.{forms as deps_forms}
 use Rattle.theory.specs.Writes.{GrewAt}
 use Rattle.records.specs.declared.logs.Logs.{Logs}
 use Rattle.records.specs.Held.{Paths, WasRead}

@@ -6,7 +6,7 @@ use Rattle.model.specs.World.{World}
 use Rattle.model.specs.Outcome.{Behaviour}
 use Rattle.model.specs.Records.{OwnFiles, LogFormat, Store}
 use Rattle.model.specs.Schedule.{Step}
-use Rattle.build_log.specs.Found.{texts_in}
+use Rattle.log_text.specs.Found.{texts_in}
 use Rattle.records.specs.declared.logs.Logs.{Logs}
 use Rattle.records.specs.Logging.{IsLogging, IsLoggedStill, NoneInForce, IsReported, MayReport, EndedWell}
 

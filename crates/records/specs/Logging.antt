@@ -10,11 +10,11 @@ use Rattle.model.specs.Records.{OwnFiles, LogFormat, Store, Told, store_in, in_f
 use Rattle.model.specs.Schedule.{Step, started_in, well_in}
 use Rattle.model.specs.Premises.{FilesAreKept, EndedAt}
 use Rattle.model.specs.Kept.{StartedUnder}
-use Rattle.build_log.specs.Log.{Keeps}
-use Rattle.build_log.specs.Record.{forms}
-use Rattle.deps_log.specs.Format.{ReadsLogs}
-use Rattle.deps_log.specs.Log.{Keeps as KeepsDeps}
-use Rattle.deps_log.specs.Record.{forms as deps_forms}
+use Rattle.log_text.specs.BuildLog.{Keeps}
+use Rattle.log_text.specs.BuildRecord.{forms}
+use Rattle.log_text.specs.DepsFormat.{ReadsLogs}
+use Rattle.log_text.specs.DepsLog.{Keeps as KeepsDeps}
+use Rattle.log_text.specs.DepsRecordLine.{forms as deps_forms}
 use Rattle.theory.specs.Logged.{IsLoggedAt}
 use Rattle.records.specs.declared.logs.Logs.{Logs}
 use Rattle.records.specs.Held.{IsSameLog}

@@ -3,14 +3,14 @@
 ghost use Rattle.std.specs.Prelude.{◌≡◌, ◌<◌, ◌≤◌, ◌↔◌, ◌^◌, Some, IfOk, OnOk, OnErr, IsFalse, false, string_bytes, length};
 ghost use Rattle.model.specs.Calls.{OnlyLooks, HasCause};
 ghost use Rattle.paths.specs.Told.{text_at};
-ghost use Rattle.build_log.specs.Keeping.{OfKept, at_number};
+ghost use Rattle.log_text.specs.Keeping.{OfKept, at_number};
 ghost use Rattle.theory.specs.Writes.{WritesAt};
 ghost use Rattle.records.specs.Edges.{paths_in};
 ghost use Rattle.records.specs.Held.{text_in, WasReadSo, ArePlaces, AreMadeBehind, StaysWithin, Fills, GrowsTo, IsLonger, IsSameLog, IsKeptOrWrittenAnew, MayTellMore, IsJudged, OfRead, IsStateOf};
 ghost use Rattle.records.specs.Carried.{CarriesOn, CarriesLine, ChangesSo, PutsSo, TellsAlso};
 
-use build_log::{Records, Tail, front_of_lines, line_grows_log, one_reading};
 use links::Graph;
+use log_text::{Records, Tail, front_of_lines, line_grows_log, one_reading};
 use model::SiteFault;
 use paths::PathId;
 use site::Site;
@@ -191,7 +191,7 @@ fn log_of<L: Records>(alloc: Global, content: &Option<Bytes>) -> Result<(L, Stat
     ensures { IfOk result (λ log. IsJudged L.forms L.Keeps L.compaction content.now log.0 log.1) }
 {
     let text = bytes_in(content);
-    let (log, tail) = build_log::parse::<L>(alloc, text)?;
+    let (log, tail) = log_text::parse::<L>(alloc, text)?;
     let state = state_of::<L>(text, &log, tail);
     Ok((log, state))
 }

@@ -2,17 +2,16 @@
 
 ghost use Rattle.std.specs.Prelude.{◌≡◌, ◌≢◌, ◌<◌, [], suc, IfOk, OnOk, length};
 ghost use Rattle.model.specs.Graph.{IsCommand, IsMadeOnce};
-ghost use Rattle.build_log.specs.declared.form.Version.TheVariants.{Two};
-ghost use Rattle.build_log.specs.Form.{IsLineOf};
-ghost use Rattle.build_log.specs.Found.{texts_in};
-ghost use Rattle.build_log.specs.Record.{forms};
-ghost use Rattle.deps_log.specs.Record.{forms as deps_forms};
+ghost use Rattle.log_text.specs.declared.form.Version.TheVariants.{Two};
+ghost use Rattle.log_text.specs.Form.{IsLineOf};
+ghost use Rattle.log_text.specs.Found.{texts_in};
+ghost use Rattle.log_text.specs.BuildRecord.{forms};
+ghost use Rattle.log_text.specs.DepsRecordLine.{forms as deps_forms};
 ghost use Rattle.records.specs.Edges.{declared_edges, declared_act, declared_outputs, begun_of, done_of, report_of};
 ghost use Rattle.paths.specs.Told.{text_at};
 
-use build_log::{begun_line, made_line};
-use deps_log::record_line;
 use links::{Graph, numbers_stand};
+use log_text::{begun_line, made_line, record_line};
 use model::{Act, Record};
 use paths::{Action, EdgeId, PathId};
 use std::alloc::{AllocError, Global};

@@ -12,8 +12,8 @@ use std::alloc::Global;
 /// The files of both logs.
 #[derive(Drop)]
 pub struct Logs {
-    pub build_log: LogFile<build_log::Log>,
-    pub deps_log: LogFile<deps_log::Log>,
+    pub build_log: LogFile<log_text::BuildLog>,
+    pub deps_log: LogFile<log_text::DepsLog>,
 }
 
 impl Logs {

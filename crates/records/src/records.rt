@@ -14,9 +14,8 @@ ghost use Rattle.records.specs.Logging.{AreSameLogs};
 
 use crate::lines::{begun_line_of, deps_line_of, done_line_of};
 use crate::logs::Logs;
-use build_log::Done;
-use deps_log::Deps;
 use links::Graph;
+use log_text::{Deps, Done};
 use model::{Record, SiteFault};
 use paths::{EdgeId, PathId};
 use site::Site;

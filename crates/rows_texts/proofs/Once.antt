@@ -4,8 +4,8 @@ use Rattle.std.proofs.lemmas.Bool.{false≢true}
 use Rattle.model.specs.Graph.{has, StandsTwice}
 use Rattle.model.specs.declared.act.Act.{Act}
 use Rattle.model.specs.declared.record.Record.TheVariants.{Begun, Done}
-use Rattle.build_log.specs.declared.form.Version.TheVariants.{Two}
-use Rattle.build_log.specs.Record.{IsRecord}
+use Rattle.log_text.specs.declared.form.Version.TheVariants.{Two}
+use Rattle.log_text.specs.BuildRecord.{IsRecord}
 
 not_apart : (o p : List ℕ) (before after : List (List ℕ)) → o ∷ [] ≡ before ++ p ∷ after → has before p ≡ true → ⊥
 not_apart o p [] after e h = false≢true h

@@ -1,6 +1,6 @@
 //! Parts of lines.
 
-use build_log::{end_line, field_text, fields, number_of, push_text};
+use log_text::{end_line, field_text, fields, number_of, push_text};
 use std::alloc::{AllocError, Global};
 use tables::{push_word, unescaped};
 use text::cut;

@@ -3,8 +3,7 @@
 ghost use Rattle.std.specs.Prelude.{◌≡◌, [], ◌∷◌, IfOk};
 
 use crate::asked::Kind;
-use build_log::{Done, Log, Records, Tail, done_line, number_of};
-use deps_log::Deps;
+use log_text::{BuildLog, Deps, Done, Records, Tail, done_line, number_of};
 use model::{Act, Record};
 use std::alloc::{AllocError, Global};
 use tables::push_word;
@@ -24,11 +23,11 @@ impl Told {
     pub fn of(alloc: Global, kind: Kind, text: &[u8]) -> Result<Told, AllocError> {
         match kind {
             Kind::BuildLog => {
-                let (log, tail) = Log::parse(alloc, text)?;
+                let (log, tail) = BuildLog::parse(alloc, text)?;
                 Told::of_log(alloc, &log, tail)
             }
             _ => {
-                let (log, tail) = deps_log::Log::parse(alloc, text)?;
+                let (log, tail) = log_text::DepsLog::parse(alloc, text)?;
                 Ok(Told {
                     tail,
                     records: log.records(),
@@ -39,7 +38,7 @@ impl Told {
         }
     }
 
-    fn of_log(alloc: Global, log: &Log, tail: Tail) -> Result<Told, AllocError> {
+    fn of_log(alloc: Global, log: &BuildLog, tail: Tail) -> Result<Told, AllocError> {
         Ok(Told {
             tail,
             records: log.records(),
@@ -71,11 +70,11 @@ pub fn push_look(
 ) -> Result<(), AllocError> {
     match kind {
         Kind::BuildLog => {
-            let (log, _) = Log::parse(alloc, text)?;
+            let (log, _) = BuildLog::parse(alloc, text)?;
             push_found(alloc, &log, output, answer)
         }
         _ => {
-            let (log, _) = deps_log::Log::parse(alloc, text)?;
+            let (log, _) = log_text::DepsLog::parse(alloc, text)?;
             push_found_deps(alloc, &log, output, answer)
         }
     }
@@ -83,7 +82,7 @@ pub fn push_look(
 
 fn push_found(
     alloc: Global,
-    log: &Log,
+    log: &BuildLog,
     output: &str,
     answer: &mut String,
 ) -> Result<(), AllocError> {
@@ -93,7 +92,7 @@ fn push_found(
 
 fn push_found_deps(
     alloc: Global,
-    log: &deps_log::Log,
+    log: &log_text::DepsLog,
     output: &str,
     answer: &mut String,
 ) -> Result<(), AllocError> {
@@ -111,11 +110,11 @@ pub fn push_at(
 ) -> Result<(), AllocError> {
     match kind {
         Kind::BuildLog => {
-            let (log, _) = Log::parse(alloc, text)?;
+            let (log, _) = BuildLog::parse(alloc, text)?;
             push_done(alloc, log.done_at(number as usize), answer)
         }
         _ => {
-            let (log, _) = deps_log::Log::parse(alloc, text)?;
+            let (log, _) = log_text::DepsLog::parse(alloc, text)?;
             push_deps(alloc, &log, log.deps_at(number as usize), answer)
         }
     }
@@ -138,7 +137,7 @@ fn push_done(alloc: Global, done: Option<&Done>, answer: &mut String) -> Result<
 
 fn push_deps(
     alloc: Global,
-    log: &deps_log::Log,
+    log: &log_text::DepsLog,
     deps: Option<&Deps>,
     answer: &mut String,
 ) -> Result<(), AllocError> {
@@ -161,14 +160,14 @@ pub fn push_added(
     made: Option<(&str, &str)>,
     answer: &mut String,
 ) -> Result<(), AllocError> {
-    let (mut log, tail) = Log::parse(alloc, text)?;
+    let (mut log, tail) = BuildLog::parse(alloc, text)?;
     let told = told_with(alloc, &mut log, tail, output, made)?;
     told.push_to(alloc, answer)
 }
 
 fn told_with(
     alloc: Global,
-    log: &mut Log,
+    log: &mut BuildLog,
     tail: Tail,
     output: &str,
     made: Option<(&str, &str)>,
@@ -183,14 +182,14 @@ fn told_with(
     Told::of_log(alloc, log, tail)
 }
 
-fn apply_begun(alloc: Global, log: &mut Log, output: &str) -> Result<(), AllocError> {
+fn apply_begun(alloc: Global, log: &mut BuildLog, output: &str) -> Result<(), AllocError> {
     let outputs = outputs(alloc, output)?;
     log.apply(alloc, Record::Begun { outputs })
 }
 
 fn apply_done(
     alloc: Global,
-    log: &mut Log,
+    log: &mut BuildLog,
     output: &str,
     start: u64,
     command: &str,
@@ -234,13 +233,13 @@ fn wish(wants: bool) -> &'static str {
 
 /// Whether a build log is to be compacted in which `o` was made so often.
 fn wants_log(alloc: Global, times: u64) -> Result<bool, AllocError> {
-    let mut text = Log::new(alloc).compacted(alloc)?;
+    let mut text = BuildLog::new(alloc).compacted(alloc)?;
     push_repeated(alloc, &mut text, times)?;
     wants_in_log(alloc, text.as_slice())
 }
 
 fn wants_in_log(alloc: Global, text: &[u8]) -> Result<bool, AllocError> {
-    let (log, _) = Log::parse(alloc, text)?;
+    let (log, _) = BuildLog::parse(alloc, text)?;
     Ok(log.wants_compaction())
 }
 
@@ -265,20 +264,20 @@ fn push_done_line(text: &mut Vec<u8>, done: &Done) -> Result<(), AllocError> {
 
 /// Whether a deps log is to be compacted in which `o` told its input so often.
 fn wants_deps(alloc: Global, times: u64) -> Result<bool, AllocError> {
-    let mut text = deps_log::Log::new(alloc).compacted(alloc)?;
+    let mut text = log_text::DepsLog::new(alloc).compacted(alloc)?;
     push_reported(&mut text, times)?;
     wants_in_deps(alloc, text.as_slice())
 }
 
 fn wants_in_deps(alloc: Global, text: &[u8]) -> Result<bool, AllocError> {
-    let (log, _) = deps_log::Log::parse(alloc, text)?;
+    let (log, _) = log_text::DepsLog::parse(alloc, text)?;
     Ok(log.wants_compaction())
 }
 
 /// The lines of what a command told that made `o`, so many.
 fn push_reported(text: &mut Vec<u8>, times: u64) -> Result<(), AllocError> {
     for start in 0..times {
-        deps_log::record_line(text, &["o"], start, &["a.h"])?;
+        log_text::record_line(text, &["o"], start, &["a.h"])?;
     }
     Ok(())
 }

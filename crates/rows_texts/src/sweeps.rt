@@ -3,8 +3,8 @@
 use crate::asked::{Asked, Kind};
 use crate::files;
 use crate::logs::Told;
-use build_log::Tail;
 use lexer::{FaultKind, Line, Statements, statements};
+use log_text::Tail;
 use std::alloc::{AllocError, Global};
 use tables::MadeUp;
 

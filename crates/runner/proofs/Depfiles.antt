@@ -13,7 +13,7 @@ use Rattle.model.specs.Outcome.{read_depfile, depfile_in, is_accepted, listed}
 use Rattle.model.specs.Records.{ListsOnce}
 use Rattle.model.specs.Premises.{FilesAreKept, EndedAt}
 use Rattle.theory.proofs.SiteCalls.{looks_none}
-use Rattle.build_log.proofs.Distinct.{AreOnce, same_bytes, bytes_same, distinct_of_once}
+use Rattle.log_text.proofs.Distinct.{AreOnce, same_bytes, bytes_same, distinct_of_once}
 use Rattle.theory.proofs.Ledger.{SaysAtEnd, ReadAtEnd}
 use Rattle.theory.proofs.TakenIn.{says_failed, says_nothing, read_failed, read_nothing, read_seen, depfile_seen}
 use Rattle.links.specs.declared.graph.Graph.{Graph}

@@ -20,11 +20,11 @@ use Rattle.theory.proofs.Lists.{same_some}
 use Rattle.theory.proofs.Runs.{rest_begins}
 use Rattle.theory.proofs.Orderly.{IsKept, kept_orderly}
 use Rattle.theory.proofs.Steps.{running_parts}
-use Rattle.build_log.specs.declared.done.Done.{Done as Line}
-use Rattle.build_log.specs.Kept.{Table}
-use Rattle.build_log.specs.Log.{Keeps, makings}
-use Rattle.deps_log.specs.declared.deps.Deps.{Deps}
-use Rattle.deps_log.specs.Log.{Keeps as KeepsDeps, tolds}
+use Rattle.log_text.specs.declared.done.Done.{Done as Line}
+use Rattle.log_text.specs.Kept.{Table}
+use Rattle.log_text.specs.BuildLog.{Keeps, makings}
+use Rattle.log_text.specs.declared.deps.Deps.{Deps}
+use Rattle.log_text.specs.DepsLog.{Keeps as KeepsDeps, tolds}
 use Rattle.theory.specs.Writes.{WritesAt}
 use Rattle.theory.specs.Ledger.{IsCarried, IsCutOff}
 use Rattle.theory.proofs.Ledger.{command_of, running_of, stale_command, carried_looks, carried_ticks, carried_response, carried_depfile, carried_log, carried_hand, cut_off}

@@ -7,8 +7,8 @@ ghost use Rattle.scripts.specs.Script.{GoesOn, BuildsAlone};
 
 use builder::{Options, Report, build};
 use depfile::has_reading;
-use deps_log::has_format;
 use dyndep_law::has_reading as has_dyndeps;
+use log_text::has_format;
 use sim::{Call, Order, Sim, Timing, Toy};
 use site::{Event, Site};
 use std::alloc::{AllocError, Global};

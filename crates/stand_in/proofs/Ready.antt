@@ -13,7 +13,7 @@ use Rattle.model.specs.Records.{IsOwnIn, OwnFiles, build_log_name, deps_log_name
 use Rattle.model.specs.SingleBuild.{NamesOther}
 use Rattle.model.specs.World.{IsIdle, View, World}
 use Rattle.theory.specs.Seen.{Looked}
-use Rattle.deps_log.specs.Format.{HasFormat}
+use Rattle.log_text.specs.DepsFormat.{HasFormat}
 use Rattle.depfile.specs.Depfile.{HasReading}
 use Rattle.dyndep_law.specs.Readings.{HasReading as HasDyndeps}
 use Rattle.links.specs.Extended.{addition_of}

@@ -11,7 +11,7 @@ use Rattle.model.specs.Premises.{HaveEnded}
 use Rattle.model.specs.Records.{IsOwnIn, LogFormat, OwnFiles}
 use Rattle.model.specs.SingleBuild.{Asked, IsCleanlyBuilt, IsSuccess, StartsOnlyStale, asked_with}
 use Rattle.model.specs.World.{View, World, view_of}
-use Rattle.deps_log.specs.Format.{ReadsLogs}
+use Rattle.log_text.specs.DepsFormat.{ReadsLogs}
 use Rattle.depfile.specs.Depfile.{IsReading}
 use Rattle.builder.specs.Build.{Builds, IsBuild, IsBuilt, asked_of, limits_of}
 use Rattle.builder.specs.Loads.{ReadsDyndeps}

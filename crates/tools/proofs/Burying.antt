@@ -10,10 +10,10 @@ use Rattle.model.specs.declared.record.Record.{Record}
 use Rattle.model.specs.declared.record.DepsRecord.{DepsRecord}
 use Rattle.model.specs.Graph.{has}
 use Rattle.model.specs.Records.{Told, in_force}
-use Rattle.build_log.specs.Kept.{if_some, outputs_left, texts_at}
-use Rattle.build_log.specs.Log.{makings, saying}
-use Rattle.deps_log.specs.Log.{Keeps as KeepsDeps, told_of_record, tolds as deps_tolds}
-use Rattle.deps_log.specs.declared.deps.Deps.{Deps}
+use Rattle.log_text.specs.Kept.{if_some, outputs_left, texts_at}
+use Rattle.log_text.specs.BuildLog.{makings, saying}
+use Rattle.log_text.specs.DepsLog.{Keeps as KeepsDeps, told_of_record, tolds as deps_tolds}
+use Rattle.log_text.specs.declared.deps.Deps.{Deps}
 use Rattle.links.specs.declared.graph.Graph.{Graph}
 use Rattle.paths.specs.Numbers.{IsAdded}
 use Rattle.paths.specs.Told.{IsNamedNumber, IsUnnamed}

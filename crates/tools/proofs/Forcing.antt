@@ -9,9 +9,9 @@ use Rattle.model.specs.declared.record.Record.TheVariants.{Begun, Done as DoneRe
 use Rattle.model.specs.Graph.{has, has_number, is_named, paths_of}
 use Rattle.model.specs.Records.{Made, in_force, in_force_from}
 use Rattle.theory.proofs.Lists.{has_number-cases, same_bytes}
-use Rattle.build_log.specs.Kept.{Saying, Telling, is_place, outputs_at, outputs_left, place_from, place_of, tellings}
-use Rattle.build_log.specs.Log.{made_of, makings, saying}
-use Rattle.build_log.specs.declared.done.Done.{Done}
+use Rattle.log_text.specs.Kept.{Saying, Telling, is_place, outputs_at, outputs_left, place_from, place_of, tellings}
+use Rattle.log_text.specs.BuildLog.{made_of, makings, saying}
+use Rattle.log_text.specs.declared.done.Done.{Done}
 use Rattle.paths.specs.Lists.{line_paths}
 use Rattle.paths.specs.Told.{edge_of, edges_of, graph_of, text_at, texts_at}
 use Rattle.paths.specs.declared.line.Line.{Line}

@@ -8,10 +8,10 @@ use Rattle.model.specs.declared.record.Record.{Record}
 use Rattle.model.specs.declared.record.DepsRecord.{DepsRecord}
 use Rattle.model.specs.Graph.{has, has_number}
 use Rattle.model.specs.Records.{deps_in_force, paths_in}
-use Rattle.build_log.specs.Kept.{if_some, texts_at}
+use Rattle.log_text.specs.Kept.{if_some, texts_at}
 use Rattle.tools.proofs.Removed.{has_at}
-use Rattle.deps_log.specs.Log.{told_found}
-use Rattle.deps_log.specs.declared.deps.Deps.{Deps}
+use Rattle.log_text.specs.DepsLog.{told_found}
+use Rattle.log_text.specs.declared.deps.Deps.{Deps}
 use Rattle.links.specs.Links.{links_of}
 use Rattle.links.specs.declared.graph.Graph.{Graph}
 use Rattle.paths.specs.Lists.{line_outputs, no_line}

@@ -7,8 +7,8 @@ use Rattle.model.specs.Records.{in_force}
 use Rattle.paths.specs.Told.{IsUnnamed}
 use Rattle.paths.specs.declared.manifest.Manifest.{Manifest}
 use Rattle.links.specs.declared.graph.Graph.{Graph}
-use Rattle.build_log.specs.Log.{Keeps as KeepsMade}
-use Rattle.deps_log.specs.Log.{Keeps}
+use Rattle.log_text.specs.BuildLog.{Keeps as KeepsMade}
+use Rattle.log_text.specs.DepsLog.{Keeps}
 use Rattle.records.specs.Known.{Knows}
 use Rattle.records.specs.declared.records.Records.{Records}
 use Rattle.tools.specs.declared.dead.Dead.{Dead}

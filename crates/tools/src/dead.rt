@@ -3,9 +3,9 @@
 ghost use Rattle.std.specs.Prelude.{◌≡◌, IfOk, OnOk, map, slice_get, Some, true};
 ghost use Rattle.std.specs.Map.Iter.{deref};
 ghost use Rattle.model.specs.Graph.{has};
-ghost use Rattle.build_log.specs.Keeping.{OfKept};
-ghost use Rattle.build_log.specs.Kept.{texts_at};
-ghost use Rattle.deps_log.specs.Log.{Keeps};
+ghost use Rattle.log_text.specs.Keeping.{OfKept};
+ghost use Rattle.log_text.specs.Kept.{texts_at};
+ghost use Rattle.log_text.specs.DepsLog.{Keeps};
 ghost use Rattle.tools.specs.Clean.{AddsJust};
 ghost use Rattle.tools.specs.Dead.{AddsEither, AddsLeft, Buries, BuriesMade, IsListedAt, ListsAll};
 

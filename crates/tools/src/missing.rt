@@ -1,7 +1,7 @@
 //! `-t missingdeps`: recorded inputs that are made, and whose maker is not above.
 
 ghost use Rattle.std.specs.Prelude.{◌≡◌, ◌++◌, ◌∷◌, [], IfOk, IsSome, OnOk, false, filter, flat_map, get_or, length, slice_get};
-ghost use Rattle.build_log.specs.Kept.{if_some, texts_at};
+ghost use Rattle.log_text.specs.Kept.{if_some, texts_at};
 ghost use Rattle.links.specs.Links.{links_of};
 ghost use Rattle.tools.specs.Above.{AreNamedBy, AreNamedMade, MarksAlso, marked_outputs};
 ghost use Rattle.tools.specs.Missing.{AddsDeps, AddsMissing, AreNeeded, IsApart, IsMadeFor, IsUnmarked, Misses};

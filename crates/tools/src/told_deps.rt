@@ -6,7 +6,7 @@ use crate::access::{outputs_at, text_at};
 use crate::declared::Logged;
 use crate::fault::Fault;
 use crate::lines::push_line;
-use deps_log::Deps;
+use log_text::Deps;
 use model::Deps as Kind;
 use paths::PathId;
 use records::Records;

@@ -1,6 +1,6 @@
 use Rattle.std.proofs.Common.{List, ℕ, Option, None, get_or, ◌∷◌, [], ◌++◌, sym, ◌∙◌, ap, Bor}
 use Rattle.std.specs.Option.{option_map}
-use Rattle.build_log.specs.Kept.{if_some}
+use Rattle.log_text.specs.Kept.{if_some}
 use Rattle.links.proofs.Sets.{inserted}
 use Rattle.builder.specs.Recorded.{texts_of}
 use Rattle.builder.proofs.Numbering.{just_more, just_insert, just_is}

@@ -1,5 +1,5 @@
 use Rattle.std.proofs.Common.{◌++◌, ℕ, List, take}
-use Rattle.build_log.specs.Kept.{texts_at as logged_at}
+use Rattle.log_text.specs.Kept.{texts_at as logged_at}
 use Rattle.builder.specs.Recorded.{HasOnlyMorePaths, AreNumbered, HaveJust, texts_of}
 use Rattle.builder.proofs.recorded.push_inputs.Given as goal
 

@@ -1,7 +1,7 @@
 use Rattle.std.proofs.Common.{List, ℕ, Option, Some, None, get_or, sym, ◌∙◌, ap, append-nil, Bor}
 use Rattle.std.specs.Option.{option_copied, option_map}
-use Rattle.deps_log.specs.declared.deps.Deps.{Deps}
-use Rattle.deps_log.specs.Log.{told_in}
+use Rattle.log_text.specs.declared.deps.Deps.{Deps}
+use Rattle.log_text.specs.DepsLog.{told_in}
 use Rattle.links.specs.Links.{links_of}
 use Rattle.builder.specs.Recorded.{texts_of}
 use Rattle.builder.proofs.Joining.{named_too, adds_nothing}

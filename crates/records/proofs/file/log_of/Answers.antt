@@ -1,7 +1,7 @@
 use Rattle.std.proofs.Common.{◌≡◌, ◌↔◌, List, ℕ, length, subst}
-use Rattle.build_log.specs.declared.form.Version.TheVariants.{Two}
-use Rattle.build_log.specs.Kept.{WantsCompaction}
-use Rattle.build_log.specs.Text.{IsRead, IsLogOf}
+use Rattle.log_text.specs.declared.form.Version.TheVariants.{Two}
+use Rattle.log_text.specs.Kept.{WantsCompaction}
+use Rattle.log_text.specs.Text.{IsRead, IsLogOf}
 use Rattle.records.specs.declared.file.State.TheVariants.{Usable}
 use Rattle.records.proofs.file.log_of.Goals as goal
 

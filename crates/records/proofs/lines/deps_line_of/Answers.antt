@@ -1,5 +1,5 @@
 use Rattle.std.proofs.Common.{sym, ap, subst, ◌∙◌, ℕ, List, map, suc}
-use Rattle.build_log.specs.Kept.{AreDistinct}
+use Rattle.log_text.specs.Kept.{AreDistinct}
 use Rattle.links.specs.Told.{declared_by}
 use Rattle.records.proofs.Distinct.{distinct}
 use Rattle.records.proofs.lines.deps_line_of.Goals as goal

@@ -1,6 +1,6 @@
 use Rattle.std.proofs.Common.{true, refl, ◌∙◌, ap}
 use Rattle.theory.proofs.SiteCalls.{looks_none}
-use Rattle.build_log.specs.Found.{texts_in}
+use Rattle.log_text.specs.Found.{texts_in}
 use Rattle.theory.proofs.Writing.{looks_at}
 use Rattle.runner.proofs.Cutting.{cause_none}
 use Rattle.runner.proofs.Launched.{err_then}

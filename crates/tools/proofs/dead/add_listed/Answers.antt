@@ -2,7 +2,7 @@ use Rattle.std.proofs.Common.{◌≡◌, [], ℕ, List, true, get_or, refl, subs
 use Rattle.std.proofs.lemmas.Bool.{false≢true}
 use Rattle.std.proofs.lemmas.List.{take_all}
 use Rattle.model.specs.Graph.{has}
-use Rattle.build_log.specs.Kept.{texts_at}
+use Rattle.log_text.specs.Kept.{texts_at}
 use Rattle.tools.specs.Clean.{AddsJust}
 use Rattle.tools.proofs.Adding.{IsHad, adds_none}
 use Rattle.tools.proofs.Burying.{numbers_more}

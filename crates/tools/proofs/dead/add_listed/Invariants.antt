@@ -1,6 +1,6 @@
 use Rattle.std.proofs.Common.{◌≡◌, take, true}
 use Rattle.model.specs.Graph.{has}
-use Rattle.build_log.specs.Kept.{texts_at}
+use Rattle.log_text.specs.Kept.{texts_at}
 use Rattle.tools.specs.Clean.{AddsJust}
 use Rattle.tools.proofs.dead.add_listed.Given as goal
 

@@ -1,8 +1,8 @@
 use Rattle.std.proofs.Common.{◌≡◌, ℕ, List, Some, true, slice_get, subst, sym}
 use Rattle.model.specs.Graph.{has}
-use Rattle.build_log.specs.Kept.{Table, texts_at}
-use Rattle.deps_log.specs.Log.{Keeps, told_found, tolds}
-use Rattle.deps_log.specs.declared.deps.Deps.{Deps}
+use Rattle.log_text.specs.Kept.{Table, texts_at}
+use Rattle.log_text.specs.DepsLog.{Keeps, told_found, tolds}
+use Rattle.log_text.specs.declared.deps.Deps.{Deps}
 use Rattle.tools.specs.Clean.{AddsJust}
 use Rattle.tools.proofs.Burying.{lists_none, lists_some}
 use Rattle.tools.proofs.Putting.{on_ok}

@@ -1,8 +1,8 @@
 use Rattle.std.proofs.Common.{◌≡◌, [], length, map, ap, arith, subst, sym, ◌∙◌}
 use Rattle.std.specs.Map.Iter.{deref}
-use Rattle.build_log.specs.Kept.{Table}
-use Rattle.build_log.specs.Log.{Keeps, makings, saying}
-use Rattle.build_log.specs.declared.done.Done.{Done}
+use Rattle.log_text.specs.Kept.{Table}
+use Rattle.log_text.specs.BuildLog.{Keeps, makings, saying}
+use Rattle.log_text.specs.declared.done.Done.{Done}
 use Rattle.tools.proofs.Burying.{left_counted, left_made, left_start, left_texts}
 use Rattle.tools.proofs.Forcing.{IsLeftAt}
 use Rattle.tools.proofs.dead.bury_made.Goals as goal

@@ -1,6 +1,6 @@
 use Rattle.std.proofs.Common.{[], List}
 use Rattle.model.specs.declared.record.Record.{Record}
-use Rattle.build_log.specs.Log.{Keeps}
+use Rattle.log_text.specs.BuildLog.{Keeps}
 use Rattle.tools.specs.Dead.{AddsLeft}
 use Rattle.tools.proofs.Adding.{IsBelow}
 use Rattle.tools.proofs.Forcing.{IsLeftAt}

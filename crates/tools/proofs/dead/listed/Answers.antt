@@ -1,7 +1,7 @@
 use Rattle.std.proofs.Common.{◌≡◌, [], length, arith, subst, sym}
-use Rattle.build_log.specs.Kept.{Table}
-use Rattle.deps_log.specs.Log.{Keeps, tolds}
-use Rattle.deps_log.specs.declared.deps.Deps.{Deps}
+use Rattle.log_text.specs.Kept.{Table}
+use Rattle.log_text.specs.DepsLog.{Keeps, tolds}
+use Rattle.log_text.specs.declared.deps.Deps.{Deps}
 use Rattle.tools.specs.Dead.{IsListedAt}
 use Rattle.tools.proofs.Adding.{adds_counted}
 use Rattle.tools.proofs.Burying.{lists_all, lists_start}

@@ -1,6 +1,6 @@
 use Rattle.std.proofs.Common.{[], List}
 use Rattle.model.specs.declared.record.DepsRecord.{DepsRecord}
-use Rattle.deps_log.specs.Log.{Keeps}
+use Rattle.log_text.specs.DepsLog.{Keeps}
 use Rattle.tools.specs.Clean.{AddsJust}
 use Rattle.tools.specs.Dead.{IsListedAt}
 use Rattle.tools.proofs.Adding.{IsBelow}

@@ -1,6 +1,6 @@
 use Rattle.std.proofs.Common.{◌≡◌, [], Bool, List, length, vec_len, subst, sym, ◌∙◌, arith}
 use Rattle.std.proofs.lemmas.Bool.{eqb-true}
-use Rattle.build_log.specs.Kept.{texts_at}
+use Rattle.log_text.specs.Kept.{texts_at}
 use Rattle.tools.specs.Missing.{AddsDeps, IsUnmarked}
 use Rattle.tools.specs.declared.missing.MissingDep.{MissingDep}
 use Rattle.tools.proofs.Lacking.{apart_all, apart_none, deps_empty}

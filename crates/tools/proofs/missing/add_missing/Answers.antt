@@ -1,5 +1,5 @@
 use Rattle.std.proofs.Common.{ℕ, List, subst}
-use Rattle.build_log.specs.Kept.{texts_at}
+use Rattle.log_text.specs.Kept.{texts_at}
 use Rattle.tools.specs.Missing.{AddsDeps, IsApart}
 use Rattle.tools.proofs.Lacking.{missing_none, missing_some}
 use Rattle.tools.proofs.Putting.{on_ok}

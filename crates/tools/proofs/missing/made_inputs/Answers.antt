@@ -1,6 +1,6 @@
 use Rattle.std.proofs.Common.{[], ℕ, List, get_or, refl, subst, sym}
 use Rattle.std.proofs.lemmas.List.{take_all}
-use Rattle.build_log.specs.Kept.{texts_at}
+use Rattle.log_text.specs.Kept.{texts_at}
 use Rattle.tools.specs.Missing.{AddsDeps, IsMadeFor}
 use Rattle.tools.specs.declared.missing.MissingDep.{MissingDep}
 use Rattle.tools.proofs.Lacking.{made_more, made_start}

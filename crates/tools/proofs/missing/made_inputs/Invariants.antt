@@ -1,5 +1,5 @@
 use Rattle.std.proofs.Common.{[], take}
-use Rattle.build_log.specs.Kept.{texts_at}
+use Rattle.log_text.specs.Kept.{texts_at}
 use Rattle.tools.specs.Missing.{AddsDeps, IsMadeFor}
 use Rattle.tools.proofs.missing.made_inputs.Given as goal
 

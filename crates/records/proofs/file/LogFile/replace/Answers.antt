@@ -1,6 +1,6 @@
 use Rattle.std.proofs.Common.{inr, ℕ, List, sym, subst, ap, ◌∙◌, refl}
-use Rattle.build_log.specs.declared.form.Version.TheVariants.{Two}
-use Rattle.build_log.specs.Text.{IsLogOf}
+use Rattle.log_text.specs.declared.form.Version.TheVariants.{Two}
+use Rattle.log_text.specs.Text.{IsLogOf}
 use Rattle.records.specs.Held.{Held}
 use Rattle.records.proofs.Replacing.{replace_at, replace_ok, replace_anew}
 use Rattle.records.proofs.file.LogFile.replace.Goals as goal

@@ -1,8 +1,8 @@
 use Rattle.theory.proofs.Looks.{looks_then}
-use Rattle.build_log.specs.Log.{Keeps, compaction}
-use Rattle.build_log.specs.Record.{forms}
-use Rattle.deps_log.specs.Log.{Keeps as KeepsDeps, compaction as deps_compaction}
-use Rattle.deps_log.specs.Record.{forms as deps_forms}
+use Rattle.log_text.specs.BuildLog.{Keeps, compaction}
+use Rattle.log_text.specs.BuildRecord.{forms}
+use Rattle.log_text.specs.DepsLog.{Keeps as KeepsDeps, compaction as deps_compaction}
+use Rattle.log_text.specs.DepsRecordLine.{forms as deps_forms}
 use Rattle.records.proofs.Reading.{read_before, read_after}
 use Rattle.records.proofs.logs.Logs.read.Goals as goal
 

@@ -2,9 +2,9 @@ use Rattle.std.proofs.Common.{◌≡◌, Some, None, slice_get, sym, subst, ap, 
 use Rattle.std.specs.Option.{option_and_then, option_copied, option_map}
 use Rattle.model.specs.Records.{deps_in_force}
 use Rattle.paths.specs.Told.{text_at}
-use Rattle.build_log.specs.Kept.{Table, joined}
-use Rattle.deps_log.specs.declared.deps.Deps.{Deps}
-use Rattle.deps_log.specs.Log.{Keeps, told_in, tolds}
+use Rattle.log_text.specs.Kept.{Table, joined}
+use Rattle.log_text.specs.declared.deps.Deps.{Deps}
+use Rattle.log_text.specs.DepsLog.{Keeps, told_in, tolds}
 use Rattle.records.proofs.Places.{place_got}
 use Rattle.records.proofs.records.Records.deps.Goals as goal
 

@@ -1,9 +1,9 @@
 use Rattle.std.proofs.Common.{Some, sym, subst, suc}
 use Rattle.model.specs.declared.record.Record.TheVariants.{Done}
 use Rattle.model.specs.Graph.{edge_at, outputs}
-use Rattle.build_log.specs.declared.form.Version.TheVariants.{Two}
-use Rattle.build_log.specs.Form.{IsLineOf}
-use Rattle.build_log.specs.Record.{forms}
+use Rattle.log_text.specs.declared.form.Version.TheVariants.{Two}
+use Rattle.log_text.specs.Form.{IsLineOf}
+use Rattle.log_text.specs.BuildRecord.{forms}
 use Rattle.links.specs.Told.{declared_by}
 use Rattle.records.proofs.Results.{on_err}
 use Rattle.records.proofs.Putting.{build_carried}

@@ -1,8 +1,8 @@
 use Rattle.std.proofs.Common.{Some, sym, subst, suc}
-use Rattle.build_log.specs.declared.form.Version.TheVariants.{Two}
-use Rattle.build_log.specs.Form.{IsLineOf}
-use Rattle.build_log.specs.Found.{texts_in}
-use Rattle.deps_log.specs.Record.{forms}
+use Rattle.log_text.specs.declared.form.Version.TheVariants.{Two}
+use Rattle.log_text.specs.Form.{IsLineOf}
+use Rattle.log_text.specs.Found.{texts_in}
+use Rattle.log_text.specs.DepsRecordLine.{forms}
 use Rattle.records.specs.Logging.{deps_of}
 use Rattle.links.specs.Told.{declared_by}
 use Rattle.records.proofs.Results.{on_err}

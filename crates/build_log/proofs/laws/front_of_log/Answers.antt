@@ -1,5 +1,0 @@
-use Rattle.build_log.proofs.LawLemmas.{front_of_log_law}
-use Rattle.build_log.proofs.laws.front_of_log.Goals as goal
-
-pub returns : goal.returns
-returns g c = front_of_log_law g.L.Records.forms c.are_readable.ensures

@@ -1,5 +1,0 @@
-use Rattle.build_log.proofs.EachRead.{has_reader_law}
-use Rattle.build_log.proofs.laws.has_reader.Goals as goal
-
-pub returns : goal.returns
-returns g c = has_reader_law g.L.Records.forms c.one_reading.ensures c.each_is_read.ensures

@@ -1,5 +1,0 @@
-use Rattle.build_log.specs.Kept.{texts_of}
-use Rattle.build_log.proofs.texts.Texts.widen.Goals as goal
-
-pub invariant_of-self : goal.invariant_of-self
-invariant_of-self c = (c.self.invariant.0, c.self.invariant.1, c.double.ensures (texts_of c.self.inside.texts.keys) c.self.invariant.2)

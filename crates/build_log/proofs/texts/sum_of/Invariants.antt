@@ -1,5 +1,0 @@
-use Rattle.std.proofs.Common.{length}
-use Rattle.build_log.proofs.texts.sum_of.Given as goal
-
-abbrev pub decreases-loop-chunk : goal.decreases-loop-chunk
-decreases-loop-chunk l = length l.rest

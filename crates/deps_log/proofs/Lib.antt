@@ -1,7 +1,0 @@
-mod Plain
-pub mod Digits
-pub mod Fields
-pub mod Sayings
-pub mod Keeping
-pub mod Writing
-pub mod RecordOf

@@ -1,6 +1,0 @@
-use Rattle.std.proofs.Common.{sym, subst, ◌∙◌}
-use Rattle.build_log.specs.Kept.{AreDistinct}
-use Rattle.deps_log.proofs.log.Log.apply.Goals as goal
-
-pub put-requires : goal.put-requires
-put-requires c = subst AreDistinct (sym (c.as_slice-3.ensures.value ∙ (c.in_ok-outputs.ensures ∙ c.as_slice.ensures))) c.requires.once

@@ -1,3 +1,0 @@
-pub mod Record
-pub mod Log
-pub mod Format

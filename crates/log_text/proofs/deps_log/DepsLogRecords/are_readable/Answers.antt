@@ -1,0 +1,6 @@
+use Rattle.log_text.proofs.HeadFields.{one_record, no_line_feed, other_lines}
+use Rattle.log_text.proofs.DepsRecordOf.{record_of_fields}
+use Rattle.log_text.proofs.deps_log.DepsLogRecords.are_readable.Goals as goal
+
+pub returns : goal.returns
+returns c = record { one_record = one_record; one_line = no_line_feed; differ = other_lines; decided = record_of_fields c.parts_are_decided.ensures }

@@ -1,0 +1,5 @@
+use Rattle.log_text.proofs.LawLemmas.{front_of_lines_law}
+use Rattle.log_text.proofs.laws.front_of_lines.Goals as goal
+
+pub returns : goal.returns
+returns g c = front_of_lines_law g.L.Records.forms c.are_readable.ensures
