@@ -34,17 +34,17 @@ use Rattle.links.specs.Cone.{mark_at, is_listed}
 use Rattle.links.specs.Linked.{IsConeOf}
 use Rattle.links.proofs.Texts.{length-edges}
 use Rattle.links.specs.declared.cone.Mark.{Mark}
-use Rattle.looks.proofs.Slices.{item_has}
+use Rattle.judge.proofs.Numbers.{item_has}
 use Rattle.links.specs.Told.{declared_by, recorded_by}
-use Rattle.looks.specs.Seen.{AreKept, AreSeenOf}
+use Rattle.judge.specs.Seen.{AreKept, AreSeenOf}
 use Rattle.records.specs.Known.{AreKnown}
 use Rattle.records.specs.Laws.{LogStays}
-use Rattle.verdict.specs.Judged.{KeepsDepfile}
-use Rattle.dues.specs.Quiet.{HasPathsFor, KeepsDepfiles, AreAlike, IfQuiet}
-use Rattle.dues.specs.Stores.{IsStoreOf}
-use Rattle.dues.specs.UnderWay.{IsUnderWay}
-use Rattle.dues.proofs.Callers.{under_way}
-use Rattle.dues.proofs.Points.{HasQuiet, IsSpared, paths_for, points_alike}
+use Rattle.judge.specs.Judged.{KeepsDepfile}
+use Rattle.judge.specs.Quiet.{HasPathsFor, KeepsDepfiles, AreAlike, IfQuiet}
+use Rattle.judge.specs.Stores.{IsStoreOf}
+use Rattle.judge.specs.UnderWay.{IsUnderWay}
+use Rattle.judge.proofs.Callers.{under_way}
+use Rattle.judge.proofs.Points.{HasQuiet, IsSpared, paths_for, points_alike}
 use Rattle.runner.specs.declared.state.State.{State}
 use Rattle.runner.specs.After.{ComesAfter}
 use Rattle.runner.specs.Course.{Course, is_quiet}

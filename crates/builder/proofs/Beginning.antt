@@ -25,9 +25,9 @@ use Rattle.paths.specs.Told.{text_at}
 use Rattle.links.specs.declared.cone.Cone.{Cone}
 use Rattle.links.specs.declared.graph.Graph.{Graph}
 use Rattle.links.specs.Told.{declared_by}
-use Rattle.dues.specs.Stores.{IsConeIn}
-use Rattle.looks.specs.declared.table.Looks.{Looks}
-use Rattle.looks.specs.declared.table.Look.TheVariants.{Unasked}
+use Rattle.judge.specs.Stores.{IsConeIn}
+use Rattle.judge.specs.declared.looks.Looks.{Looks}
+use Rattle.judge.specs.declared.looks.Look.TheVariants.{Unasked}
 use Rattle.records.specs.declared.records.Records.{Records}
 use Rattle.records.specs.Known.{AreKnown}
 use Rattle.records.specs.Logging.{IsLogging}

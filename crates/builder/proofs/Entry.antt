@@ -1,9 +1,9 @@
 -- What is found of sources before anything was judged.
 use Rattle.std.proofs.Common.{◌≡◌, ℕ, zero, suc, false, List, length, refl, ◌∙◌, ap, replicate}
-use Rattle.looks.specs.declared.table.Looks.{Looks}
-use Rattle.looks.specs.declared.table.Look.{Look}
-use Rattle.looks.specs.declared.table.Look.TheVariants.{Unasked}
-use Rattle.looks.specs.Seen.{look_at, is_asked}
+use Rattle.judge.specs.declared.looks.Looks.{Looks}
+use Rattle.judge.specs.declared.looks.Look.{Look}
+use Rattle.judge.specs.declared.looks.Look.TheVariants.{Unasked}
+use Rattle.judge.specs.Seen.{look_at, is_asked}
 
 -- nothing was asked for
 abbrev pub AreUnasked : Looks → Type 0

@@ -35,7 +35,7 @@ use Rattle.links.specs.Told.{declared_by, recorded_by}
 use Rattle.links.proofs.Texts.{has_text, number_of}
 use Rattle.records.specs.declared.records.Records.{Records}
 use Rattle.records.specs.Known.{IsOf, IsOfDeps, AreKnown}
-use Rattle.verdict.specs.Facts.{AreKnownOf}
+use Rattle.judge.specs.Facts.{AreKnownOf}
 use Rattle.builder.specs.Recorded.{are_known, is_in_use, HasMorePaths, HasOnlyMorePaths, AreNumbered, HaveJust, IsShared, IsJoined, MayBeJoined, HasJoinedOf, AreJoined, HasJoined, deps_place, named_by}
 use Rattle.builder.proofs.Numbering.{text_before, texts_more, more_then, has_both}
 use Rattle.builder.proofs.Telling.{edge_is, outputs_are, length_edges}

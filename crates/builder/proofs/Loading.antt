@@ -38,7 +38,7 @@ use Rattle.dyndep.specs.declared.addition.Addition.{Addition as Statement}
 use Rattle.dyndep.specs.declared.fault.DynFault.{DynFault}
 use Rattle.dyndep.specs.declared.fault.DynFault.TheVariants as said
 use Rattle.dyndep.specs.Dyndep.{IsRead, accepted}
-use Rattle.dues.proofs.Points.{IsSpared, points_alike}
+use Rattle.judge.proofs.Points.{IsSpared, points_alike}
 use Rattle.lowest.specs.Flags as flags
 use Rattle.paths.specs.Told.{text_at, texts_at}
 use Rattle.links.specs.declared.cone.Cone.{Cone}
@@ -47,10 +47,10 @@ use Rattle.links.specs.Extended.{addition_of}
 use Rattle.links.specs.Linked.{StandFor, IsConeOf}
 use Rattle.links.specs.Links.{links_of}
 use Rattle.links.specs.Told.{declared_by}
-use Rattle.looks.specs.declared.table.Look.{Look}
-use Rattle.looks.specs.declared.table.Looks.{Looks}
-use Rattle.looks.specs.Seen.{look_at, look_of, is_asked, AreKept, AreSeenOf}
-use Rattle.looks.proofs.Kept.{seen_kept}
+use Rattle.judge.specs.declared.looks.Look.{Look}
+use Rattle.judge.specs.declared.looks.Looks.{Looks}
+use Rattle.judge.specs.Seen.{look_at, look_of, is_asked, AreKept, AreSeenOf}
+use Rattle.judge.proofs.Kept.{seen_kept}
 use Rattle.plan.specs.declared.plan.Plan.{Plan}
 use Rattle.plan.specs.Planned.{IsDeclaredTask, IsTaskOf, IsPlanned, AreTaken}
 use Rattle.records.specs.declared.logs.Logs.{Logs}

@@ -14,8 +14,8 @@ use Rattle.links.specs.declared.cone.Cone.{Cone}
 use Rattle.links.specs.declared.graph.Graph.{Graph}
 use Rattle.links.specs.Links.{links_of}
 use Rattle.links.specs.Told.{declared_by}
-use Rattle.looks.specs.declared.table.Looks.{Looks}
-use Rattle.looks.specs.Looking.{HasLooked}
+use Rattle.judge.specs.declared.looks.Looks.{Looks}
+use Rattle.judge.specs.Looking.{HasLooked}
 use Rattle.paths.specs.Told.{text_at}
 use Rattle.plan.specs.declared.plan.Plan.{Plan}
 use Rattle.plan.specs.declared.step.Step.TheVariants.{Load}

@@ -22,7 +22,7 @@ use Rattle.paths.specs.declared.manifest.Manifest.{Manifest}
 use Rattle.paths.specs.Commands.{no_action}
 use Rattle.paths.specs.Lists.{line_at, line_outputs}
 use Rattle.paths.specs.Told.{text_at, texts_at, edge_of, edges_of, graph_of}
-use Rattle.dues.specs.Lacks.{IsLackedBy, IsAskedFor}
+use Rattle.judge.specs.Lacks.{IsLackedBy, IsAskedFor}
 use Rattle.builder.specs.Loads.{NamesSource}
 use Rattle.builder.specs.Reports.{IsMissingFor, first_output_of}
 use Rattle.builder.specs.Recorded.{IsRecordedBy}

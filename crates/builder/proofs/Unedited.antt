@@ -9,7 +9,7 @@ use Rattle.model.specs.Records.{OwnFiles}
 use Rattle.model.specs.Premises.{LogsAreLeft, OnlyFreeIsEdited, IsNoEdit}
 use Rattle.theory.proofs.Looks.{edits_before, untouched}
 use Rattle.theory.proofs.Starting.{since}
-use Rattle.looks.specs.Seen.{AreKept}
+use Rattle.judge.specs.Seen.{AreKept}
 use Rattle.runner.proofs.Quiet.{all_kept}
 use Rattle.builder.specs.Going.{is_bound}
 

@@ -10,10 +10,10 @@ use Rattle.model.specs.Phases.{Phase}
 use Rattle.paths.specs.Told.{text_at}
 use Rattle.links.specs.declared.cone.Cone.{Cone}
 use Rattle.links.specs.declared.graph.Graph.{Graph}
-use Rattle.looks.specs.declared.table.Looks.{Looks}
+use Rattle.judge.specs.declared.looks.Looks.{Looks}
 use Rattle.plan.specs.declared.plan.Plan.{Plan}
 use Rattle.records.specs.declared.records.Records.{Records}
-use Rattle.dues.specs.Lacks.{HasDue}
+use Rattle.judge.specs.Lacks.{HasDue}
 use Rattle.reasons.specs.declared.told.DueCommand.{DueCommand}
 use Rattle.reasons.specs.Why.{HasTold}
 use Rattle.runner.specs.declared.state.State.{State}

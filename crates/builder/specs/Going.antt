@@ -24,7 +24,7 @@ use Rattle.links.specs.Told.{declared_by}
 use Rattle.theory.specs.Ledger.{IsPhased}
 use Rattle.plan.specs.declared.plan.Plan.{Plan}
 use Rattle.plan.specs.Planned.{IsPlanned, AreTaken}
-use Rattle.looks.specs.Seen.{AreSeenOf}
+use Rattle.judge.specs.Seen.{AreSeenOf}
 use Rattle.runner.specs.declared.cut.Cut.{Cut}
 use Rattle.runner.specs.declared.state.State.{State}
 use Rattle.runner.specs.declared.summary.Pause.{Pause}

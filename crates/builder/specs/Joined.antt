@@ -20,7 +20,7 @@ use Rattle.links.specs.declared.graph.Graph.{Graph}
 use Rattle.links.specs.Extended.{HasLoaded, IsUnfit, IsRemadeBy}
 use Rattle.links.specs.Targets.{IsConeOfNumbers}
 use Rattle.links.specs.Told.{declared_by, recorded_by, AreSameInputs}
-use Rattle.looks.specs.Seen.{look_at}
+use Rattle.judge.specs.Seen.{look_at}
 use Rattle.records.specs.declared.records.Records.{Records}
 use Rattle.records.specs.Known.{AreKnown}
 use Rattle.plan.specs.declared.plan.Plan.{Plan}

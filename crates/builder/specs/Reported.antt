@@ -9,7 +9,7 @@ use Rattle.std.specs.Prelude.{Bool}
 use Rattle.theory.specs.Seen.{IsSeen}
 use Rattle.links.specs.declared.cone.Cone.{Cone}
 use Rattle.links.specs.declared.graph.Graph.{Graph}
-use Rattle.looks.specs.declared.table.Look.TheVariants.{Unasked}
+use Rattle.judge.specs.declared.looks.Look.TheVariants.{Unasked}
 use Rattle.records.specs.declared.records.Records.{Records}
 use Rattle.runner.specs.declared.state.State.{State}
 use Rattle.runner.specs.declared.summary.Summary.{Summary}

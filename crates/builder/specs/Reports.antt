@@ -23,7 +23,7 @@ use Rattle.links.specs.declared.fault.GraphFault.{GraphFault}
 use Rattle.links.specs.declared.fault.GraphFault.TheVariants as graph
 use Rattle.links.specs.Targets.{IsNoCone}
 use Rattle.links.specs.Told.{declared_by, recorded_by}
-use Rattle.dues.specs.Stores.{IsConeIn}
+use Rattle.judge.specs.Stores.{IsConeIn}
 use Rattle.records.specs.declared.records.Records.{Records}
 use Rattle.records.specs.Known.{AreKnown}
 use Rattle.records.specs.Logging.{IsLogging}

@@ -11,9 +11,9 @@ use Rattle.theory.specs.Seen.{Unrefused}
 use Rattle.links.specs.declared.cone.Cone.{Cone}
 use Rattle.links.specs.declared.graph.Graph.{Graph}
 use Rattle.links.specs.Told.{declared_by}
-use Rattle.dues.specs.UnderWay.{IsUnderWay}
-use Rattle.dues.specs.Quiet.{IfQuiet}
-use Rattle.looks.specs.declared.table.Looks.{Looks}
+use Rattle.judge.specs.UnderWay.{IsUnderWay}
+use Rattle.judge.specs.Quiet.{IfQuiet}
+use Rattle.judge.specs.declared.looks.Looks.{Looks}
 use Rattle.records.specs.declared.records.Records.{Records}
 use Rattle.plan.specs.declared.plan.Plan.{Plan}
 use Rattle.builder.specs.declared.report.Missing.{Missing as Lacking}

@@ -12,7 +12,7 @@ ghost use Rattle.links.specs.LoadedEdges.{numbers_in};
 ghost use Rattle.links.specs.Told.{declared_by};
 ghost use Rattle.log_text.specs.Kept.{if_some, texts_at as logged_at};
 ghost use Rattle.records.specs.Known.{IsOf, IsOfDeps, AreKnown};
-ghost use Rattle.verdict.specs.Facts.{AreKnownOf};
+ghost use Rattle.judge.specs.Facts.{AreKnownOf};
 ghost use Rattle.builder.specs.Reports.{IsUnrecorded};
 ghost use Rattle.builder.specs.Recorded.{are_known, is_in_use, HasMorePaths, HasOnlyMorePaths, IsJoined, MayBeJoined, AreToJoin, HasJoinedOf, AreNumbered, IsNumberedToo, HaveJust, IsShared, HasJoined, deps_place, named_by, texts_of};
 

@@ -3,18 +3,17 @@
 ghost use Rattle.std.specs.Prelude.{◌≡◌, ◌<◌, ℕ, false, length, vec_len, All, IfOk, IfErr, OnOk};
 ghost use Rattle.std.specs.Option.{option_map};
 ghost use Rattle.theory.specs.Seen.{Unrefused};
-ghost use Rattle.looks.specs.Looking.{HasLooked};
+ghost use Rattle.judge.specs.Looking.{HasLooked};
 ghost use Rattle.paths.specs.Told.{text_at};
-ghost use Rattle.dues.specs.Lacks.{HasDue, IsEdgeBelow, IsLackOf};
+ghost use Rattle.judge.specs.Lacks.{HasDue, IsEdgeBelow, IsLackOf};
 ghost use Rattle.builder.specs.Reports.{first_output_of};
 ghost use Rattle.builder.specs.Sources.{HasSources, LacksSource};
 
 use crate::names::{first_output, path_text};
 use crate::report::{Missing, Refusal};
 use crate::stop::Stop;
-use dues::{Found, Lack, sources};
+use judge::{Found, Lack, Looks, sources};
 use links::{Cone, Graph};
-use looks::Looks;
 use paths::EdgeId;
 use plan::Plan;
 use records::Records;

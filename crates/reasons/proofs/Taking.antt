@@ -6,8 +6,8 @@ use Rattle.model.specs.declared.reason.Reason.{Reason}
 use Rattle.model.specs.declared.reason.Reason.TheVariants.{OutputAbsent, NoRecord, OtherAct, InputAbsent, InputChanged, InputLater, OutputOlder, DepsUnknown}
 use Rattle.model.specs.Records.{Made}
 use Rattle.model.specs.Judgement.{OutputFacts}
-use Rattle.dirty.specs.declared.outputs.Outputs.{Outputs}
-use Rattle.dirty.specs.Summaries.{AreOutputs, TakesOutput}
+use Rattle.judge.specs.declared.output_facts.Outputs.{Outputs}
+use Rattle.judge.specs.Summaries.{AreOutputs, TakesOutput}
 use Rattle.reasons.specs.Why.{output_tells, holds_of_output}
 
 -- facts of an output that are the same

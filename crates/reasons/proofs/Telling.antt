@@ -15,14 +15,14 @@ use Rattle.model.specs.Graph.{has_number}
 use Rattle.theory.proofs.Lists.{all_append, has_number-cases}
 use Rattle.links.specs.declared.graph.Graph.{Graph}
 use Rattle.links.specs.Links.{links_of}
-use Rattle.looks.specs.declared.table.Look.{Look}
-use Rattle.looks.specs.declared.table.Looks.{Looks}
-use Rattle.looks.specs.Looking.{HasLooked, LooksFollow}
-use Rattle.looks.specs.Seen.{look_at, is_asked}
+use Rattle.judge.specs.declared.looks.Look.{Look}
+use Rattle.judge.specs.declared.looks.Looks.{Looks}
+use Rattle.judge.specs.Looking.{HasLooked, LooksFollow}
+use Rattle.judge.specs.Seen.{look_at, is_asked}
 use Rattle.records.specs.declared.records.Records.{Records}
-use Rattle.dirty.specs.declared.outputs.Outputs.{Outputs}
-use Rattle.dirty.specs.Summaries.{AreOutputs}
-use Rattle.dues.specs.Dues.{due_at}
+use Rattle.judge.specs.declared.output_facts.Outputs.{Outputs}
+use Rattle.judge.specs.Summaries.{AreOutputs}
+use Rattle.judge.specs.Dues.{due_at}
 use Rattle.reasons.specs.declared.told.DueCommand.{DueCommand}
 use Rattle.reasons.specs.Why.{OfRecords, HaveAsked, AreCommands, AreNotPhony, AreWhy, IsWhy, IsPath, TellsOne, act_of, edge_in, first_input, first_output, seen_output}
 

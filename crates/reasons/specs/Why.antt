@@ -20,17 +20,17 @@ use Rattle.links.specs.Links.{Links, links_of}
 use Rattle.links.specs.Alias.{counts_if_present}
 use Rattle.links.specs.ReadingOf.{IsReadingOf}
 use Rattle.links.specs.Told.{declared_by}
-use Rattle.looks.specs.declared.table.Look.{Look}
-use Rattle.looks.specs.declared.table.Looks.{Looks}
-use Rattle.looks.specs.Looking.{HasLooked}
-use Rattle.looks.specs.Seen.{look_at, is_asked, IfKept}
+use Rattle.judge.specs.declared.looks.Look.{Look}
+use Rattle.judge.specs.declared.looks.Looks.{Looks}
+use Rattle.judge.specs.Looking.{HasLooked}
+use Rattle.judge.specs.Seen.{look_at, is_asked, IfKept}
 use Rattle.records.specs.declared.records.Records.{Records}
 use Rattle.records.specs.Known.{IsOf, IsOfDeps, AreKnown}
-use Rattle.dirty.specs.declared.outputs.Outputs.{Outputs}
-use Rattle.dirty.specs.Summaries.{AreOutputs, TakesOutput}
-use Rattle.verdict.specs.Facts.{seen_stamp}
-use Rattle.verdict.specs.Judged.{IsAnswer, KeepsDepfile}
-use Rattle.dues.specs.Dues.{due_at, is_made_due}
+use Rattle.judge.specs.declared.output_facts.Outputs.{Outputs}
+use Rattle.judge.specs.Summaries.{AreOutputs, TakesOutput}
+use Rattle.judge.specs.Facts.{seen_stamp}
+use Rattle.judge.specs.Judged.{IsAnswer, KeepsDepfile}
+use Rattle.judge.specs.Dues.{due_at, is_made_due}
 use Rattle.reasons.specs.declared.told.DueCommand.{DueCommand}
 use Rattle.reasons.specs.Order.{IsSameCone}
 

@@ -5,11 +5,11 @@ ghost use Rattle.std.specs.List.{flat_map};
 ghost use Rattle.model.specs.Calls.{HasCause};
 ghost use Rattle.model.specs.Graph.{has_number};
 ghost use Rattle.links.specs.Links.{links_of};
-ghost use Rattle.looks.specs.Looking.{HasLooked};
+ghost use Rattle.judge.specs.Looking.{HasLooked};
 ghost use Rattle.reasons.specs.Why.{HaveAsked};
 
+use judge::{Looks, looks_follow};
 use links::{Graph, lists_stand};
-use looks::{Looks, looks_follow};
 use model::SiteFault;
 use paths::EdgeId;
 use site::Site;

@@ -2,7 +2,7 @@
 
 ghost use Rattle.std.specs.Prelude.{◌≡◌, ◌<◌, ◌&&◌, not, IfOk, length};
 ghost use Rattle.links.specs.Links.{links_of};
-ghost use Rattle.dues.specs.Dues.{due_at};
+ghost use Rattle.judge.specs.Dues.{due_at};
 ghost use Rattle.reasons.specs.Why.{AreCommands};
 
 use links::Graph;

@@ -5,13 +5,12 @@ ghost use Rattle.model.specs.OutOfDate.{deps_start};
 ghost use Rattle.model.specs.Records.{deps_in_force};
 ghost use Rattle.paths.specs.Told.{text_at};
 ghost use Rattle.records.specs.Known.{OfKnownDeps};
-ghost use Rattle.dirty.specs.Summaries.{AreOutputs};
-ghost use Rattle.looks.specs.Seen.{look_at};
-ghost use Rattle.verdict.specs.Facts.{seen_stamp};
+ghost use Rattle.judge.specs.Summaries.{AreOutputs};
+ghost use Rattle.judge.specs.Seen.{look_at};
+ghost use Rattle.judge.specs.Facts.{seen_stamp};
 ghost use Rattle.reasons.specs.Why.{OfRecords, TakesSeen, seen_output, output_tells, first_output};
 
-use dirty::{OutputFacts, Outputs, Reason};
-use looks::{Look, Looks};
+use judge::{Look, Looks, OutputFacts, Outputs, Reason};
 use model::Act;
 use paths::PathId;
 use records::Records;

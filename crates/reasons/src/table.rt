@@ -4,7 +4,7 @@ ghost use Rattle.std.specs.Prelude.{◌≡◌, ◌&&◌, ◌||◌, if◌then◌e
 ghost use Rattle.std.specs.Option.{option_or};
 ghost use Rattle.reasons.specs.Why.{told_reason, is_behind};
 
-use dirty::Reason;
+use judge::Reason;
 use paths::PathId;
 
 /// The first reason of the table that holds: `found` is what holds by the files as they are, of which none was made anew, and `anew`

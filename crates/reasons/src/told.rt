@@ -8,9 +8,9 @@ ghost use Rattle.links.specs.Links.{links_of};
 ghost use Rattle.links.specs.ReadingOf.{edges_in};
 ghost use Rattle.paths.specs.Lists.{line_at};
 ghost use Rattle.paths.specs.Told.{edge_of};
-ghost use Rattle.looks.specs.Looking.{HasLooked};
-ghost use Rattle.dues.specs.Dues.{due_at};
-ghost use Rattle.verdict.specs.Summed.{AreSums};
+ghost use Rattle.judge.specs.Looking.{HasLooked};
+ghost use Rattle.judge.specs.Dues.{due_at};
+ghost use Rattle.judge.specs.Summed.{AreSums};
 ghost use Rattle.reasons.specs.Why.{AreNotPhony, AreWhy, IsWhy, IsTold, HasTold, TellsOne, edge_in};
 
 use crate::asked::ask_for;
@@ -19,16 +19,14 @@ use crate::inputs::first_input;
 use crate::order::in_order;
 use crate::outputs::{first_output, summary_of};
 use crate::table::{first_found, is_sure, told_reason};
-use dirty::Reason;
+use judge::{Looks, Reason, Sums, looks_follow, reason};
 use links::{Cone, Graph, Reading, lists_stand, numbers_stand};
-use looks::{Looks, looks_follow};
 use model::SiteFault;
 use paths::{Action, Command, EdgeId, PathId};
 use records::Records;
 use site::Site;
 use std::alloc::Global;
 use std::slice;
-use verdict::{Sums, reason};
 
 /// A command that is due, and why.
 #[derive(Clone, Copy, Debug, PartialEq, Eq)]

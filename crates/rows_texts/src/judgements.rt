@@ -6,7 +6,7 @@
 //! With `scan` the act has a depfile, which is there with `depfile`, and is removed once it is read with `gcc`. `other-command` and
 //! `other-content` are what the command was not made with; `restat` is that of a rule.
 
-use dirty::{Facts, Inputs, OutputFacts, Outputs, judge};
+use judge::{Facts, Inputs, OutputFacts, Outputs, judge};
 use log_text::{Done, number_of};
 use model::{Act, Deps, Reason};
 use std::alloc::{AllocError, Global};

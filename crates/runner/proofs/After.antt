@@ -13,9 +13,9 @@ use Rattle.theory.proofs.Lists.{same_rest}
 use Rattle.links.specs.declared.graph.Graph.{Graph}
 use Rattle.theory.specs.Writes.{WritesAt}
 use Rattle.theory.proofs.Writing.{writes_or_not_at}
-use Rattle.looks.specs.declared.table.Looks.{Looks}
-use Rattle.looks.specs.Looking.{HasLooked}
-use Rattle.looks.proofs.Stays.{looked_then}
+use Rattle.judge.specs.declared.looks.Looks.{Looks}
+use Rattle.judge.specs.Looking.{HasLooked}
+use Rattle.judge.proofs.LooksStay.{looked_then}
 use Rattle.runner.specs.After.{ComesAfter, LooksUnlessMore}
 
 -- no list is itself and more

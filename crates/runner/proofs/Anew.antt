@@ -16,7 +16,7 @@ use Rattle.theory.proofs.Makers.{maker_has, maker_is}
 use Rattle.theory.proofs.Steps.{running_parts}
 use Rattle.paths.specs.Told.{text_at}
 use Rattle.links.specs.declared.graph.Graph.{Graph}
-use Rattle.looks.specs.Seen.{AreKept}
+use Rattle.judge.specs.Seen.{AreKept}
 use Rattle.runner.specs.declared.state.State.{State}
 use Rattle.runner.specs.Course.{Course, edges_of, is_quiet, AreAnew, AreSeenBefore}
 use Rattle.runner.proofs.Quiet.{KeepsQuiet, files_then, quiet_from}

@@ -9,12 +9,12 @@ use Rattle.lowest.specs.Flags.{has}
 use Rattle.links.specs.declared.graph.Graph.{Graph}
 use Rattle.links.specs.Links.{links_of}
 use Rattle.links.specs.Told.{declared_by}
-use Rattle.looks.specs.declared.table.Look.{Look}
-use Rattle.looks.specs.declared.table.Look.TheVariants.{Unasked}
-use Rattle.looks.specs.declared.table.Looks.{Looks}
-use Rattle.looks.specs.Looking.{HasLooked}
-use Rattle.looks.specs.Seen.{look_at}
-use Rattle.looks.proofs.Stays.{looked_none}
+use Rattle.judge.specs.declared.looks.Look.{Look}
+use Rattle.judge.specs.declared.looks.Look.TheVariants.{Unasked}
+use Rattle.judge.specs.declared.looks.Looks.{Looks}
+use Rattle.judge.specs.Looking.{HasLooked}
+use Rattle.judge.specs.Seen.{look_at}
+use Rattle.judge.proofs.LooksStay.{looked_none}
 use Rattle.plan.specs.Plan.{AreFlagged}
 use Rattle.runner.specs.declared.state.State.{State}
 use Rattle.runner.specs.Going.{IsSameBeside, HasEnded}

@@ -34,9 +34,9 @@ use Rattle.links.specs.declared.graph.Graph.{Graph}
 use Rattle.links.specs.Links.{links_of}
 use Rattle.links.specs.Linked.{StandFor}
 use Rattle.links.specs.Told.{declared_by}
-use Rattle.looks.specs.declared.table.Look.{Look}
-use Rattle.looks.specs.Seen.{look_at, look_of, is_asked, AreSeenOf}
-use Rattle.looks.proofs.Stays.{asked_look}
+use Rattle.judge.specs.declared.looks.Look.{Look}
+use Rattle.judge.specs.Seen.{look_at, look_of, is_asked, AreSeenOf}
+use Rattle.judge.proofs.LooksStay.{asked_look}
 use Rattle.plan.specs.declared.plan.Plan.{Plan}
 use Rattle.plan.specs.declared.step.Standing.TheVariants.{Running}
 use Rattle.plan.specs.Standing.{standing_at}

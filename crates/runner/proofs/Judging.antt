@@ -32,16 +32,16 @@ use Rattle.links.specs.declared.graph.Graph.{Graph}
 use Rattle.links.specs.Links.{links_of}
 use Rattle.links.specs.Linked.{StandFor}
 use Rattle.links.specs.Told.{declared_by, recorded_by}
-use Rattle.looks.specs.declared.table.Looks.{Looks}
-use Rattle.looks.specs.Looking.{HasLooked}
-use Rattle.looks.specs.Seen.{look_at, look_of, is_asked, IfKept, AreSeenOf}
+use Rattle.judge.specs.declared.looks.Looks.{Looks}
+use Rattle.judge.specs.Looking.{HasLooked}
+use Rattle.judge.specs.Seen.{look_at, look_of, is_asked, IfKept, AreSeenOf}
 use Rattle.plan.specs.declared.plan.Plan.{Plan}
 use Rattle.plan.specs.declared.step.Step.TheVariants.{Judge}
 use Rattle.plan.specs.Planned.{TakesStep}
 use Rattle.records.specs.Laws.{LogStays}
 use Rattle.records.specs.Known.{AreKnown}
-use Rattle.verdict.specs.Facts.{flag_at}
-use Rattle.verdict.specs.Judged.{IsAnswer, IsReasonBy, MayBeJudgedBy, MayBeStaleBy, AreUntouched, HasOldDepfile, KeepsDepfile, HasPathsOf}
+use Rattle.judge.specs.Facts.{flag_at}
+use Rattle.judge.specs.Judged.{IsAnswer, IsReasonBy, MayBeJudgedBy, MayBeStaleBy, AreUntouched, HasOldDepfile, KeepsDepfile, HasPathsOf}
 use Rattle.runner.specs.declared.state.State.{State}
 use Rattle.runner.specs.Course.{Course, goes_on, Suits, edges_of, is_quiet, AreAnew, AreSeenBefore, AreStarted, IsOn}
 use Rattle.runner.specs.Going.{IsSaid}

@@ -31,8 +31,8 @@ use Rattle.theory.proofs.Ledger.{command_of, running_of, stale_command, carried_
 use Rattle.theory.proofs.Writing.{looks_at, writes_or_not_at, ticks_grew}
 use Rattle.links.specs.declared.graph.Graph.{Graph}
 use Rattle.paths.specs.Told.{text_at}
-use Rattle.looks.specs.declared.table.Look.{Look}
-use Rattle.looks.specs.Seen.{look_of, AreKept, AreSeenOf}
+use Rattle.judge.specs.declared.looks.Look.{Look}
+use Rattle.judge.specs.Seen.{look_of, AreKept, AreSeenOf}
 use Rattle.plan.specs.declared.plan.Plan.{Plan}
 use Rattle.plan.specs.Planned.{IsPlanned, AreTaken}
 use Rattle.records.specs.declared.records.Records.{Records}

@@ -35,8 +35,8 @@ use Rattle.links.specs.declared.cone.Cone.{Cone}
 use Rattle.links.specs.Links.{links_of}
 use Rattle.links.specs.Linked.{StandFor, IsConeOf}
 use Rattle.links.specs.Told.{declared_by, recorded_by, AreSameInputs}
-use Rattle.looks.specs.declared.table.Look.{Look}
-use Rattle.looks.specs.Seen.{look_at, look_of, is_asked}
+use Rattle.judge.specs.declared.looks.Look.{Look}
+use Rattle.judge.specs.Seen.{look_at, look_of, is_asked}
 use Rattle.plan.specs.Planned.{IsTaskOf, IsPlanned, AreTaken}
 use Rattle.plan.specs.Extended.{IsGrownTask, GoesOn}
 use Rattle.records.specs.declared.logs.Logs.{Logs}

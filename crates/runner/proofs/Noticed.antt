@@ -5,10 +5,10 @@ use Rattle.model.specs.Judgement.{is_same_number}
 use Rattle.model.specs.Schedule.{Step as Done}
 use Rattle.paths.specs.Told.{text_at}
 use Rattle.links.specs.declared.graph.Graph.{Graph}
-use Rattle.looks.specs.declared.table.Looks.{Looks}
-use Rattle.looks.specs.Looking.{HasLooked}
-use Rattle.looks.specs.Seen.{look_at, look_of, is_asked}
-use Rattle.looks.proofs.Stays.{asked_look}
+use Rattle.judge.specs.declared.looks.Looks.{Looks}
+use Rattle.judge.specs.Looking.{HasLooked}
+use Rattle.judge.specs.Seen.{look_at, look_of, is_asked}
+use Rattle.judge.proofs.LooksStay.{asked_look}
 use Rattle.records.specs.Laws.{LogStays}
 use Rattle.runner.specs.declared.state.State.{State}
 use Rattle.runner.specs.Course.{Course, Suits, edges_of, is_quiet, AreSeenBefore, IsOn}

@@ -14,7 +14,7 @@ use Rattle.links.specs.declared.graph.Graph.{Graph}
 use Rattle.links.specs.Held.{maker_in}
 use Rattle.links.specs.Links.{is_alias, links_of}
 use Rattle.links.specs.Told.{declared_by}
-use Rattle.looks.proofs.Slices.{item_has}
+use Rattle.judge.proofs.Numbers.{item_has}
 
 -- ---- edges by number
 

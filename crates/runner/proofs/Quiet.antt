@@ -20,7 +20,7 @@ use Rattle.theory.proofs.Starting.{since}
 use Rattle.theory.proofs.Steps.{running_is, running_parts, started-append, ended-append, in_left}
 use Rattle.theory.specs.Writes.{GrewAt}
 use Rattle.theory.proofs.Writing.{at_elsewhere}
-use Rattle.looks.specs.Seen.{AreKept}
+use Rattle.judge.specs.Seen.{AreKept}
 use Rattle.runner.specs.Course.{is_private, is_under_way, is_quiet}
 
 -- ---- some of a list

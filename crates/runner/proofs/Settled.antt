@@ -19,7 +19,7 @@ use Rattle.theory.proofs.Steps.{running_parts}
 use Rattle.theory.proofs.Orderly.{IsKept, kept_orderly}
 use Rattle.theory.proofs.Exit.{unchanged, may_not}
 use Rattle.theory.proofs.Carried.{read_apart, read_bound}
-use Rattle.verdict.specs.Judged.{everything, HasPathsOf, AreUntouched}
+use Rattle.judge.specs.Judged.{everything, HasPathsOf, AreUntouched}
 use Rattle.runner.specs.Course.{is_quiet}
 use Rattle.runner.proofs.Quiet.{quiet_from}
 

@@ -5,8 +5,8 @@ use Rattle.model.specs.World.{World}
 use Rattle.model.specs.Graph.{has_number}
 use Rattle.links.specs.declared.graph.Graph.{Graph}
 use Rattle.links.specs.Links.{links_of}
-use Rattle.looks.specs.Seen.{is_asked}
-use Rattle.verdict.specs.Lasting.{has_command, is_made, KeepsUnmade}
+use Rattle.judge.specs.Seen.{is_asked}
+use Rattle.judge.specs.Lasting.{has_command, is_made, KeepsUnmade}
 use Rattle.runner.specs.declared.state.State.{State}
 use Rattle.runner.specs.Going.{HasEnded}
 

@@ -4,8 +4,8 @@ use Rattle.model.specs.declared.event.Event.{Event}
 use Rattle.model.specs.declared.event.Moment.{Moment}
 use Rattle.model.specs.World.{World}
 use Rattle.links.specs.declared.graph.Graph.{Graph}
-use Rattle.looks.specs.declared.table.Looks.{Looks}
-use Rattle.looks.specs.Looking.{HasLooked}
+use Rattle.judge.specs.declared.looks.Looks.{Looks}
+use Rattle.judge.specs.Looking.{HasLooked}
 
 -- what was started and ended, and the history, is that of before, and more
 pub record ComesAfter (tells : Bool) (old new : World) : Type 0 where

@@ -21,7 +21,7 @@ use Rattle.links.specs.Told.{declared_by, recorded_by, AreSameInputs}
 use Rattle.depfile.specs.Depfile.{IsReading}
 use Rattle.lowest.specs.Flags as flags
 use Rattle.plan.specs.Planned.{IsPlanned, AreTaken}
-use Rattle.looks.specs.Seen.{look_at, look_of, AreSeenOf}
+use Rattle.judge.specs.Seen.{look_at, look_of, AreSeenOf}
 use Rattle.records.specs.Known.{AreKnown}
 use Rattle.records.specs.Logging.{IsLogging}
 use Rattle.theory.specs.Ledger.{IsCarried}

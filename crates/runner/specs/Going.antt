@@ -13,9 +13,9 @@ use Rattle.links.specs.Links.{links_of}
 use Rattle.links.specs.Told.{declared_by}
 use Rattle.theory.specs.Ledger.{IsCutOff}
 use Rattle.paths.specs.Told.{text_at}
-use Rattle.looks.specs.declared.table.Looks.{Looks}
-use Rattle.looks.specs.Looking.{HasLooked}
-use Rattle.looks.specs.Seen.{look_at}
+use Rattle.judge.specs.declared.looks.Looks.{Looks}
+use Rattle.judge.specs.Looking.{HasLooked}
+use Rattle.judge.specs.Seen.{look_at}
 use Rattle.plan.specs.declared.step.End.{End}
 use Rattle.plan.specs.declared.step.Standing.{Standing}
 use Rattle.plan.specs.declared.step.Standing.TheVariants.{Outside, Unjudged, Clean, OutOfDate, Running, Well, Failed, Alias, Known}

@@ -5,11 +5,11 @@ use Rattle.model.specs.World.{World}
 use Rattle.model.specs.Graph.{has_number}
 use Rattle.links.specs.declared.graph.Graph.{Graph}
 use Rattle.links.specs.Links.{links_of}
-use Rattle.looks.specs.declared.table.Look.{Look}
-use Rattle.looks.specs.declared.table.Look.TheVariants.{Unasked, Absent, Stamp}
-use Rattle.looks.specs.declared.table.Looks.{Looks}
-use Rattle.looks.specs.Looking.{HasLooked}
-use Rattle.looks.specs.Seen.{look_at, is_asked}
+use Rattle.judge.specs.declared.looks.Look.{Look}
+use Rattle.judge.specs.declared.looks.Look.TheVariants.{Unasked, Absent, Stamp}
+use Rattle.judge.specs.declared.looks.Looks.{Looks}
+use Rattle.judge.specs.Looking.{HasLooked}
+use Rattle.judge.specs.Seen.{look_at, is_asked}
 
 -- both show a file, of one stamp
 abbrev pub is_same_look : Look → Look → Bool

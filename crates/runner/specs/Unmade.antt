@@ -1,6 +1,6 @@
 -- What a run knows of paths that no command makes.
 use Rattle.links.specs.declared.graph.Graph.{Graph}
-use Rattle.verdict.specs.Lasting.{KeepsUnmade}
+use Rattle.judge.specs.Lasting.{KeepsUnmade}
 use Rattle.runner.specs.declared.state.State.{State}
 
 -- of them the run still knows what was seen, and whether they were made anew

@@ -2,24 +2,24 @@
 
 ghost use Rattle.std.specs.Prelude.{◌≡◌, ◌<◌, None, false, is_some, get_or, OnOk, OnErr};
 ghost use Rattle.model.specs.Calls.{HasCause};
-ghost use Rattle.looks.specs.Looking.{HasLooked};
+ghost use Rattle.judge.specs.Looking.{HasLooked};
 ghost use Rattle.plan.specs.declared.step.Step.TheVariants as step;
 ghost use Rattle.plan.specs.Planned.{IsOffered, is_stale};
-ghost use Rattle.verdict.specs.Lasting.{AreMarked};
-ghost use Rattle.verdict.specs.Summed.{AreSums};
+ghost use Rattle.judge.specs.Lasting.{AreMarked};
+ghost use Rattle.judge.specs.Summed.{AreSums};
 ghost use Rattle.runner.specs.Course.{Course, Suits, IsOn};
 ghost use Rattle.runner.specs.Going.{IsGoing, IsSaid, work_left};
 
 use crate::outputs::ask_before;
 use crate::setting::Setting;
 use crate::state::State;
+use judge::{Sums, reason};
 use links::lists_stand;
 use model::{Reason, SiteFault};
 use paths::EdgeId;
 use plan::Verdict;
 use records::log_stays;
 use site::Site;
-use verdict::{Sums, reason};
 
 /// Judges an edge by the files as they are now and by the records of the entry.
 pub fn judge<S: Site>(

@@ -6,14 +6,14 @@ ghost use Rattle.model.specs.Graph.{edge_at, has_number, IsCommand};
 ghost use Rattle.lowest.specs.Flags.{has};
 ghost use Rattle.links.specs.Links.{links_of};
 ghost use Rattle.links.specs.Told.{declared_by};
-ghost use Rattle.looks.specs.declared.table.Look.TheVariants.{Unasked};
-ghost use Rattle.looks.specs.Looking.{HasLooked};
-ghost use Rattle.looks.specs.Seen.{look_at, is_asked};
+ghost use Rattle.judge.specs.declared.looks.Look.TheVariants.{Unasked};
+ghost use Rattle.judge.specs.Looking.{HasLooked};
+ghost use Rattle.judge.specs.Seen.{look_at, is_asked};
 ghost use Rattle.runner.specs.Restat.{is_same_look, AreChangesOf, LooksAnew};
 
 use crate::setting::Setting;
+use judge::{Look, Looks};
 use links::{Graph, lists_stand};
-use looks::{Look, Looks};
 use model::SiteFault;
 use paths::{Action, EdgeId, PathId};
 use site::Site;

@@ -19,12 +19,12 @@ use crate::setting::Setting;
 use crate::state::State;
 use crate::summary::{Pause, Summary};
 use crate::turn::{Halt, go_on};
+use judge::Sums;
 use paths::EdgeId;
 use plan::{End, Plan};
 use site::Site;
 use std::alloc::Global;
 use std::mem;
-use verdict::Sums;
 
 /// Runs a plan: judges, starts and takes in what the plan says until it has ended, or says that a dyndep file is to be loaded. What
 /// is found in order by the files and the records of the entry is not started. Each start is put into the log before it, each

@@ -8,7 +8,7 @@ ghost use Rattle.model.specs.Schedule.{Ended};
 ghost use Rattle.lowest.specs.Flags.{has};
 ghost use Rattle.links.specs.Links.{links_of};
 ghost use Rattle.links.specs.Told.{declared_by};
-ghost use Rattle.looks.specs.Seen.{look_at};
+ghost use Rattle.judge.specs.Seen.{look_at};
 ghost use Rattle.plan.specs.declared.step.Standing.{Standing};
 ghost use Rattle.plan.specs.Standing.{standing_at};
 ghost use Rattle.plan.specs.Planned.{IsPlanOver, TakesStep};

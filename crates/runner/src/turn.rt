@@ -2,8 +2,8 @@
 
 ghost use Rattle.std.specs.Prelude.{◌≡◌, ◌<◌, None, true, false, IfOk, OnOk, OnErr, MatchOption};
 ghost use Rattle.runner.specs.After.{ComesAfter, LooksUnlessMore};
-ghost use Rattle.verdict.specs.Lasting.{AreMarked};
-ghost use Rattle.verdict.specs.Summed.{AreSums};
+ghost use Rattle.judge.specs.Lasting.{AreMarked};
+ghost use Rattle.judge.specs.Summed.{AreSums};
 ghost use Rattle.runner.specs.Course.{Course, goes_on, Suits, IsOn};
 ghost use Rattle.runner.specs.Going.{IsGoing, IsHalted, IsCut, AreSet, work_left};
 ghost use Rattle.runner.specs.Cutting.{Cuts};
@@ -14,10 +14,10 @@ use crate::setting::Setting;
 use crate::start::start_edge;
 use crate::state::State;
 use crate::taken::take_in;
+use judge::Sums;
 use paths::PathId;
 use plan::{End, Step};
 use site::Site;
-use verdict::Sums;
 
 /// Why no step of a plan is taken.
 #[derive(Clone, Copy, Debug)]

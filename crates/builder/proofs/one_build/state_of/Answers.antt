@@ -1,5 +1,5 @@
 use Rattle.std.proofs.Common.{sym, ◌∙◌, ap, subst}
-use Rattle.looks.specs.declared.table.Looks.{Looks}
+use Rattle.judge.specs.declared.looks.Looks.{Looks}
 use Rattle.plan.specs.declared.plan.Plan.{Plan}
 use Rattle.builder.specs.Reports.{IsPlanFor}
 use Rattle.builder.proofs.one_build.state_of.Goals as goal

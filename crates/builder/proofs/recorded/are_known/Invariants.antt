@@ -2,7 +2,7 @@ use Rattle.std.proofs.Common.{◌≡◌, ℕ, true, List, take}
 use Rattle.model.specs.declared.record.Record.{Record}
 use Rattle.model.specs.declared.record.DepsRecord.{DepsRecord}
 use Rattle.paths.specs.Told.{texts_at}
-use Rattle.verdict.specs.Facts.{AreKnownOf}
+use Rattle.judge.specs.Facts.{AreKnownOf}
 use Rattle.builder.specs.Recorded.{are_known}
 use Rattle.builder.proofs.recorded.are_known.Given as goal
 

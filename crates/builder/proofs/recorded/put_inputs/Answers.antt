@@ -5,7 +5,7 @@ use Rattle.paths.specs.declared.line.Line.{Line}
 use Rattle.paths.specs.Lists.{line_at, line_outputs}
 use Rattle.paths.specs.Told.{texts_at}
 use Rattle.links.specs.Links.{links_of}
-use Rattle.verdict.specs.Facts.{AreKnownOf}
+use Rattle.judge.specs.Facts.{AreKnownOf}
 use Rattle.builder.specs.Recorded.{HaveJust, named_by}
 use Rattle.builder.proofs.Joining.{outputs_known}
 use Rattle.builder.proofs.Numbering.{only_then, just_is}

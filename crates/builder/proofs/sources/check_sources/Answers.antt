@@ -2,8 +2,8 @@ use Rattle.std.proofs.Common.{IfSome, inr, refl, subst}
 use Rattle.theory.proofs.SiteCalls.{unrefused_call}
 use Rattle.links.specs.Told.{declared_by}
 use Rattle.paths.specs.Told.{text_at}
-use Rattle.dues.specs.declared.lack.Found.{Found}
-use Rattle.dues.specs.Lacks.{IsFound, lack_in, IfPresent, HasDue, IsLackOf, IsAskedFor}
+use Rattle.judge.specs.declared.lack.Found.{Found}
+use Rattle.judge.specs.Lacks.{IsFound, lack_in, IfPresent, HasDue, IsLackOf, IsAskedFor}
 use Rattle.builder.proofs.Telling.{missing_told, source_told, needed_told}
 use Rattle.builder.proofs.sources.check_sources.Goals as goal
 

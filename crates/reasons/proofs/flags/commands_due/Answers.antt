@@ -1,6 +1,6 @@
 use Rattle.std.proofs.Common.{◌≡◌, ◌∙◌, ◌&&◌, ◌+◌, ◌∷◌, [], ℕ, Bool, List, not, length, sym, ap, subst, arith}
 use Rattle.links.specs.Links.{links_of}
-use Rattle.dues.specs.Dues.{due_at}
+use Rattle.judge.specs.Dues.{due_at}
 use Rattle.reasons.specs.Why.{AreCommands}
 use Rattle.reasons.proofs.Telling.{commands_more, one_longer}
 use Rattle.reasons.proofs.flags.commands_due.Goals as goal

@@ -1,6 +1,6 @@
 use Rattle.std.proofs.Common.{◌<◌, ℕ, List, map, length, sym, subst, arith}
 use Rattle.std.proofs.lemmas.List.{take_all}
-use Rattle.dirty.specs.Summaries.{AreOutputs, TakesOutput}
+use Rattle.judge.specs.Summaries.{AreOutputs, TakesOutput}
 use Rattle.reasons.specs.Why.{seen_output}
 use Rattle.reasons.proofs.Firsts.{at_has}
 use Rattle.reasons.proofs.Taking.{taken_more}

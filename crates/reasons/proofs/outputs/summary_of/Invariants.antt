@@ -1,5 +1,5 @@
 use Rattle.std.proofs.Common.{map, take}
-use Rattle.dirty.specs.Summaries.{AreOutputs}
+use Rattle.judge.specs.Summaries.{AreOutputs}
 use Rattle.reasons.specs.Why.{OfRecords, seen_output}
 use Rattle.reasons.proofs.outputs.summary_of.Given as goal
 

@@ -1,7 +1,7 @@
 use Rattle.std.proofs.Common.{[], length, sym, subst}
 use Rattle.links.specs.ReadingOf.{IsReadingOf, edges_in}
-use Rattle.looks.proofs.Stays.{looked_none}
-use Rattle.verdict.proofs.Summing.{sums_stay}
+use Rattle.judge.proofs.LooksStay.{looked_none}
+use Rattle.judge.proofs.Summing.{sums_stay}
 use Rattle.reasons.proofs.Telling.{within_of}
 use Rattle.reasons.proofs.told.due_command.Goals as goal
 

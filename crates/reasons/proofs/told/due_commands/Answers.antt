@@ -1,5 +1,5 @@
 use Rattle.std.proofs.Common.{◌≡◌, ◌<◌, ◌∙◌, ℕ, List, Bool, All, filter, length, sym, ap, subst}
-use Rattle.dues.specs.Dues.{due_at}
+use Rattle.judge.specs.Dues.{due_at}
 use Rattle.reasons.specs.Why.{AreNotPhony, AreWhy}
 use Rattle.reasons.proofs.Telling.{not_phony, told_within}
 use Rattle.reasons.proofs.told.due_commands.Goals as goal

@@ -1,8 +1,8 @@
 use Rattle.std.proofs.Common.{◌≡◌, ◌<◌, ◌∙◌, ℕ, [], map, filter, length, sym, ap, subst, arith, rules}
 use Rattle.std.proofs.lemmas.List.{take_all}
 use Rattle.theory.proofs.SiteCalls.{unrefused_none, unrefused_call, unrefused_then}
-use Rattle.looks.proofs.Stays.{looked_none}
-use Rattle.dues.specs.Dues.{due_at}
+use Rattle.judge.proofs.LooksStay.{looked_none}
+use Rattle.judge.specs.Dues.{due_at}
 use Rattle.reasons.specs.Why.{AreWhy, edge_in}
 use Rattle.reasons.proofs.Telling.{listed_then, all_then}
 use Rattle.reasons.proofs.told.tell_all.Goals as goal

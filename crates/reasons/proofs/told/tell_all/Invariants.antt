@@ -1,8 +1,8 @@
 use Rattle.std.proofs.Common.{◌≡◌, [], map, filter, take, length}
 use Rattle.theory.specs.Seen.{Unrefused}
-use Rattle.looks.specs.Looking.{HasLooked}
-use Rattle.dues.specs.Dues.{due_at}
-use Rattle.verdict.specs.Summed.{AreSums}
+use Rattle.judge.specs.Looking.{HasLooked}
+use Rattle.judge.specs.Dues.{due_at}
+use Rattle.judge.specs.Summed.{AreSums}
 use Rattle.reasons.specs.Why.{AreWhy, edge_in}
 use Rattle.reasons.proofs.told.tell_all.Given as goal
 

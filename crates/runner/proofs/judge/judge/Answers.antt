@@ -2,14 +2,14 @@ use Rattle.std.proofs.Common.{suc, true, List, Bool, sym, ap, ◌∙◌, subst}
 use Rattle.model.specs.declared.record.Record.{Record}
 use Rattle.model.specs.declared.record.DepsRecord.{DepsRecord}
 use Rattle.links.specs.Told.{declared_by}
-use Rattle.looks.specs.Seen.{IfKept}
-use Rattle.looks.proofs.Stays.{looked_then}
+use Rattle.judge.specs.Seen.{IfKept}
+use Rattle.judge.proofs.LooksStay.{looked_then}
 use Rattle.plan.specs.Planned.{is_stale}
 use Rattle.records.specs.Known.{AreKnown}
-use Rattle.verdict.specs.Lasting.{AreMarked}
-use Rattle.verdict.specs.Summed.{AreSums}
-use Rattle.verdict.proofs.Summing.{sums_stay, marks_stay}
-use Rattle.verdict.specs.Judged.{IsAnswer, KeepsDepfile}
+use Rattle.judge.specs.Lasting.{AreMarked}
+use Rattle.judge.specs.Summed.{AreSums}
+use Rattle.judge.proofs.Summing.{sums_stay, marks_stay}
+use Rattle.judge.specs.Judged.{IsAnswer, KeepsDepfile}
 use Rattle.runner.proofs.Work.{judged_less}
 use Rattle.runner.proofs.Noticed.{with_looks, on_looked}
 use Rattle.runner.proofs.Judging.{judged_on, judged_command, asked_outputs}

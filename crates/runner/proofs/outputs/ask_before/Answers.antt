@@ -1,7 +1,7 @@
 use Rattle.std.proofs.Common.{ℕ, List, sym, ◌∙◌, ap}
 use Rattle.std.proofs.lemmas.Bool.{false≢true}
 use Rattle.model.specs.Graph.{has_number}
-use Rattle.looks.proofs.Stays.{looked_none}
+use Rattle.judge.proofs.LooksStay.{looked_none}
 use Rattle.runner.proofs.Results.{ok_then}
 use Rattle.runner.proofs.outputs.ask_before.Goals as goal
 

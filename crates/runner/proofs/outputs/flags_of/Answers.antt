@@ -1,8 +1,8 @@
 use Rattle.std.proofs.Common.{◌≡◌, ◌<◌, not, ℕ, ◌+◌, List, Bool, false, length, slice_index, slice_index_or, sym, ◌∙◌, ap, subst, arith}
 use Rattle.lowest.specs.Flags.{has}
-use Rattle.looks.specs.declared.table.Look.{Look}
-use Rattle.looks.specs.declared.table.Look.TheVariants.{Unasked}
-use Rattle.looks.specs.Seen.{look_at}
+use Rattle.judge.specs.declared.looks.Look.{Look}
+use Rattle.judge.specs.declared.looks.Look.TheVariants.{Unasked}
+use Rattle.judge.specs.Seen.{look_at}
 use Rattle.runner.specs.Restat.{is_same_look}
 use Rattle.runner.proofs.Comparing.{place_is, one_more}
 use Rattle.runner.proofs.outputs.flags_of.Goals as goal

@@ -1,7 +1,7 @@
 use Rattle.std.proofs.Common.{◌≡◌, ◌<◌, not, ℕ, length, slice_index, slice_index_or}
 use Rattle.lowest.specs.Flags.{has}
-use Rattle.looks.specs.declared.table.Look.TheVariants.{Unasked}
-use Rattle.looks.specs.Seen.{look_at}
+use Rattle.judge.specs.declared.looks.Look.TheVariants.{Unasked}
+use Rattle.judge.specs.Seen.{look_at}
 use Rattle.runner.specs.Restat.{is_same_look}
 use Rattle.runner.proofs.outputs.flags_of.Given as goal
 

@@ -1,7 +1,7 @@
 use Rattle.std.proofs.Common.{◌≡◌, ◌<◌, ℕ, ◌+◌, List, length, slice_index, slice_index_or, sym, ◌∙◌, ap, subst, arith}
-use Rattle.looks.specs.declared.table.Look.{Look}
-use Rattle.looks.specs.declared.table.Look.TheVariants.{Unasked}
-use Rattle.looks.specs.Seen.{look_at}
+use Rattle.judge.specs.declared.looks.Look.{Look}
+use Rattle.judge.specs.declared.looks.Look.TheVariants.{Unasked}
+use Rattle.judge.specs.Seen.{look_at}
 use Rattle.runner.proofs.Comparing.{place_is, one_more}
 use Rattle.runner.proofs.outputs.looks_of.Goals as goal
 

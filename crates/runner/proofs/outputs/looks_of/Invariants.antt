@@ -1,6 +1,6 @@
 use Rattle.std.proofs.Common.{◌≡◌, ◌<◌, ℕ, length, slice_index, slice_index_or}
-use Rattle.looks.specs.declared.table.Look.TheVariants.{Unasked}
-use Rattle.looks.specs.Seen.{look_at}
+use Rattle.judge.specs.declared.looks.Look.TheVariants.{Unasked}
+use Rattle.judge.specs.Seen.{look_at}
 use Rattle.runner.proofs.outputs.looks_of.Given as goal
 
 abbrev pub invariant-loop-path : goal.invariant-loop-path

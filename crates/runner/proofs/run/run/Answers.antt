@@ -5,7 +5,7 @@ use Rattle.runner.proofs.Results.{some_of, on_err}
 use Rattle.runner.proofs.Nothing.{none_of}
 use Rattle.runner.proofs.After.{after_then, after_same, looks_then_looks}
 use Rattle.theory.proofs.SiteCalls.{unrefused_none, unrefused_call, unrefused_then}
-use Rattle.looks.proofs.Stays.{looked_none}
+use Rattle.judge.proofs.LooksStay.{looked_none}
 use Rattle.runner.proofs.Cutting.{starts_then}
 use Rattle.runner.proofs.run.run.Goals as goal
 

@@ -1,7 +1,7 @@
 use Rattle.std.proofs.Common.{◌≡◌, true, None}
 use Rattle.theory.specs.Seen.{Unrefused, StartsUnrefused}
-use Rattle.verdict.specs.Lasting.{AreMarked}
-use Rattle.verdict.specs.Summed.{AreSums}
+use Rattle.judge.specs.Lasting.{AreMarked}
+use Rattle.judge.specs.Summed.{AreSums}
 use Rattle.runner.specs.After.{ComesAfter, LooksUnlessMore}
 use Rattle.runner.specs.Course.{Course, goes_on, Suits, IsOn}
 use Rattle.runner.specs.Going.{work_left}

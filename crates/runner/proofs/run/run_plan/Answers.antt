@@ -4,7 +4,7 @@ use Rattle.runner.proofs.Cutting.{starts_cut, met_by}
 use Rattle.runner.proofs.Ends.{ran_cut}
 use Rattle.runner.proofs.After.{after_then}
 use Rattle.std.proofs.Common.{sym, subst}
-use Rattle.looks.specs.declared.table.Looks.{Looks}
+use Rattle.judge.specs.declared.looks.Looks.{Looks}
 use Rattle.runner.specs.After.{LooksUnlessMore}
 use Rattle.runner.proofs.run.run_plan.Goals as goal
 

@@ -8,9 +8,9 @@ use Rattle.runner.proofs.Recording.{on_shown}
 use Rattle.runner.proofs.Removing.{removing_then, removing_after}
 use Rattle.runner.proofs.Results.{on_ok, on_err, ok_by, err_by}
 use Rattle.runner.proofs.After.{after_then, after_looks}
-use Rattle.looks.specs.declared.table.Looks.{Looks}
+use Rattle.judge.specs.declared.looks.Looks.{Looks}
 use Rattle.plan.specs.declared.plan.Plan.{Plan}
-use Rattle.verdict.specs.Lasting.{KeepsUnmade}
+use Rattle.judge.specs.Lasting.{KeepsUnmade}
 use Rattle.runner.proofs.Unmade.{ended_keeps}
 use Rattle.runner.proofs.taken.take_in_told.Goals as goal
 

@@ -1,12 +1,12 @@
 use Rattle.std.proofs.Common.{Bool, Vec, Global, sym, subst}
-use Rattle.looks.specs.declared.table.Looks.{Looks}
-use Rattle.verdict.specs.Lasting.{AreMarked}
-use Rattle.verdict.proofs.Summing.{sums_last, marks_last}
+use Rattle.judge.specs.declared.looks.Looks.{Looks}
+use Rattle.judge.specs.Lasting.{AreMarked}
+use Rattle.judge.proofs.Summing.{sums_last, marks_last}
 use Rattle.runner.proofs.Results.{on_err, ok_by, err_by}
 use Rattle.runner.proofs.Ends.{cut_looking, at_load}
 use Rattle.runner.proofs.Onward.{said_next, may_wait}
 use Rattle.runner.proofs.After.{after_same, after_looks}
-use Rattle.looks.proofs.Stays.{looked_none}
+use Rattle.judge.proofs.LooksStay.{looked_none}
 use Rattle.runner.proofs.turn.go_on.Goals as goal
 
 pub judge-requires-clause-going : goal.judge-requires-clause-going

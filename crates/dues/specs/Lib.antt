@@ -1,5 +1,0 @@
-pub mod Stores
-pub mod Quiet
-pub mod UnderWay
-pub mod Dues
-pub mod Lacks

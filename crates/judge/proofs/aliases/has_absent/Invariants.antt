@@ -1,0 +1,15 @@
+use Rattle.std.proofs.Common.{◌≡◌, false, take}
+use Rattle.std.specs.List.{list_any}
+use Rattle.theory.specs.Seen.{Unrefused}
+use Rattle.judge.specs.Looking.{HasLooked}
+use Rattle.judge.specs.Facts.{AreIn}
+use Rattle.judge.specs.Quiet.{IfStill}
+use Rattle.judge.specs.Dues.{is_absent}
+use Rattle.judge.proofs.aliases.has_absent.Given as goal
+
+abbrev pub invariant-loop-path : goal.invariant-loop-path
+invariant-loop-path g l = record {
+  looked : HasLooked g.S.Texts.tells l.graph (g.S.Texts.world l.fn.site) (g.S.Texts.world l.site) l.fn.looks l.looks;
+  unrefused : Unrefused (g.S.Texts.world l.fn.site) (g.S.Texts.world l.site);
+  none : IfStill g.S.Texts.tells l.graph (g.S.Texts.world l.fn.site) (g.S.Texts.world l.site) l.fn.looks (λ set files. AreIn set l.graph.manifest.paths l.paths → list_any (is_absent l.graph.manifest.paths files) (take l.path-index l.paths) ≡ false);
+}

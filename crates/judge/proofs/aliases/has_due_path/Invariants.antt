@@ -1,0 +1,15 @@
+use Rattle.std.proofs.Common.{◌≡◌, false, take}
+use Rattle.std.specs.List.{list_any}
+use Rattle.theory.specs.Seen.{Unrefused}
+use Rattle.links.specs.Links.{links_of}
+use Rattle.judge.specs.Looking.{HasLooked}
+use Rattle.judge.specs.Quiet.{IfStill}
+use Rattle.judge.specs.Dues.{is_due_path, AreSourcesIn}
+use Rattle.judge.proofs.aliases.has_due_path.Given as goal
+
+abbrev pub invariant-loop-path : goal.invariant-loop-path
+invariant-loop-path g l = record {
+  looked : HasLooked g.S.Texts.tells l.graph (g.S.Texts.world l.fn.site) (g.S.Texts.world l.site) l.fn.looks l.looks;
+  unrefused : Unrefused (g.S.Texts.world l.fn.site) (g.S.Texts.world l.site);
+  none : IfStill g.S.Texts.tells l.graph (g.S.Texts.world l.fn.site) (g.S.Texts.world l.site) l.fn.looks (λ set files. AreSourcesIn set l.graph l.paths → list_any (is_due_path l.graph.manifest.paths (links_of l.graph) files l.due) (take l.path-index l.paths) ≡ false);
+}

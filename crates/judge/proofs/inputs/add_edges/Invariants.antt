@@ -1,0 +1,14 @@
+use Rattle.std.proofs.Common.{take, false}
+use Rattle.std.specs.List.{flat_map}
+use Rattle.links.specs.Links.{links_of}
+use Rattle.judge.specs.Facts.{HasTaken}
+use Rattle.theory.specs.Seen.{Unrefused}
+use Rattle.judge.specs.Looking.{HasLooked}
+use Rattle.judge.proofs.inputs.add_edges.Given as goal
+
+abbrev pub invariant-loop-edge : goal.invariant-loop-edge
+invariant-loop-edge g l = record {
+  looked : HasLooked g.S.Texts.tells l.graph (g.S.Texts.world l.fn.site) (g.S.Texts.world l.site) l.fn.looks l.looks;
+  unrefused : Unrefused (g.S.Texts.world l.fn.site) (g.S.Texts.world l.site);
+  taken : HasTaken l.graph l.changed false l.looks.seen.items (flat_map (links_of l.graph).regular (take l.edge-index l.edges)) l.fn.inputs l.inputs;
+}

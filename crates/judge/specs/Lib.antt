@@ -1,0 +1,13 @@
+pub mod Summaries
+pub mod ReasonTable
+pub mod Seen
+pub mod Looking
+pub mod Facts
+pub mod Judged
+pub mod Lasting
+pub mod Summed
+pub mod Stores
+pub mod Quiet
+pub mod UnderWay
+pub mod Dues
+pub mod Lacks

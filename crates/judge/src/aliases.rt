@@ -1,0 +1,128 @@
+//! Phony edges that are due, and paths that are absent.
+
+ghost use Rattle.std.specs.Prelude.{◌≡◌, ◌<◌, All, IfOk, length, true, false};
+ghost use Rattle.model.specs.Calls.{HasCause};
+ghost use Rattle.links.specs.Links.{links_of};
+ghost use Rattle.judge.specs.Looking.{HasLooked};
+ghost use Rattle.judge.specs.Quiet.{IfStill};
+ghost use Rattle.judge.specs.Dues.{IsAbsentAt, IsAnyAbsent, IsDuePath, IsAnyDuePath, IsDueAlias};
+
+use crate::laws::looks_follow;
+use crate::looks::Looks;
+use links::{Graph, lists_stand};
+use model::SiteFault;
+use paths::{EdgeId, PathId};
+use site::Site;
+
+/// Whether the phony edge is due, where it is known which edges before it are: it has no inputs and its file is absent, or one
+/// of its regular inputs is an absent source or made by a due edge.
+pub fn is_alias_due<S: Site>(
+    site: &mut S,
+    graph: &Graph,
+    looks: &mut Looks,
+    due: &[bool],
+    edge: EdgeId,
+) -> Result<bool, SiteFault>
+    requires running { (S.world site.old).stopped ≡ false }
+    requires fits { length looks.old.seen.items ≡ length graph.now.manifest.paths }
+    requires within { edge < length graph.now.manifest.lines }
+    requires due { length due.now ≡ length graph.now.manifest.lines }
+    requires alias { (links_of graph.now).phony edge ≡ true }
+    ensures looked { HasLooked S.tells graph.now (S.world site.old) (S.world site.new) looks.old looks.new }
+    ensures cause { HasCause (S.world site.old) (S.world site.new) result }
+    ensures due { IfOk result (λ is. IfStill S.tells graph.now (S.world site.old) (S.world site.new) looks.old (IsDueAlias graph.now due.now edge is)) }
+{
+    lists_stand(graph);
+    if graph.inputs(edge).is_empty() {
+        has_absent(site, graph, looks, graph.outputs(edge))
+    } else {
+        has_due_path(site, graph, looks, due, graph.regular_inputs(edge))
+    }
+}
+
+/// Whether one of these paths is absent.
+fn has_absent<S: Site>(
+    site: &mut S,
+    graph: &Graph,
+    looks: &mut Looks,
+    paths: &[PathId],
+) -> Result<bool, SiteFault>
+    requires running { (S.world site.old).stopped ≡ false }
+    requires fits { length looks.old.seen.items ≡ length graph.now.manifest.paths }
+    requires within { All (λ p. p < length graph.now.manifest.paths) paths.now }
+    ensures looked { HasLooked S.tells graph.now (S.world site.old) (S.world site.new) looks.old looks.new }
+    ensures cause { HasCause (S.world site.old) (S.world site.new) result }
+    ensures has { IfOk result (λ is. IfStill S.tells graph.now (S.world site.old) (S.world site.new) looks.old (IsAnyAbsent graph.now paths.now is)) }
+{
+    looks_follow();
+    for path in paths {
+        if is_absent(site, graph, looks, *path)? {
+            return Ok(true);
+        }
+    }
+    Ok(false)
+}
+
+/// Whether there is no file at the path.
+pub fn is_absent<S: Site>(
+    site: &mut S,
+    graph: &Graph,
+    looks: &mut Looks,
+    path: PathId,
+) -> Result<bool, SiteFault>
+    requires running { (S.world site.old).stopped ≡ false }
+    requires fits { length looks.old.seen.items ≡ length graph.now.manifest.paths }
+    requires within { path < length graph.now.manifest.paths }
+    ensures looked { HasLooked S.tells graph.now (S.world site.old) (S.world site.new) looks.old looks.new }
+    ensures cause { HasCause (S.world site.old) (S.world site.new) result }
+    ensures absent { IfOk result (λ is. IfStill S.tells graph.now (S.world site.old) (S.world site.new) looks.old (IsAbsentAt graph.now path is)) }
+{
+    Ok(looks.stamp(site, graph, path)?.is_none())
+}
+
+/// Whether one of these paths is made by a due edge, or is an absent source.
+fn has_due_path<S: Site>(
+    site: &mut S,
+    graph: &Graph,
+    looks: &mut Looks,
+    due: &[bool],
+    paths: &[PathId],
+) -> Result<bool, SiteFault>
+    requires running { (S.world site.old).stopped ≡ false }
+    requires fits { length looks.old.seen.items ≡ length graph.now.manifest.paths }
+    requires within { All (λ p. p < length graph.now.manifest.paths) paths.now }
+    requires due { length due.now ≡ length graph.now.manifest.lines }
+    ensures looked { HasLooked S.tells graph.now (S.world site.old) (S.world site.new) looks.old looks.new }
+    ensures cause { HasCause (S.world site.old) (S.world site.new) result }
+    ensures has { IfOk result (λ is. IfStill S.tells graph.now (S.world site.old) (S.world site.new) looks.old (IsAnyDuePath graph.now due.now paths.now is)) }
+{
+    looks_follow();
+    for path in paths {
+        if is_due_path(site, graph, looks, due, *path)? {
+            return Ok(true);
+        }
+    }
+    Ok(false)
+}
+
+/// Whether the path is made by a due edge, or is an absent source.
+fn is_due_path<S: Site>(
+    site: &mut S,
+    graph: &Graph,
+    looks: &mut Looks,
+    due: &[bool],
+    path: PathId,
+) -> Result<bool, SiteFault>
+    requires running { (S.world site.old).stopped ≡ false }
+    requires fits { length looks.old.seen.items ≡ length graph.now.manifest.paths }
+    requires within { path < length graph.now.manifest.paths }
+    requires due { length due.now ≡ length graph.now.manifest.lines }
+    ensures looked { HasLooked S.tells graph.now (S.world site.old) (S.world site.new) looks.old looks.new }
+    ensures cause { HasCause (S.world site.old) (S.world site.new) result }
+    ensures due { IfOk result (λ is. IfStill S.tells graph.now (S.world site.old) (S.world site.new) looks.old (IsDuePath graph.now due.now path is)) }
+{
+    match graph.maker(path) {
+        Some(edge) => Ok(due[edge.index()]),
+        None => is_absent(site, graph, looks, path),
+    }
+}

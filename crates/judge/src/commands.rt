@@ -1,0 +1,92 @@
+//! Commands that are due.
+
+ghost use Rattle.std.specs.Prelude.{◌≡◌, ◌||◌, ◌<◌, ℕ, suc, [], List, IfOk, length, false};
+ghost use Rattle.std.specs.List.{list_any};
+ghost use Rattle.model.specs.Calls.{HasCause};
+ghost use Rattle.model.specs.Graph.{has_number};
+ghost use Rattle.model.specs.Records.{Store};
+ghost use Rattle.model.specs.Schedule.{Step, judged_in};
+ghost use Rattle.theory.specs.Order.{IsOrderly};
+ghost use Rattle.links.specs.Links.{links_of};
+ghost use Rattle.links.specs.Told.{declared_by};
+ghost use Rattle.judge.specs.Looking.{HasLooked};
+ghost use Rattle.judge.specs.Stores.{IsStoreOf};
+ghost use Rattle.judge.specs.Quiet.{IfQuiet};
+ghost use Rattle.judge.specs.Dues.{is_made_due, reads_due, IsDueEdge};
+ghost use Rattle.judge.specs.Summed.{AreSums};
+
+use crate::judgement::reason;
+use crate::looks::Looks;
+use crate::sums::Sums;
+use links::{Graph, lists_stand};
+use model::SiteFault;
+use paths::{EdgeId, PathId};
+use records::Records;
+use site::Site;
+use std::alloc::Global;
+
+/// Whether the command, which was not judged, is due, where it is known which edges before it are: it reads what a due edge
+/// makes, or it is out of date. Where the first is so no file is looked at: a command that runs may be writing it.
+pub fn is_command_due<S: Site>(
+    alloc: Global,
+    site: &mut S,
+    graph: &Graph,
+    looks: &mut Looks,
+    sums: &mut Sums,
+    records: &Records,
+    due: &[bool],
+    edge: EdgeId,
+) -> Result<bool, SiteFault>
+    requires running { (S.world site.old).stopped ≡ false }
+    requires fits { length looks.old.seen.items ≡ length graph.now.manifest.paths }
+    requires within { edge < length graph.now.manifest.lines }
+    requires due { length due.now ≡ length graph.now.manifest.lines }
+    requires command { (links_of graph.now).phony edge ≡ false }
+    requires summed { AreSums graph.now [] looks.old.seen.items sums.old }
+    ensures looked { HasLooked S.tells graph.now (S.world site.old) (S.world site.new) looks.old looks.new }
+    ensures cause { HasCause (S.world site.old) (S.world site.new) result }
+    ensures summed { AreSums graph.now [] looks.new.seen.items sums.new }
+    ensures due { IfOk result (λ is. (store : Store) (targets : List (List ℕ)) (before : List Step) → IsStoreOf graph.now records.now store → IsOrderly (declared_by graph.now).edges before → has_number (judged_in before) (suc edge) ≡ false → IfQuiet S.tells graph.now store targets before (S.world site.old) (S.world site.new) looks.old (λ files. IsDueEdge graph.now store before due.now edge files is)) }
+{
+    lists_stand(graph);
+    if reads_due(graph, due, edge) {
+        return Ok(true);
+    }
+    let found = reason(alloc, site, graph, looks, sums, records, &[], edge)?;
+    Ok(found.is_some())
+}
+
+/// Whether a due edge makes one of its regular or recorded inputs. A phony edge among those that make them stands for what it
+/// reads: it is due where a due edge makes that, or where it is an absent source.
+fn reads_due(graph: &Graph, due: &[bool], edge: EdgeId) -> bool
+    requires within { edge < length graph.now.manifest.lines }
+    requires due { length due.now ≡ length graph.now.manifest.lines }
+    ensures { result ≡ reads_due (links_of graph.now) due.now edge }
+{
+    are_made_due(graph, due, graph.regular_inputs(edge))
+        || are_made_due(graph, due, graph.recorded_inputs(edge))
+}
+
+/// Whether a due edge makes one of these paths.
+fn are_made_due(graph: &Graph, due: &[bool], paths: &[PathId]) -> bool
+    requires due { length due.now ≡ length graph.now.manifest.lines }
+    ensures { result ≡ list_any (is_made_due (links_of graph.now) due.now) paths.now }
+{
+    for path in paths {
+        if is_made_due(graph, due, *path) {
+            return true;
+        }
+    }
+    false
+}
+
+/// Whether a due edge makes the path.
+fn is_made_due(graph: &Graph, due: &[bool], path: PathId) -> bool
+    requires due { length due.now ≡ length graph.now.manifest.lines }
+    ensures { result ≡ is_made_due (links_of graph.now) due.now path }
+{
+    match graph.maker(path) {
+        Some(edge) => due[edge.index()],
+        None => false,
+    }
+}

@@ -1,0 +1,285 @@
+//! The facts of what an edge reads.
+
+ghost use Rattle.std.specs.Prelude.{◌≡◌, ◌<◌, ◌∷◌, [], ℕ, IfOk, OnOk, true, false, length};
+ghost use Rattle.std.specs.List.{flat_map};
+ghost use Rattle.model.specs.Calls.{HasCause};
+ghost use Rattle.model.specs.Graph.{has_number};
+ghost use Rattle.links.specs.Links.{links_of};
+ghost use Rattle.links.specs.ReadingOf.{edges_in};
+ghost use Rattle.judge.specs.Looking.{HasLooked};
+ghost use Rattle.judge.specs.Facts.{AreInputsOf, HasTaken, TakesOne, flag_at};
+ghost use Rattle.judge.specs.Lasting.{IsLasting, StayMarked};
+ghost use Rattle.judge.specs.Summed.{AreSums, HasJoined, IsSum};
+
+use crate::input_facts::Inputs;
+use crate::lasting::reads_made;
+use crate::laws::looks_follow;
+use crate::looks::{Look, Looks};
+use crate::stamp::stamp_of;
+use crate::sums::Sums;
+use links::{Graph, Reading, lists_stand};
+use model::SiteFault;
+use paths::{EdgeId, PathId};
+use site::Site;
+use std::alloc::Global;
+use std::slice;
+
+/// The facts of what the edge reads, through phony edges too, and of its recorded inputs.
+pub(crate) fn inputs_of<S: Site>(
+    alloc: Global,
+    site: &mut S,
+    graph: &Graph,
+    looks: &mut Looks,
+    sums: &mut Sums,
+    changed: &[bool],
+    edge: EdgeId,
+) -> Result<Inputs, SiteFault>
+    requires running { (S.world site.old).stopped ≡ false }
+    requires fits { length looks.old.seen.items ≡ length graph.now.manifest.paths }
+    requires within { edge < length graph.now.manifest.lines }
+    requires summed { AreSums graph.now changed.now looks.old.seen.items sums.old }
+    ensures looked { HasLooked S.tells graph.now (S.world site.old) (S.world site.new) looks.old looks.new }
+    ensures cause { HasCause (S.world site.old) (S.world site.new) result }
+    ensures summed { AreSums graph.now changed.now looks.new.seen.items sums.new }
+    ensures marked { StayMarked graph.now changed.now looks.old.seen.items looks.new.seen.items sums.old sums.new }
+    ensures inputs { IfOk result (λ inputs. AreInputsOf graph.now S.tells changed.now edge (S.world site.old) (S.world site.new) looks.old.seen.items inputs) }
+{
+    looks_follow();
+    lists_stand(graph);
+    let mut inputs = Inputs::new();
+    let regular = graph.regular_inputs(edge);
+    add_paths(site, graph, looks, changed, false, regular, &mut inputs)?;
+    add_aliases(
+        alloc,
+        site,
+        graph,
+        looks,
+        sums,
+        changed,
+        regular,
+        &mut inputs,
+    )?;
+    let recorded = graph.recorded_inputs(edge);
+    add_paths(site, graph, looks, changed, true, recorded, &mut inputs)?;
+    Ok(inputs)
+}
+
+/// Takes in what the phony edges read that make these paths.
+fn add_aliases<S: Site>(
+    alloc: Global,
+    site: &mut S,
+    graph: &Graph,
+    looks: &mut Looks,
+    sums: &mut Sums,
+    changed: &[bool],
+    paths: &[PathId],
+    inputs: &mut Inputs,
+) -> Result<(), SiteFault>
+    requires running { (S.world site.old).stopped ≡ false }
+    requires fits { length looks.old.seen.items ≡ length graph.now.manifest.paths }
+    requires summed { AreSums graph.now changed.now looks.old.seen.items sums.old }
+    ensures looked { HasLooked S.tells graph.now (S.world site.old) (S.world site.new) looks.old looks.new }
+    ensures cause { HasCause (S.world site.old) (S.world site.new) result }
+    ensures summed { AreSums graph.now changed.now looks.new.seen.items sums.new }
+    ensures marked { StayMarked graph.now changed.now looks.old.seen.items looks.new.seen.items sums.old sums.new }
+    ensures joined { OnOk result (HasJoined graph.now changed.now looks.new.seen.items paths.now inputs.old inputs.new) }
+{
+    looks_follow();
+    for path in paths {
+        add_alias(alloc, site, graph, looks, sums, changed, *path, inputs)?;
+    }
+    Ok(())
+}
+
+/// Takes in what the phony edge reads that makes the path, if one does.
+fn add_alias<S: Site>(
+    alloc: Global,
+    site: &mut S,
+    graph: &Graph,
+    looks: &mut Looks,
+    sums: &mut Sums,
+    changed: &[bool],
+    path: PathId,
+    inputs: &mut Inputs,
+) -> Result<(), SiteFault>
+    requires running { (S.world site.old).stopped ≡ false }
+    requires fits { length looks.old.seen.items ≡ length graph.now.manifest.paths }
+    requires summed { AreSums graph.now changed.now looks.old.seen.items sums.old }
+    ensures looked { HasLooked S.tells graph.now (S.world site.old) (S.world site.new) looks.old looks.new }
+    ensures cause { HasCause (S.world site.old) (S.world site.new) result }
+    ensures summed { AreSums graph.now changed.now looks.new.seen.items sums.new }
+    ensures marked { StayMarked graph.now changed.now looks.old.seen.items looks.new.seen.items sums.old sums.new }
+    ensures joined { OnOk result (HasJoined graph.now changed.now looks.new.seen.items (path ∷ []) inputs.old inputs.new) }
+{
+    looks_follow();
+    if let Some(alias) = graph.alias(path) {
+        let sum = sum_of(alloc, site, graph, looks, sums, changed, alias)?;
+        inputs.join(sum);
+    }
+    Ok(())
+}
+
+/// What the phony edge reads comes to, which is noted.
+fn sum_of<S: Site>(
+    alloc: Global,
+    site: &mut S,
+    graph: &Graph,
+    looks: &mut Looks,
+    sums: &mut Sums,
+    changed: &[bool],
+    edge: EdgeId,
+) -> Result<Inputs, SiteFault>
+    requires running { (S.world site.old).stopped ≡ false }
+    requires fits { length looks.old.seen.items ≡ length graph.now.manifest.paths }
+    requires within { edge < length graph.now.manifest.lines }
+    requires summed { AreSums graph.now changed.now looks.old.seen.items sums.old }
+    ensures looked { HasLooked S.tells graph.now (S.world site.old) (S.world site.new) looks.old looks.new }
+    ensures cause { HasCause (S.world site.old) (S.world site.new) result }
+    ensures summed { AreSums graph.now changed.now looks.new.seen.items sums.new }
+    ensures marked { StayMarked graph.now changed.now looks.old.seen.items looks.new.seen.items sums.old sums.new }
+    ensures sum { IfOk result (IsSum graph.now changed.now looks.new.seen.items edge) }
+{
+    looks_follow();
+    if let Some(sum) = sums.get(edge) {
+        return Ok(sum);
+    }
+    let (sum, lasts) = read_by(alloc, site, graph, looks, changed, edge)?;
+    sums.note(edge, sum, lasts)?;
+    Ok(sum)
+}
+
+/// What the edge reads comes to, and whether no command makes any of it.
+fn read_by<S: Site>(
+    alloc: Global,
+    site: &mut S,
+    graph: &Graph,
+    looks: &mut Looks,
+    changed: &[bool],
+    edge: EdgeId,
+) -> Result<(Inputs, bool), SiteFault>
+    requires running { (S.world site.old).stopped ≡ false }
+    requires fits { length looks.old.seen.items ≡ length graph.now.manifest.paths }
+    requires within { edge < length graph.now.manifest.lines }
+    ensures looked { HasLooked S.tells graph.now (S.world site.old) (S.world site.new) looks.old looks.new }
+    ensures cause { HasCause (S.world site.old) (S.world site.new) result }
+    ensures sum { IfOk result (λ read. IsSum graph.now changed.now looks.new.seen.items edge read.0) }
+    ensures lasts { IfOk result (λ read. read.1 ≡ true → IsLasting graph.now changed.now looks.new.seen.items edge read.0) }
+{
+    looks_follow();
+    let reading = graph.reading(alloc, edge)?;
+    let mut inputs = Inputs::new();
+    let edges = edges_of(&reading);
+    add_edges(site, graph, looks, changed, edges, &mut inputs)?;
+    Ok((inputs, !reads_made(graph, edges)))
+}
+
+/// The edges whose regular inputs are read.
+fn edges_of(reading: &Reading) -> &[EdgeId]
+    ensures { result.now ≡ edges_in reading.now }
+{
+    match reading {
+        Reading::Itself(edge) => slice::from_ref(edge),
+        Reading::Through(edges) => edges.as_slice(),
+    }
+}
+
+/// Takes in what these edges name themselves: their explicit and implicit inputs, as far as they count.
+fn add_edges<S: Site>(
+    site: &mut S,
+    graph: &Graph,
+    looks: &mut Looks,
+    changed: &[bool],
+    edges: &[EdgeId],
+    inputs: &mut Inputs,
+) -> Result<(), SiteFault>
+    requires running { (S.world site.old).stopped ≡ false }
+    requires fits { length looks.old.seen.items ≡ length graph.now.manifest.paths }
+    requires within { (d : ℕ) → has_number edges.now d ≡ true → d < length graph.now.manifest.lines }
+    ensures looked { HasLooked S.tells graph.now (S.world site.old) (S.world site.new) looks.old looks.new }
+    ensures cause { HasCause (S.world site.old) (S.world site.new) result }
+    ensures taken { OnOk result (HasTaken graph.now changed.now false looks.new.seen.items (flat_map (links_of graph.now).regular edges.now) inputs.old inputs.new) }
+{
+    looks_follow();
+    lists_stand(graph);
+    for edge in edges {
+        let paths = graph.regular_inputs(*edge);
+        add_paths(site, graph, looks, changed, false, paths, inputs)?;
+    }
+    Ok(())
+}
+
+/// Takes in these paths: always, or those that count.
+fn add_paths<S: Site>(
+    site: &mut S,
+    graph: &Graph,
+    looks: &mut Looks,
+    changed: &[bool],
+    always: bool,
+    paths: &[PathId],
+    inputs: &mut Inputs,
+) -> Result<(), SiteFault>
+    requires running { (S.world site.old).stopped ≡ false }
+    requires fits { length looks.old.seen.items ≡ length graph.now.manifest.paths }
+    requires within { (p : ℕ) → has_number paths.now p ≡ true → p < length graph.now.manifest.paths }
+    ensures looked { HasLooked S.tells graph.now (S.world site.old) (S.world site.new) looks.old looks.new }
+    ensures cause { HasCause (S.world site.old) (S.world site.new) result }
+    ensures taken { OnOk result (HasTaken graph.now changed.now always looks.new.seen.items paths.now inputs.old inputs.new) }
+{
+    looks_follow();
+    // What is taken in stays in registers.
+    let mut taken = *inputs;
+    for path in paths {
+        add_path(site, graph, looks, changed, always, *path, &mut taken)?;
+    }
+    *inputs = taken;
+    Ok(())
+}
+
+/// Takes in the path: always, or where it counts. Most paths were asked for and have a file, and that counts always.
+fn add_path<S: Site>(
+    site: &mut S,
+    graph: &Graph,
+    looks: &mut Looks,
+    changed: &[bool],
+    always: bool,
+    path: PathId,
+    inputs: &mut Inputs,
+) -> Result<(), SiteFault>
+    requires running { (S.world site.old).stopped ≡ false }
+    requires fits { length looks.old.seen.items ≡ length graph.now.manifest.paths }
+    requires within { path < length graph.now.manifest.paths }
+    ensures looked { HasLooked S.tells graph.now (S.world site.old) (S.world site.new) looks.old looks.new }
+    ensures cause { HasCause (S.world site.old) (S.world site.new) result }
+    ensures taken { OnOk result (HasTaken graph.now changed.now always looks.new.seen.items (path ∷ []) inputs.old inputs.new) }
+{
+    if let Look::Stamp(stamp) = looks.look(path) {
+        inputs.add(Some(stamp), is_changed(changed, path));
+        return Ok(());
+    }
+    let stamp = stamp_of(site, graph, looks, path)?;
+    add_stamp(graph, changed, always, path, stamp, inputs);
+    Ok(())
+}
+
+/// Takes in the path, which has this stamp: always, or where it counts.
+fn add_stamp(
+    graph: &Graph,
+    changed: &[bool],
+    always: bool,
+    path: PathId,
+    stamp: Option<u64>,
+    inputs: &mut Inputs,
+)
+    ensures { TakesOne graph.now changed.now always path stamp inputs.old inputs.new }
+{
+    if always || stamp.is_some() || !graph.counts_if_present(path) {
+        inputs.add(stamp, is_changed(changed, path));
+    }
+}
+
+/// Whether this build made the path anew; one past the end of the list was not.
+fn is_changed(changed: &[bool], path: PathId) -> bool
+    ensures { result ≡ flag_at changed.now path }
+{
+    changed.get(path.index()).copied().unwrap_or(false)
+}

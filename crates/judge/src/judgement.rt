@@ -1,0 +1,97 @@
+//! Why a command has to run.
+
+ghost use Rattle.std.specs.Prelude.{◌≡◌, ◌<◌, List, IfOk, false, suc, length};
+ghost use Rattle.model.specs.declared.record.Record.{Record};
+ghost use Rattle.model.specs.declared.record.DepsRecord.{DepsRecord};
+ghost use Rattle.model.specs.Calls.{HasCause};
+ghost use Rattle.model.specs.Graph.{edge_at};
+ghost use Rattle.paths.specs.Lists.{line_at};
+ghost use Rattle.paths.specs.Told.{edge_of};
+ghost use Rattle.links.specs.Told.{declared_by};
+ghost use Rattle.links.specs.Links.{links_of};
+ghost use Rattle.judge.specs.Looking.{HasLooked};
+ghost use Rattle.judge.specs.Seen.{IfKept};
+ghost use Rattle.records.specs.Known.{AreKnown};
+ghost use Rattle.judge.specs.Judged.{IsAnswer, KeepsDepfile};
+ghost use Rattle.judge.specs.Lasting.{StayMarked};
+ghost use Rattle.judge.specs.Summed.{AreSums};
+
+use crate::depfile::has_depfile;
+use crate::inputs::inputs_of;
+use crate::laws::looks_follow;
+use crate::looks::Looks;
+use crate::outputs::outputs_of;
+use crate::reason_table::{Facts, judge};
+use crate::sums::Sums;
+use links::{Graph, lists_stand, numbers_stand};
+use model::{Reason, SiteFault};
+use paths::{Action, Command, EdgeId};
+use records::Records;
+use site::Site;
+use std::alloc::Global;
+
+/// Why the command of the edge has to run, if it has to: by its outputs and their records, by the paths that it reads, through
+/// phony edges too, and by its recorded inputs, as their files are now. `changed` says of each path whether this build made it
+/// anew; one past its end was not.
+///
+/// What was seen of a path is not asked for again, but for the depfile that the command is to leave. The answer is right for
+/// each set of paths that has all these and whose files stay as they are during the call, as that of the depfile does, whatever
+/// commands write elsewhere. It takes time for the outputs and inputs that are met; what a phony edge reads is met
+/// once, and then known by `sums`, which takes memory for each phony edge that is read through. Where a command makes some of that
+/// and there is no memory to mark it so, it is met again by the next call that reads it.
+pub fn reason<S: Site>(
+    alloc: Global,
+    site: &mut S,
+    graph: &Graph,
+    looks: &mut Looks,
+    sums: &mut Sums,
+    records: &Records,
+    changed: &[bool],
+    edge: EdgeId,
+) -> Result<Option<Reason>, SiteFault>
+    requires running { (S.world site.old).stopped ≡ false }
+    requires fits { length looks.old.seen.items ≡ length graph.now.manifest.paths }
+    requires within { edge < length graph.now.manifest.lines }
+    requires command { (links_of graph.now).phony edge ≡ false }
+    requires summed { AreSums graph.now changed.now looks.old.seen.items sums.old }
+    ensures looked { HasLooked S.tells graph.now (S.world site.old) (S.world site.new) looks.old looks.new }
+    ensures cause { HasCause (S.world site.old) (S.world site.new) result }
+    ensures summed { AreSums graph.now changed.now looks.new.seen.items sums.new }
+    ensures marked { StayMarked graph.now changed.now looks.old.seen.items looks.new.seen.items sums.old sums.new }
+    ensures reason { IfOk result (λ reason. (rs : List Record) (ds : List DepsRecord) → AreKnown graph.now rs ds records.now → KeepsDepfile S.tells (declared_by graph.now).edges (S.world site.old) (S.world site.new) (suc edge) → IfKept S.tells graph.now.manifest.paths (S.world site.old) (S.world site.new) looks.old.seen.items (IsAnswer graph.now rs ds changed.now edge reason)) }
+{
+    looks_follow();
+    lists_stand(graph);
+    let command = command_of(graph, edge);
+    let depfile = has_depfile(site, command)?;
+    let outputs = outputs_of(
+        site,
+        graph,
+        looks,
+        records,
+        &command.act,
+        graph.outputs(edge),
+    )?;
+    let inputs = inputs_of(alloc, site, graph, looks, sums, changed, edge)?;
+    Ok(judge(&Facts {
+        act: &command.act,
+        restat: command.restat,
+        deps: command.deps,
+        depfile,
+        outputs,
+        inputs,
+    }))
+}
+
+/// What the edge does.
+fn command_of(graph: &Graph, edge: EdgeId) -> &Command
+    requires within { edge < length graph.now.manifest.lines }
+    requires command { (links_of graph.now).phony edge ≡ false }
+    ensures { edge_at (declared_by graph.now).edges (suc edge) ≡ edge_of graph.now.manifest.paths (line_at graph.now.manifest.lines edge) (Action.Command result.now) }
+{
+    numbers_stand(graph);
+    match graph.manifest.action(edge) {
+        Action::Alias => unreachable!(),
+        Action::Command(command) => command,
+    }
+}

@@ -1,0 +1,12 @@
+//! A law of calls that ask for paths.
+
+ghost use Rattle.std.specs.Prelude.{Bool};
+ghost use Rattle.model.specs.World.{World};
+ghost use Rattle.judge.specs.Looking.{FilesStay, LooksFollow};
+
+/// A law, which runs nothing: what calls that only look leave, one after another, and that paths which keep their files have
+/// the same files behind them.
+pub fn looks_follow()
+    ensures follow { (tells : Bool) (a b c : World) → LooksFollow tells a b c }
+    ensures stay { (tells : Bool) (old new : World) → FilesStay tells old new }
+{}

@@ -1,4 +1,0 @@
-pub mod Slices
-pub mod Kept
-pub mod Stays
-pub mod Grown

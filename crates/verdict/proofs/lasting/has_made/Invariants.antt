@@ -1,7 +1,0 @@
-use Rattle.std.proofs.Common.{◌≡◌, drop}
-use Rattle.links.specs.Links.{links_of}
-use Rattle.verdict.specs.Lasting.{any_made}
-use Rattle.verdict.proofs.lasting.has_made.Given as goal
-
-abbrev pub invariant-loop-path : goal.invariant-loop-path
-invariant-loop-path l = any_made (links_of l.graph) l.paths ≡ any_made (links_of l.graph) (drop l.path-index l.paths)

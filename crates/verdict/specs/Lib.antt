@@ -1,4 +1,0 @@
-pub mod Facts
-pub mod Judged
-pub mod Lasting
-pub mod Summed
