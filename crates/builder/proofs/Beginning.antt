@@ -31,7 +31,7 @@ use Rattle.judge.specs.declared.looks.Look.TheVariants.{Unasked}
 use Rattle.records.specs.declared.records.Records.{Records}
 use Rattle.records.specs.Known.{AreKnown}
 use Rattle.records.specs.Logging.{IsLogging}
-use Rattle.lowest.specs.Flags.{has as has_flag}
+use Rattle.plan.specs.Flags.{has as has_flag}
 use Rattle.plan.specs.declared.plan.Plan.{Plan}
 use Rattle.plan.specs.Planned.{IsPlanned}
 use Rattle.runner.specs.declared.state.State.{State}

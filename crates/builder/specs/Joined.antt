@@ -13,7 +13,7 @@ use Rattle.model.specs.SingleBuild.{Asked, IsShownCycle, asked_with, declared_gr
 use Rattle.dyndep.specs.declared.fault.DynFault.TheVariants as said
 use Rattle.dyndep.specs.declared.fault.ReadError.{ReadError}
 use Rattle.dyndep.specs.declared.fault.ReadError.TheVariants as unread
-use Rattle.lowest.specs.Flags.{has}
+use Rattle.plan.specs.Flags.{has}
 use Rattle.paths.specs.Told.{texts_at}
 use Rattle.links.specs.declared.cone.Cone.{Cone}
 use Rattle.links.specs.declared.graph.Graph.{Graph}

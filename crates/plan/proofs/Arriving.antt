@@ -5,7 +5,7 @@ use Rattle.std.proofs.lemmas.List.{length-set, get_or-set_same, get_or-set_other
 use Rattle.std.proofs.lemmas.List.Sums.{sum_by-cons}
 use Rattle.std.proofs.lemmas.Bool.{false≢true, true≢false, or_cases, eq-eqb, eqb-true, cases_Bool, cases_eq, false_from_ne_true, lt-ltb, ltb-true}
 use Rattle.model.specs.Graph.{has_number}
-use Rattle.lowest.specs.Flags.{has}
+use Rattle.plan.specs.Flags.{has}
 use Rattle.links.specs.Held.{times, list_at}
 use Rattle.links.specs.declared.graph.Graph.{Graph}
 use Rattle.links.specs.Links.{needs_at, links_of}

@@ -5,8 +5,8 @@ use Rattle.std.proofs.Math.Seq.{get_or-append_seam}
 use Rattle.std.proofs.lemmas.List.{get_or_append_left, get_or-set_same, get_or-set_other, length-set, length-append, length-replicate}
 use Rattle.std.proofs.lemmas.Bool.{cases_eq, eqb-true, false_from_ne_true}
 use Rattle.model.specs.declared.graph.Pool.{Pool}
-use Rattle.lowest.specs.Flags.{has}
-use Rattle.queue.specs.Turns.{Turns, AreWithin}
+use Rattle.plan.specs.Flags.{has}
+use Rattle.plan.specs.Turns.{Turns, AreWithin}
 use Rattle.links.specs.declared.graph.Graph.{Graph}
 use Rattle.plan.specs.declared.step.Standing.{Standing}
 use Rattle.plan.specs.declared.step.Standing.TheVariants.{Outside}

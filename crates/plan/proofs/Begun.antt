@@ -4,8 +4,8 @@ use Rattle.std.specs.Option.{is_none}
 use Rattle.std.proofs.lemmas.Bool.{false≢true, true≢false}
 use Rattle.model.specs.Graph.{has_number}
 use Rattle.model.specs.Schedule.{Task}
-use Rattle.lowest.specs.Flags.{has}
-use Rattle.queue.specs.Turns.{Turns}
+use Rattle.plan.specs.Flags.{has}
+use Rattle.plan.specs.Turns.{Turns}
 use Rattle.links.specs.declared.cone.Mark.{Mark}
 use Rattle.links.specs.declared.graph.Graph.{Graph}
 use Rattle.links.specs.Cone.{mark_at, is_listed}

@@ -10,7 +10,7 @@ use Rattle.model.specs.Reading.{IsInCone, Needed}
 use Rattle.model.specs.Schedule.{Task, Step, IsSettled, IsSettledPath, done_in}
 use Rattle.model.specs.Phases.{IsDueLoad, NoLoadIsDue, IsFirstNamer, GoesBefore, BySource as GoesBySource, ByNamer, IsNextLoad}
 use Rattle.theory.proofs.Lists.{has_number-left, has_number-right, has_number-cases, has_number-one, same_some, some_none}
-use Rattle.lowest.specs.Flags.{has}
+use Rattle.plan.specs.Flags.{has}
 use Rattle.paths.specs.Numbers.{HaveOnePlace}
 use Rattle.paths.specs.Told.{text_at}
 use Rattle.links.specs.declared.graph.Graph.{Graph}

@@ -5,7 +5,7 @@ use Rattle.std.proofs.lemmas.Bool.{false≢true, eq-eqb}
 use Rattle.model.specs.Graph.{has_number}
 use Rattle.model.specs.Schedule.{Task, Step, Ended, running_in, Done}
 use Rattle.theory.proofs.Lists.{has_number-one}
-use Rattle.queue.specs.Turns.{Turns, group_at, runs_at, runs_in, set_runs, with_running}
+use Rattle.plan.specs.Turns.{Turns, group_at, runs_at, runs_in, set_runs, with_running}
 use Rattle.links.specs.declared.graph.Graph.{Graph}
 use Rattle.plan.specs.declared.step.Standing.{Standing}
 use Rattle.plan.specs.declared.step.Standing.TheVariants.{Running, Well, Failed}

@@ -12,7 +12,7 @@ use Rattle.theory.specs.Order.{IsOrderlyStep, IsOrderlyFrom}
 use Rattle.theory.proofs.Lists.{has-left, has-right, has-cases}
 use Rattle.theory.proofs.Growth.{HasGrown, grown_by, cases_named, maker_still}
 use Rattle.theory.proofs.Settled.{settled_command}
-use Rattle.queue.specs.Turns.{Turns}
+use Rattle.plan.specs.Turns.{Turns}
 use Rattle.paths.specs.declared.line.Line.{Line}
 use Rattle.paths.specs.declared.manifest.Action.{Action}
 use Rattle.paths.specs.declared.manifest.Action.TheVariants as action

@@ -7,7 +7,7 @@ use Rattle.model.specs.Reading.{IsInCone, Needed}
 use Rattle.model.specs.Schedule.{Task, Step, Judged, failed_in, well_in, clean_in, started_in, out_of_date_in, done_in, IsSettled, Done, Alias as ByAlias, MayBeJudged, NoneMayBeJudged, IsLawfulStep}
 use Rattle.theory.proofs.Lists.{has-cases, has_number-append}
 use Rattle.theory.proofs.Orderly.{kept_orderly}
-use Rattle.lowest.specs.Flags.{has as flagged, IsFirst, AreNone}
+use Rattle.plan.specs.Flags.{has as flagged, IsFirst, AreNone}
 use Rattle.links.specs.declared.graph.Graph.{Graph}
 use Rattle.links.specs.Links.{links_of, needs_at}
 use Rattle.links.specs.Cone.{maker_at}

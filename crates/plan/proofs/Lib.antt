@@ -1,3 +1,8 @@
+pub mod Levels
+pub mod Fronts
+pub mod Changing
+pub mod Updating
+pub mod Seating
 pub mod CountBy
 pub mod PlannedSteps
 pub mod PlannedCounts

@@ -6,7 +6,7 @@ use Rattle.std.proofs.lemmas.List.{length-set, get_or-set_same, get_or-set_other
 use Rattle.std.proofs.lemmas.Bool.{false≢true, true≢false, cases_eq, cases_Bool}
 use Rattle.model.specs.Graph.{has_number}
 use Rattle.theory.proofs.Lists.{has_number-left, has_number-right, has_number-cases, has_number-one, has_number-push, has_number-push_cases, has_number-push_other, same_some}
-use Rattle.lowest.specs.Flags.{has}
+use Rattle.plan.specs.Flags.{has}
 use Rattle.paths.specs.declared.manifest.Action.{Action}
 use Rattle.paths.specs.declared.manifest.Action.TheVariants as action
 use Rattle.paths.specs.Commands.{no_action, stop_of, dyndep_stop}

@@ -6,8 +6,8 @@ use Rattle.std.proofs.lemmas.Bool.{false≢true, true≢false, and_parts}
 use Rattle.model.specs.Graph.{has_number, edge_at, IsCommand}
 use Rattle.model.specs.Schedule.{Task, Step, Judged, judged_in, running_in, done_in, IsSettled, Done}
 use Rattle.theory.proofs.Lists.{has_number-one}
-use Rattle.lowest.specs.Flags.{has}
-use Rattle.queue.specs.Turns.{Turns, with_waiting}
+use Rattle.plan.specs.Flags.{has}
+use Rattle.plan.specs.Turns.{Turns, with_waiting}
 use Rattle.links.specs.declared.graph.Graph.{Graph}
 use Rattle.plan.specs.declared.step.Standing.{Standing}
 use Rattle.plan.specs.declared.step.Standing.TheVariants.{Outside, Unjudged, Clean, OutOfDate, Running, Well, Failed, Alias, Known}

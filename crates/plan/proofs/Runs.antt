@@ -8,7 +8,7 @@ use Rattle.model.specs.Graph.{has_number}
 use Rattle.model.specs.Schedule.{Task, Step, Judged, Started, Ended, started_in, ended_in, running_in}
 use Rattle.theory.proofs.Lists.{has_number-append}
 use Rattle.theory.proofs.Steps.{started-append, ended-append, running_parts}
-use Rattle.queue.specs.Turns.{runs_in, set_runs}
+use Rattle.plan.specs.Turns.{runs_in, set_runs}
 use Rattle.plan.specs.Planned.{is_place, AreTaken}
 use Rattle.plan.specs.Steps.{IsOnce}
 use Rattle.plan.proofs.PlannedCounts.{started_once}

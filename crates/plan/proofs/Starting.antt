@@ -5,8 +5,8 @@ use Rattle.model.specs.Graph.{has_number, edge_at, depth_of, IsCommand}
 use Rattle.model.specs.Reading.{IsInCone}
 use Rattle.model.specs.Schedule.{Task, Step, Started, running_in, failed_in, well_in, IsBelow, is_in_pool, MayStart, NoneMayStart, IsLawfulStep}
 use Rattle.theory.proofs.Lists.{same_bytes, bytes_same}
-use Rattle.lowest.specs.Flags.{has as flagged, AreNone}
-use Rattle.queue.specs.Turns.{group_at, room, may, IsFirstTurn, NoTurn}
+use Rattle.plan.specs.Flags.{has as flagged, AreNone}
+use Rattle.plan.specs.Turns.{group_at, room, may, IsFirstTurn, NoTurn}
 use Rattle.links.specs.declared.graph.Graph.{Graph}
 use Rattle.plan.specs.declared.plan.Plan.{Plan}
 use Rattle.plan.specs.declared.step.Standing.{Standing}

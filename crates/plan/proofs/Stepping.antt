@@ -8,8 +8,8 @@ use Rattle.model.specs.Graph.{edge_at, IsCommand}
 use Rattle.model.specs.Reading.{IsInCone}
 use Rattle.model.specs.Schedule.{Task, Step, running_in, done_in, IsSettled}
 use Rattle.theory.proofs.Settled.{settled_more}
-use Rattle.lowest.specs.Flags.{has}
-use Rattle.queue.specs.Turns.{Turns}
+use Rattle.plan.specs.Flags.{has}
+use Rattle.plan.specs.Turns.{Turns}
 use Rattle.links.specs.declared.graph.Graph.{Graph}
 use Rattle.links.specs.Links.{Links}
 use Rattle.plan.specs.declared.plan.Plan.{Plan}

@@ -4,8 +4,8 @@ use Rattle.std.proofs.Math.ListN.{set}
 use Rattle.std.proofs.lemmas.Bool.{false≢true, and_parts, ltb-true}
 use Rattle.model.specs.Graph.{has_number}
 use Rattle.model.specs.Schedule.{Task, Step, Started, started_in, running_in}
-use Rattle.lowest.specs.Flags.{has}
-use Rattle.queue.specs.Turns.{Turns, group_at, room, may, runs_at, runs_in, set_runs, with_waiting, with_running}
+use Rattle.plan.specs.Flags.{has}
+use Rattle.plan.specs.Turns.{Turns, group_at, room, may, runs_at, runs_in, set_runs, with_waiting, with_running}
 use Rattle.links.specs.declared.graph.Graph.{Graph}
 use Rattle.plan.specs.declared.step.Standing.{Standing}
 use Rattle.plan.specs.declared.step.Standing.TheVariants.{Outside, Unjudged, Clean, OutOfDate, Running, Well, Failed, Alias, Known}

@@ -1,7 +1,7 @@
 -- How a plan begins.
 use Rattle.std.specs.Prelude.{◌≡◌, ℕ, ◌<◌, Bool, true, false, if◌then◌else◌, List, replicate, length, slice_index, slice_index_or, get_or, count_by, Option, None, is_none}
-use Rattle.lowest.specs.Flags.{has, AreNone}
-use Rattle.queue.specs.Turns.{Turns, AreWithin}
+use Rattle.plan.specs.Flags.{has, AreNone}
+use Rattle.plan.specs.Turns.{Turns, AreWithin}
 use Rattle.links.specs.declared.cone.Mark.{Mark}
 use Rattle.links.specs.declared.graph.Graph.{Graph}
 use Rattle.links.specs.Cone.{mark_at, is_listed}

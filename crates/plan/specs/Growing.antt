@@ -1,6 +1,6 @@
 -- How standings, and what is there, go over to a graph that has grown.
 use Rattle.std.specs.Prelude.{◌≡◌, ℕ, ◌<◌, Bool, List, length}
-use Rattle.lowest.specs.Flags.{has}
+use Rattle.plan.specs.Flags.{has}
 use Rattle.links.specs.declared.cone.Mark.{Mark}
 use Rattle.links.specs.declared.graph.Graph.{Graph}
 use Rattle.links.specs.Links.{Links, links_of}

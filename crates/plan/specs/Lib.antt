@@ -1,3 +1,9 @@
+pub mod Flags
+pub mod Tree
+pub mod Turns
+pub mod PoolShown
+pub mod Seats
+pub mod Queues
 pub mod Standing
 pub mod Pools
 pub mod Places

@@ -2,12 +2,12 @@
 use Rattle.std.specs.Prelude.{◌≡◌, ℕ, ◌<◌, Bool, true, false, if◌then◌else◌, List, [], ◌∷◌, ◌++◌, length, Option, None, Some, is_some, MatchOption}
 use Rattle.std.specs.List.{AllByRecursion}
 use Rattle.model.specs.Graph.{has_number}
-use Rattle.lowest.specs.Flags.{has}
+use Rattle.plan.specs.Flags.{has}
 use Rattle.links.specs.declared.graph.Graph.{Graph}
 use Rattle.links.specs.Links.{links_of}
 use Rattle.links.specs.Extended.{dyndep_at}
 use Rattle.plan.specs.declared.step.Standing.{Standing}
-use Rattle.queue.specs.Turns.{Turns}
+use Rattle.plan.specs.Turns.{Turns}
 use Rattle.plan.specs.Standing.{standing_at, is_outside}
 use Rattle.plan.specs.Plan.{AreAllPooled}
 

@@ -1,7 +1,7 @@
 -- What a plan keeps.
 use Rattle.std.specs.Prelude.{◌≡◌, ◌≢◌, ℕ, ◌==◌, ◌<◌, ◌&&◌, ◌||◌, nat_lt, not, Bool, true, false, List, length, slice_index, count_by, get_or}
-use Rattle.lowest.specs.Flags.{has}
-use Rattle.queue.specs.Turns.{Turns, group_at}
+use Rattle.plan.specs.Flags.{has}
+use Rattle.plan.specs.Turns.{Turns, group_at}
 use Rattle.links.specs.Links.{Links, needs_at}
 use Rattle.links.specs.declared.graph.Graph.{Graph}
 use Rattle.paths.specs.Commands.{no_action}

@@ -6,8 +6,8 @@ use Rattle.model.specs.Reading.{IsInCone}
 use Rattle.model.specs.Phases.{IsNextLoad, NoLoadIsDue}
 use Rattle.theory.specs.Order.{IsOrderly}
 use Rattle.model.specs.Schedule.{Task, Step as Done, Judged, Started, Ended, IsLawfulStep, NoneMayBeJudged, NoneMayStart, IsSettled, judged_in, clean_in, out_of_date_in, started_in, well_in, failed_in, running_in, done_in}
-use Rattle.lowest.specs.Flags.{has, AreNone}
-use Rattle.queue.specs.Turns.{Turns, group_at, may}
+use Rattle.plan.specs.Flags.{has, AreNone}
+use Rattle.plan.specs.Turns.{Turns, group_at, may}
 use Rattle.links.specs.declared.graph.Graph.{Graph}
 use Rattle.links.specs.Links.{links_of, needs_at}
 use Rattle.links.specs.declared.cone.Cone.{Cone}

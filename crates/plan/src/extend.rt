@@ -1,7 +1,7 @@
 //! A plan goes on over a graph that has grown.
 
 ghost use Rattle.std.specs.Prelude.{◌≡◌, ◌<◌, ◌≤◌, ℕ, length, vec_len, IfOk};
-ghost use Rattle.lowest.specs.Flags.{has};
+ghost use Rattle.plan.specs.Flags.{has};
 ghost use Rattle.links.specs.Links.{links_of};
 ghost use Rattle.plan.specs.Standing.{is_settled, maker_settled};
 ghost use Rattle.plan.specs.First.{first_at};
@@ -9,16 +9,16 @@ ghost use Rattle.plan.specs.Growing.{grown_of, AreGrown, AreThereIn};
 
 use crate::first::{first_counts, first_ready, first_standing, maker_of};
 use crate::loads::loads_of;
+use crate::lowest::Lowest;
 use crate::plan::Plan;
 use crate::step::Standing;
 use links::{Cone, Graph};
-use lowest::Lowest;
 use paths::{EdgeId, PathId};
 use std::alloc::{AllocError, Global};
 
 impl Plan {
     ghost use Rattle.std.specs.Prelude.{◌≡◌, ℕ, length, vec_len, OnOk, OnErr};
-    ghost use Rattle.lowest.specs.Flags.{has};
+    ghost use Rattle.plan.specs.Flags.{has};
     ghost use Rattle.plan.specs.Planned.{IsPlanOver};
     ghost use Rattle.plan.specs.Extended.{MayGoOn, GoesOn};
 

@@ -1,15 +1,15 @@
 //! How a plan begins.
 
 ghost use Rattle.std.specs.Prelude.{◌≡◌, ◌<◌, ◌≤◌, IfOk, length, vec_len, is_none, count_by, true, slice_set, if◌then◌else◌};
-ghost use Rattle.lowest.specs.Flags.{has, AreNone};
+ghost use Rattle.plan.specs.Flags.{has, AreNone};
 ghost use Rattle.links.specs.Links.{links_of, needs_at};
 ghost use Rattle.plan.specs.Standing.{is_unjudged, is_alias};
 ghost use Rattle.plan.specs.Plan.{is_missing, IsReady};
 ghost use Rattle.plan.specs.First.{first_at, AreFirst, AreSources, AreCounts};
 
+use crate::lowest::Lowest;
 use crate::step::Standing;
 use links::{Cone, Graph};
-use lowest::Lowest;
 use paths::{EdgeId, PathId};
 use std::alloc::{AllocError, Global};
 

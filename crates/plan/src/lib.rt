@@ -6,11 +6,16 @@ mod extend;
 mod first;
 mod laws;
 mod loads;
+mod lowest;
 mod plan;
+mod pool;
 mod pools;
+mod queue;
 mod settle;
 mod step;
 
 pub use laws::{lists_count, loads_go_on, standings_tell, steps_move, steps_name, task_of};
+pub use lowest::Lowest;
 pub use plan::{Plan, note_changes};
+pub use queue::Queue;
 pub use step::{End, Standing, Step, Verdict};

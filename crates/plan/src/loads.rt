@@ -1,7 +1,7 @@
 //! Which dyndep files are loaded, and in which order.
 
 ghost use Rattle.std.specs.Prelude.{◌≡◌, ◌<◌, ℕ, true, false, is_some, length, IfOk, OnOk, IfSome, MatchOption};
-ghost use Rattle.lowest.specs.Flags.{has};
+ghost use Rattle.plan.specs.Flags.{has};
 ghost use Rattle.links.specs.Links.{links_of};
 ghost use Rattle.plan.specs.Loads.{named_by, AreLoads, NoneIsWanted, AreWanted, IsTaken, NoneIsTaken, HavePushed};
 

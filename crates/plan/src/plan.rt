@@ -7,12 +7,12 @@ ghost use Rattle.plan.specs.Plan.{IsReady, IsWaiting, IsTallied, AreFlagged};
 
 use crate::first::{first_counts, first_ready, first_standings, is_there, sources};
 use crate::loads::loads_of;
+use crate::lowest::Lowest;
 use crate::pools::queue_of;
+use crate::queue::Queue;
 use crate::step::{End, Standing, Step, Verdict};
 use links::{Cone, Graph};
-use lowest::Lowest;
 use paths::{EdgeId, PathId};
-use queue::Queue;
 use std::alloc::{AllocError, Global};
 
 /// How far each edge of a cone has come. Only `new` and `extend` take memory: some 70 bytes for each edge of the graph, and two for
@@ -54,8 +54,8 @@ pub struct Plan {
 impl Plan {
     ghost use Rattle.std.specs.Prelude.{◌≡◌, ◌<◌, ℕ, suc, true, false, length, vec_len, slice_set, IfOk};
     ghost use Rattle.model.specs.Schedule.{Judged, Started, Ended as Finished, well_in, running_in, failed_in};
-    ghost use Rattle.lowest.specs.Flags.{has};
-    ghost use Rattle.queue.specs.Turns.{may};
+    ghost use Rattle.plan.specs.Flags.{has};
+    ghost use Rattle.plan.specs.Turns.{may};
     ghost use Rattle.links.specs.declared.graph.Graph.{Graph};
     ghost use Rattle.links.specs.Links.{links_of};
     ghost use Rattle.plan.specs.Standing.{standing_at};

@@ -8,11 +8,11 @@ ghost use Rattle.plan.specs.Plan.{AreAllPooled};
 ghost use Rattle.plan.specs.First.{AreGroups, AreAllGroups, IsIdle};
 
 use crate::by_name::Places;
+use crate::queue::Queue;
 use crate::step::Standing;
 use links::Graph;
 use model::Pool;
 use paths::{Action, EdgeId};
-use queue::Queue;
 use std::alloc::{AllocError, Global};
 
 /// The name of the pool for commands at the terminal (manual: "The `console` pool").

@@ -3,16 +3,16 @@
 ghost use Rattle.std.specs.Prelude.{◌≡◌, ◌<◌, ◌-◌, length, slice_index};
 ghost use Rattle.plan.specs.Settling.{lowered, raised};
 
+use crate::lowest::Lowest;
 use crate::plan::Plan;
 use crate::step::Standing;
 use links::Graph;
-use lowest::Lowest;
 use paths::{EdgeId, PathId};
 
 impl Plan {
     ghost use Rattle.std.specs.Prelude.{◌≡◌, ◌<◌, ℕ, true, false, if◌then◌else◌, length, vec_len, slice_index, slice_set};
     ghost use Rattle.model.specs.Graph.{has_number};
-    ghost use Rattle.lowest.specs.Flags.{has, AreNone};
+    ghost use Rattle.plan.specs.Flags.{has, AreNone};
     ghost use Rattle.links.specs.Links.{links_of};
     ghost use Rattle.plan.specs.Standing.{standing_at, awaits, is_settled};
     ghost use Rattle.plan.specs.Planned.{IsOverIn};

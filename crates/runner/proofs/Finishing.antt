@@ -28,7 +28,7 @@ use Rattle.theory.proofs.Runs.{run_looks, run_takes_in}
 use Rattle.theory.specs.Ledger.{IsCutOff}
 use Rattle.theory.proofs.Ledger.{SaysAtEnd, ReadAtEnd, command_of, running_of, carried_well, carried_failed, cut_in_reading, cut_off, cut_looks, cut_finishes}
 use Rattle.theory.proofs.TakenIn.{ended_here, depfile_since}
-use Rattle.lowest.specs.Flags as flags
+use Rattle.plan.specs.Flags as flags
 use Rattle.paths.specs.Told.{text_at}
 use Rattle.links.specs.declared.graph.Graph.{Graph}
 use Rattle.links.specs.Links.{links_of}

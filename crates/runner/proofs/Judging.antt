@@ -26,7 +26,7 @@ use Rattle.theory.proofs.Steps.{running_is, started-append, ended-append, out_of
 use Rattle.theory.proofs.Kept.{depfile_stays}
 use Rattle.theory.proofs.Ledger.{others_run, carried_judged}
 use Rattle.display.specs.declared.display.Display.{Display}
-use Rattle.lowest.specs.Flags as flags
+use Rattle.plan.specs.Flags as flags
 use Rattle.paths.specs.Told.{text_at}
 use Rattle.links.specs.declared.graph.Graph.{Graph}
 use Rattle.links.specs.Links.{links_of}

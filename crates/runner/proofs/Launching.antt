@@ -24,7 +24,7 @@ use Rattle.theory.proofs.Writing.{ticks_grew}
 use Rattle.theory.proofs.Ledger.{carried_starts, started_under}
 use Rattle.links.specs.declared.graph.Graph.{Graph}
 use Rattle.paths.specs.Told.{text_at}
-use Rattle.lowest.specs.Flags as flags
+use Rattle.plan.specs.Flags as flags
 use Rattle.plan.specs.declared.plan.Plan.{Plan}
 use Rattle.plan.specs.Planned.{IsPlanned, AreTaken, TakesStep}
 use Rattle.records.specs.Laws.{LogStays}

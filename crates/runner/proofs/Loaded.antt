@@ -28,7 +28,7 @@ use Rattle.theory.proofs.Runs.{rest_begins}
 use Rattle.theory.specs.Ledger.{IsCarried}
 use Rattle.theory.proofs.Loading.{carried_load}
 use Rattle.theory.proofs.Turned.{kept_then}
-use Rattle.lowest.specs.Flags as flags
+use Rattle.plan.specs.Flags as flags
 use Rattle.paths.specs.Told.{text_at}
 use Rattle.links.specs.declared.graph.Graph.{Graph}
 use Rattle.links.specs.declared.cone.Cone.{Cone}

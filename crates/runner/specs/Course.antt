@@ -19,7 +19,7 @@ use Rattle.links.specs.declared.graph.Graph.{Graph}
 use Rattle.links.specs.Links.{links_of}
 use Rattle.links.specs.Told.{declared_by, recorded_by, AreSameInputs}
 use Rattle.depfile.specs.Depfile.{IsReading}
-use Rattle.lowest.specs.Flags as flags
+use Rattle.plan.specs.Flags as flags
 use Rattle.plan.specs.Planned.{IsPlanned, AreTaken}
 use Rattle.judge.specs.Seen.{look_at, look_of, AreSeenOf}
 use Rattle.records.specs.Known.{AreKnown}

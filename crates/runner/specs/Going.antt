@@ -7,7 +7,7 @@ use Rattle.model.specs.Schedule.{Task, Step as Done, Ended, MayStart, NoneMayBeJ
 use Rattle.model.specs.Phases.{IsNextLoad, NoLoadIsDue}
 use Rattle.model.specs.SingleBuild.{task_of}
 use Rattle.theory.specs.Run.{IsRun}
-use Rattle.lowest.specs.Flags as flags
+use Rattle.plan.specs.Flags as flags
 use Rattle.links.specs.declared.graph.Graph.{Graph}
 use Rattle.links.specs.Links.{links_of}
 use Rattle.links.specs.Told.{declared_by}

@@ -1,6 +1,6 @@
 -- Outputs of commands with `restat` (manual: "Rule variables"): which of them count as changed.
 use Rattle.std.specs.Prelude.{◌≡◌, ◌<◌, ◌==◌, not, ℕ, Bool, true, false, List, length, slice_index}
-use Rattle.lowest.specs.Flags as flags
+use Rattle.plan.specs.Flags as flags
 use Rattle.model.specs.World.{World}
 use Rattle.model.specs.Graph.{has_number}
 use Rattle.links.specs.declared.graph.Graph.{Graph}

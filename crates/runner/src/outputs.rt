@@ -3,7 +3,7 @@
 ghost use Rattle.std.specs.Prelude.{◌≡◌, ◌<◌, not, ℕ, IfOk, OnOk, List, true, false, suc, length, slice_index, slice_index_or};
 ghost use Rattle.model.specs.Calls.{OnlyLooks, HasCause};
 ghost use Rattle.model.specs.Graph.{edge_at, has_number, IsCommand};
-ghost use Rattle.lowest.specs.Flags.{has};
+ghost use Rattle.plan.specs.Flags.{has};
 ghost use Rattle.links.specs.Links.{links_of};
 ghost use Rattle.links.specs.Told.{declared_by};
 ghost use Rattle.judge.specs.declared.looks.Look.TheVariants.{Unasked};

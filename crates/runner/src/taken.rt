@@ -5,7 +5,7 @@ ghost use Rattle.model.specs.declared.event.Event.TheVariants.{Finish};
 ghost use Rattle.model.specs.Calls.{OnlyLooks, HasCause};
 ghost use Rattle.model.specs.Graph.{edge_at, has_number, IsCommand};
 ghost use Rattle.model.specs.Schedule.{Ended};
-ghost use Rattle.lowest.specs.Flags.{has};
+ghost use Rattle.plan.specs.Flags.{has};
 ghost use Rattle.links.specs.Links.{links_of};
 ghost use Rattle.links.specs.Told.{declared_by};
 ghost use Rattle.judge.specs.Seen.{look_at};

@@ -1,5 +1,5 @@
 use Rattle.std.proofs.Common.{◌≡◌, ◌<◌, ℕ, length}
-use Rattle.lowest.specs.Flags.{has}
+use Rattle.plan.specs.Flags.{has}
 use Rattle.plan.proofs.extend.grown_flags.Given as goal
 
 abbrev pub invariant-loop-place : goal.invariant-loop-place

@@ -1,5 +1,5 @@
 use Rattle.std.proofs.Common.{◌≡◌, ◌<◌, ℕ, length}
-use Rattle.lowest.specs.Flags.{has}
+use Rattle.plan.specs.Flags.{has}
 use Rattle.links.specs.Links.{links_of}
 use Rattle.plan.specs.Standing.{maker_settled}
 use Rattle.plan.proofs.extend.settled_paths.Given as goal

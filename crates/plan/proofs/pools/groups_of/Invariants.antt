@@ -1,5 +1,5 @@
 use Rattle.std.proofs.Common.{◌≡◌, ◌<◌, ℕ, true, false, None, length, get_or}
-use Rattle.queue.specs.Turns.{AreWithin}
+use Rattle.plan.specs.Turns.{AreWithin}
 use Rattle.paths.specs.Commands.{no_action}
 use Rattle.plan.specs.Standing.{standing_at, is_outside}
 use Rattle.plan.specs.Pools.{place_in, pool_of, depths_of}

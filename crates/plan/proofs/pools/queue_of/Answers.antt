@@ -1,6 +1,6 @@
 use Rattle.std.proofs.Common.{◌∙◌, List, None, get_or, ap}
 use Rattle.model.specs.declared.graph.Pool.{Pool}
-use Rattle.queue.specs.Turns.{Turns}
+use Rattle.plan.specs.Turns.{Turns}
 use Rattle.plan.specs.Pools.{depths_of}
 use Rattle.plan.proofs.Beginning.{idle_queue}
 use Rattle.plan.proofs.pools.queue_of.Goals as goal

@@ -1,5 +1,5 @@
 use Rattle.std.proofs.Common.{◌≡◌, ◌<◌, not, ℕ, ◌+◌, List, Bool, false, length, slice_index, slice_index_or, sym, ◌∙◌, ap, subst, arith}
-use Rattle.lowest.specs.Flags.{has}
+use Rattle.plan.specs.Flags.{has}
 use Rattle.judge.specs.declared.looks.Look.{Look}
 use Rattle.judge.specs.declared.looks.Look.TheVariants.{Unasked}
 use Rattle.judge.specs.Seen.{look_at}

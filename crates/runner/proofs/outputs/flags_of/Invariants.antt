@@ -1,5 +1,5 @@
 use Rattle.std.proofs.Common.{◌≡◌, ◌<◌, not, ℕ, length, slice_index, slice_index_or}
-use Rattle.lowest.specs.Flags.{has}
+use Rattle.plan.specs.Flags.{has}
 use Rattle.judge.specs.declared.looks.Look.TheVariants.{Unasked}
 use Rattle.judge.specs.Seen.{look_at}
 use Rattle.runner.specs.Restat.{is_same_look}

@@ -1,6 +1,6 @@
 use Rattle.std.proofs.Common.{◌∙◌, List, [], Bool, Vec, Global, length, sym, ap}
 use Rattle.std.proofs.lemmas.List.{length-replicate}
-use Rattle.lowest.specs.Flags.{has}
+use Rattle.plan.specs.Flags.{has}
 use Rattle.plan.proofs.Begun.{half_first, none_flagged}
 use Rattle.plan.proofs.Passing.{half_after, pooled_after, loading_after}
 use Rattle.plan.proofs.plan.Plan.new.Goals as goal

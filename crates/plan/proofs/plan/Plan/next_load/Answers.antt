@@ -1,5 +1,5 @@
 use Rattle.std.proofs.Common.{◌≡◌, ◌∙◌, ℕ, List, Bool, take, get_or, refl, sym, ap, subst}
-use Rattle.lowest.specs.Flags.{has}
+use Rattle.plan.specs.Flags.{has}
 use Rattle.plan.specs.Loads.{NoneIsThere, IsFirstThere}
 use Rattle.plan.proofs.Arriving.{read_number}
 use Rattle.plan.proofs.Due.{first_there}

@@ -1,6 +1,0 @@
-use Rattle.std.proofs.Common.{◌^◌}
-use Rattle.lowest.specs.Tree.{IsFirstAt}
-use Rattle.lowest.proofs.lowest.first_leaf.Given as goal
-
-abbrev pub invariant-loop-level : goal.invariant-loop-level
-invariant-loop-level l = IsFirstAt (2 ^ l._level) l.tree l.node

@@ -1,4 +1,0 @@
-pub mod Fronts
-pub mod Changing
-pub mod Updating
-pub mod Seating

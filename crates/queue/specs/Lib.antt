@@ -1,4 +1,0 @@
-pub mod Turns
-pub mod Pools
-pub mod Seats
-pub mod Queues
