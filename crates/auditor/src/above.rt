@@ -1,7 +1,7 @@
 //! Which edges are above one.
 
 use crate::graphs::inputs_of;
-use links::Graph;
+use graph::Graph;
 use paths::EdgeId;
 use std::alloc::{AllocError, Global};
 

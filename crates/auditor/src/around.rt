@@ -2,8 +2,8 @@
 
 use crate::graphs::{maker_of, text_of};
 use audit::{Around, canonical_at};
+use graph::Graph;
 use indexmap::IndexMap;
-use links::Graph;
 use log_text::BuildLog;
 use paths::{EdgeId, PathId, Paths};
 use std::alloc::{AllocError, Global};

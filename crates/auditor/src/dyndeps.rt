@@ -2,7 +2,7 @@
 
 use crate::graphs::{dyndep_of, text_of};
 use dyndep::parse;
-use links::Graph;
+use graph::Graph;
 use paths::EdgeId;
 use std::alloc::Global;
 

@@ -1,6 +1,6 @@
 //! What a graph tells of any number: of one that no edge or path of it has, nothing.
 
-use links::Graph;
+use graph::Graph;
 use paths::{Action, EdgeId, PathId};
 
 /// The text of a path.

@@ -3,7 +3,7 @@
 use crate::around::Names;
 use crate::graphs::{action_of, order_only_inputs_of, outputs_of, regular_inputs_of, text_of};
 use audit::Lists;
-use links::Graph;
+use graph::Graph;
 use log_text::DepsLog;
 use model::Act;
 use paths::{Action, EdgeId, PathId, Paths};

@@ -10,7 +10,7 @@ use crate::listed::{Declared, lists_of};
 use crate::tally::Tally;
 use crate::twins::Twins;
 use audit::{Around, Breach, Lists, Use, Uses, Whole, breaches, connects, uses_of, wholes_of};
-use links::Graph;
+use graph::Graph;
 use log_text::{BuildLog, DepsLog};
 use paths::{EdgeId, PathId, Paths};
 use std::alloc::{AllocError, Global};

@@ -28,14 +28,14 @@ use Rattle.theory.proofs.Runs.{rest_begins}
 use Rattle.theory.proofs.Starting.{OthersRun, since, private_elsewhere}
 use Rattle.theory.specs.Ledger.{IsPhased}
 use Rattle.theory.proofs.Ledger.{others_run}
-use Rattle.links.specs.declared.cone.Cone.{Cone}
-use Rattle.links.specs.declared.graph.Graph.{Graph}
-use Rattle.links.specs.Cone.{mark_at, is_listed}
-use Rattle.links.specs.Linked.{IsConeOf}
-use Rattle.links.proofs.Texts.{length-edges}
-use Rattle.links.specs.declared.cone.Mark.{Mark}
+use Rattle.graph.specs.declared.cone.Cone.{Cone}
+use Rattle.graph.specs.declared.graph.Graph.{Graph}
+use Rattle.graph.specs.Cone.{mark_at, is_listed}
+use Rattle.graph.specs.Linked.{IsConeOf}
+use Rattle.graph.proofs.Texts.{length-edges}
+use Rattle.graph.specs.declared.cone.Mark.{Mark}
 use Rattle.judge.proofs.Numbers.{item_has}
-use Rattle.links.specs.Told.{declared_by, recorded_by}
+use Rattle.graph.specs.Told.{declared_by, recorded_by}
 use Rattle.judge.specs.Seen.{AreKept, AreSeenOf}
 use Rattle.records.specs.Known.{AreKnown}
 use Rattle.records.specs.Laws.{LogStays}

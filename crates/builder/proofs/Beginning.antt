@@ -22,9 +22,9 @@ use Rattle.theory.specs.Ledger.{IsCarried}
 use Rattle.theory.proofs.Ledger.{carried_entry, carried_found, carried_looks}
 use Rattle.manifest.specs.Answer.{IsGraph}
 use Rattle.paths.specs.Told.{text_at}
-use Rattle.links.specs.declared.cone.Cone.{Cone}
-use Rattle.links.specs.declared.graph.Graph.{Graph}
-use Rattle.links.specs.Told.{declared_by}
+use Rattle.graph.specs.declared.cone.Cone.{Cone}
+use Rattle.graph.specs.declared.graph.Graph.{Graph}
+use Rattle.graph.specs.Told.{declared_by}
 use Rattle.judge.specs.Stores.{IsConeIn}
 use Rattle.judge.specs.declared.looks.Looks.{Looks}
 use Rattle.judge.specs.declared.looks.Look.TheVariants.{Unasked}

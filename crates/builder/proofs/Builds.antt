@@ -21,14 +21,14 @@ use Rattle.theory.proofs.Looks.{looks_nothing, looks_then}
 use Rattle.theory.specs.Seen.{Unrefused, Looked}
 use Rattle.theory.proofs.SiteCalls.{unrefused_none, unrefused_then}
 use Rattle.paths.specs.Told.{text_at, texts_at}
-use Rattle.links.specs.declared.cone.ConeFault.{ConeFault}
-use Rattle.links.specs.declared.cone.ConeFault.TheVariants as cone_fault
-use Rattle.links.specs.declared.graph.Graph.{Graph}
-use Rattle.links.specs.declared.fault.GraphFault.{GraphFault}
-use Rattle.links.specs.declared.fault.GraphFault.TheVariants as graph_fault
-use Rattle.links.specs.Linked.{IsFaultOf}
-use Rattle.links.specs.Targets.{IsFirstUnknown, IsNoCone}
-use Rattle.links.specs.Told.{declared_by}
+use Rattle.graph.specs.declared.cone.ConeFault.{ConeFault}
+use Rattle.graph.specs.declared.cone.ConeFault.TheVariants as cone_fault
+use Rattle.graph.specs.declared.graph.Graph.{Graph}
+use Rattle.graph.specs.declared.fault.GraphFault.{GraphFault}
+use Rattle.graph.specs.declared.fault.GraphFault.TheVariants as graph_fault
+use Rattle.graph.specs.Linked.{IsFaultOf}
+use Rattle.graph.specs.Targets.{IsFirstUnknown, IsNoCone}
+use Rattle.graph.specs.Told.{declared_by}
 use Rattle.builder.specs.declared.asked.Limits.{Limits}
 use Rattle.builder.specs.declared.report.Refusal.{Refusal}
 use Rattle.builder.specs.declared.report.Refusal.TheVariants as refusal

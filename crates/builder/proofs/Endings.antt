@@ -19,10 +19,10 @@ use Rattle.model.specs.SingleBuild as answer
 use Rattle.model.specs.SingleBuild.{HeldAt, IsRefusedLoadHeldAt, AreHeldThen, AreJudgedAt, ArePhasesJudgedAt, Asked, Answer, IsSuccess, IsAnswer, IsAsked, IsNamedMissing, IsShownCycle, WentOn, WasInOrder, PassesNoFault, NamesOther, asked_with, task_of}
 use Rattle.theory.specs.Seen.{IsSeen}
 use Rattle.theory.proofs.Lists.{same_bytes, same_some}
-use Rattle.links.specs.declared.cone.Cone.{Cone}
-use Rattle.links.specs.declared.graph.Graph.{Graph}
+use Rattle.graph.specs.declared.cone.Cone.{Cone}
+use Rattle.graph.specs.declared.graph.Graph.{Graph}
 use Rattle.records.specs.declared.records.Records.{Records}
-use Rattle.links.specs.Told.{declared_by}
+use Rattle.graph.specs.Told.{declared_by}
 use Rattle.theory.specs.Ledger.{IsCutOff, LoadedThen}
 use Rattle.theory.proofs.Ledger.{cut_off}
 use Rattle.theory.proofs.PhasesGoOn.{HoldsAll, with_text, no_text, holds_all, holds_it, held_later, loads_with}

@@ -18,15 +18,15 @@ use Rattle.paths.specs.declared.manifest.Action.TheVariants.{Alias, Command}
 use Rattle.paths.specs.Commands.{no_action}
 use Rattle.paths.specs.Lists.{line_at}
 use Rattle.paths.specs.Told.{text_at, texts_at, edge_of}
-use Rattle.links.specs.declared.back.Before.{Before}
-use Rattle.links.specs.declared.cone.Cone.{Cone}
-use Rattle.links.specs.declared.graph.Graph.{Graph}
-use Rattle.links.specs.Back.{Undoes, MayBeTakenBack}
-use Rattle.links.specs.Extended.{HasLoaded, dyndep_at}
-use Rattle.links.specs.Held.{list_at, dyndep_of}
-use Rattle.links.specs.LoadedEdges.{numbers_in}
-use Rattle.links.specs.Statements.{is_place}
-use Rattle.links.specs.Told.{declared_by, recorded_by, AreSameInputs}
+use Rattle.graph.specs.declared.back.Before.{Before}
+use Rattle.graph.specs.declared.cone.Cone.{Cone}
+use Rattle.graph.specs.declared.graph.Graph.{Graph}
+use Rattle.graph.specs.Back.{Undoes, MayBeTakenBack}
+use Rattle.graph.specs.Extended.{HasLoaded, dyndep_at}
+use Rattle.graph.specs.Held.{list_at, dyndep_of}
+use Rattle.graph.specs.LoadedEdges.{numbers_in}
+use Rattle.graph.specs.Statements.{is_place}
+use Rattle.graph.specs.Told.{declared_by, recorded_by, AreSameInputs}
 use Rattle.plan.specs.Extended.{MayGoOn}
 use Rattle.plan.proofs.Loaded.{file_within, namer_within}
 use Rattle.runner.specs.declared.state.State.{State}

@@ -19,8 +19,8 @@ use Rattle.theory.proofs.Orderly.{kept_orderly}
 use Rattle.theory.specs.Ledger.{IsPhased, IsCutOff}
 use Rattle.theory.proofs.Ledger.{cut_off}
 use Rattle.theory.proofs.PhasesGoOn.{phased_on}
-use Rattle.links.specs.declared.cone.Cone.{Cone}
-use Rattle.links.specs.declared.graph.Graph.{Graph}
+use Rattle.graph.specs.declared.cone.Cone.{Cone}
+use Rattle.graph.specs.declared.graph.Graph.{Graph}
 use Rattle.judge.specs.declared.looks.Looks.{Looks}
 use Rattle.judge.specs.Looking.{HasLooked}
 use Rattle.plan.specs.declared.plan.Plan.{Plan}

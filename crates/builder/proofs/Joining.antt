@@ -24,15 +24,15 @@ use Rattle.paths.specs.declared.manifest.Manifest.{Manifest}
 use Rattle.paths.specs.Commands.{no_action}
 use Rattle.paths.specs.Lists.{line_at, line_outputs}
 use Rattle.paths.specs.Told.{text_at, texts_at, edge_of, graph_of}
-use Rattle.links.specs.declared.graph.Graph.{Graph}
-use Rattle.links.specs.Grown.{HasGained}
-use Rattle.links.specs.Held.{list_at}
-use Rattle.links.specs.Linked.{StandFor}
-use Rattle.links.specs.LoadedEdges.{numbers_in}
-use Rattle.links.specs.declared.back.LoadedEdge.{LoadedEdge}
-use Rattle.links.specs.Links.{links_of}
-use Rattle.links.specs.Told.{declared_by, recorded_by}
-use Rattle.links.proofs.Texts.{has_text, number_of}
+use Rattle.graph.specs.declared.graph.Graph.{Graph}
+use Rattle.graph.specs.Grown.{HasGained}
+use Rattle.graph.specs.Held.{list_at}
+use Rattle.graph.specs.Linked.{StandFor}
+use Rattle.graph.specs.LoadedEdges.{numbers_in}
+use Rattle.graph.specs.declared.back.LoadedEdge.{LoadedEdge}
+use Rattle.graph.specs.Links.{links_of}
+use Rattle.graph.specs.Told.{declared_by, recorded_by}
+use Rattle.graph.proofs.Texts.{has_text, number_of}
 use Rattle.records.specs.declared.records.Records.{Records}
 use Rattle.records.specs.Known.{IsOf, IsOfDeps, AreKnown}
 use Rattle.judge.specs.Facts.{AreKnownOf}

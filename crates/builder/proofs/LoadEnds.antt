@@ -7,9 +7,9 @@ use Rattle.model.specs.World.{World}
 use Rattle.model.specs.Calls.{OnlyLooks, is_stop}
 use Rattle.model.specs.Phases.{Phase}
 use Rattle.theory.specs.Seen.{Unrefused}
-use Rattle.links.specs.declared.cone.Cone.{Cone}
-use Rattle.links.specs.declared.graph.Graph.{Graph}
-use Rattle.links.specs.Told.{declared_by}
+use Rattle.graph.specs.declared.cone.Cone.{Cone}
+use Rattle.graph.specs.declared.graph.Graph.{Graph}
+use Rattle.graph.specs.Told.{declared_by}
 use Rattle.runner.specs.declared.state.State.{State}
 use Rattle.runner.specs.Course.{Course}
 use Rattle.runner.specs.Cutting.{IsMet}

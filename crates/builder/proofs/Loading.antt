@@ -41,12 +41,12 @@ use Rattle.dyndep.specs.Dyndep.{IsRead, accepted}
 use Rattle.judge.proofs.Points.{IsSpared, points_alike}
 use Rattle.plan.specs.Flags as flags
 use Rattle.paths.specs.Told.{text_at, texts_at}
-use Rattle.links.specs.declared.cone.Cone.{Cone}
-use Rattle.links.specs.declared.graph.Graph.{Graph}
-use Rattle.links.specs.Extended.{addition_of}
-use Rattle.links.specs.Linked.{StandFor, IsConeOf}
-use Rattle.links.specs.Links.{links_of}
-use Rattle.links.specs.Told.{declared_by}
+use Rattle.graph.specs.declared.cone.Cone.{Cone}
+use Rattle.graph.specs.declared.graph.Graph.{Graph}
+use Rattle.graph.specs.Extended.{addition_of}
+use Rattle.graph.specs.Linked.{StandFor, IsConeOf}
+use Rattle.graph.specs.Links.{links_of}
+use Rattle.graph.specs.Told.{declared_by}
 use Rattle.judge.specs.declared.looks.Look.{Look}
 use Rattle.judge.specs.declared.looks.Looks.{Looks}
 use Rattle.judge.specs.Seen.{look_at, look_of, is_asked, AreKept, AreSeenOf}

@@ -6,9 +6,9 @@ use Rattle.std.proofs.lemmas.Option.{slice_get_within, get_or_from_slice_get}
 use Rattle.model.specs.Graph.{has, has_number}
 use Rattle.theory.proofs.Lists.{same_some, same_bytes}
 use Rattle.paths.specs.Told.{text_at, texts_at}
-use Rattle.links.specs.Grown.{HasNumbered}
-use Rattle.links.specs.declared.graph.Graph.{Graph}
-use Rattle.links.proofs.Texts.{has_text}
+use Rattle.graph.specs.Grown.{HasNumbered}
+use Rattle.graph.specs.declared.graph.Graph.{Graph}
+use Rattle.graph.proofs.Texts.{has_text}
 use Rattle.builder.specs.Recorded.{HasMorePaths, HasOnlyMorePaths, AreNumbered, IsNumberedToo, HaveJust}
 
 -- ---- more paths

@@ -22,8 +22,8 @@ use Rattle.log_text.specs.DepsLog.{Keeps as KeepsDeps, compaction as deps_compac
 use Rattle.log_text.specs.DepsRecordLine.{forms as deps_forms}
 use Rattle.depfile.specs.Depfile.{IsReading}
 use Rattle.theory.specs.Logged.{IsLoggedAt}
-use Rattle.links.specs.declared.graph.Graph.{Graph}
-use Rattle.links.specs.Told.{declared_by}
+use Rattle.graph.specs.declared.graph.Graph.{Graph}
+use Rattle.graph.specs.Told.{declared_by}
 use Rattle.records.specs.declared.records.Records.{Records}
 use Rattle.records.specs.Held.{Held, WasRead}
 use Rattle.records.specs.Laws.{LogBegins, WereRead}

@@ -23,8 +23,8 @@ use Rattle.theory.proofs.Loads.{declared_once}
 use Rattle.theory.proofs.Looks.{logs_left, kept_before}
 use Rattle.theory.proofs.Runs.{rest_begins}
 use Rattle.theory.proofs.Turns.{settled_at_end}
-use Rattle.links.specs.declared.cone.Mark.{Mark}
-use Rattle.links.specs.Linked.{IsConeOf}
+use Rattle.graph.specs.declared.cone.Mark.{Mark}
+use Rattle.graph.specs.Linked.{IsConeOf}
 use Rattle.theory.specs.Ledger.{IsCutOff, LoadedThen}
 use Rattle.theory.proofs.Carried.{settled_stays}
 use Rattle.theory.proofs.Ledger.{run_of, judged_of, judged_at_of, frame_of, met_by_step}

@@ -15,7 +15,7 @@ use Rattle.theory.proofs.SiteCalls.{unrefused_call}
 use Rattle.log_text.specs.DepsFormat.{HasFormat}
 use Rattle.depfile.specs.Depfile.{HasReading}
 use Rattle.dyndep_law.specs.Readings.{HasReading as HasDyndeps}
-use Rattle.links.specs.Extended.{addition_of}
+use Rattle.graph.specs.Extended.{addition_of}
 use Rattle.model.specs.Graph.{Addition}
 use Rattle.std.specs.Option.{option_map}
 use Rattle.manifest.specs.Answer.{IsGraph, ReadsFile, site_part}
@@ -26,8 +26,8 @@ use Rattle.builder.specs.declared.asked.Asked.{Asked}
 use Rattle.builder.specs.declared.reading.Reading.{Reading}
 use Rattle.builder.specs.declared.report.Options.{Options}
 use Rattle.builder.specs.declared.report.Report.{Report}
-use Rattle.links.specs.declared.fault.GraphFault.{GraphFault}
-use Rattle.links.specs.Linked.{IsFaultOf}
+use Rattle.graph.specs.declared.fault.GraphFault.{GraphFault}
+use Rattle.graph.specs.Linked.{IsFaultOf}
 use Rattle.paths.specs.declared.manifest.Manifest.{Manifest}
 use Rattle.paths.specs.Told.{graph_of}
 use Rattle.builder.specs.Asked.{AreTargets, IsFolder}

@@ -10,10 +10,10 @@ use Rattle.model.specs.Schedule.{Task, Step as Done}
 use Rattle.model.specs.SingleBuild.{IsNamedMissing, asked_with}
 use Rattle.theory.specs.Ledger.{IsCutOff}
 use Rattle.theory.proofs.PhasesGoOn.{phased_on}
-use Rattle.links.specs.declared.cone.Cone.{Cone}
-use Rattle.links.specs.declared.graph.Graph.{Graph}
-use Rattle.links.specs.Links.{links_of}
-use Rattle.links.specs.Told.{declared_by}
+use Rattle.graph.specs.declared.cone.Cone.{Cone}
+use Rattle.graph.specs.declared.graph.Graph.{Graph}
+use Rattle.graph.specs.Links.{links_of}
+use Rattle.graph.specs.Told.{declared_by}
 use Rattle.judge.specs.declared.looks.Looks.{Looks}
 use Rattle.judge.specs.Looking.{HasLooked}
 use Rattle.paths.specs.Told.{text_at}

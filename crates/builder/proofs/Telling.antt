@@ -7,11 +7,11 @@ use Rattle.model.specs.declared.graph.Edge.{Edge}
 use Rattle.model.specs.Graph.{edge_at, first_output, maker, no_edge, inputs, outputs, has}
 use Rattle.theory.proofs.Lists.{bytes_same}
 use Rattle.std.proofs.lemmas.Bool.{false≢true, or_left}
-use Rattle.links.specs.declared.cone.Cone.{Cone}
-use Rattle.links.specs.declared.graph.Graph.{Graph}
-use Rattle.links.specs.Linked.{IsConeOf}
-use Rattle.links.specs.Told.{declared_by, recorded_by}
-use Rattle.links.proofs.Texts.{has_text}
+use Rattle.graph.specs.declared.cone.Cone.{Cone}
+use Rattle.graph.specs.declared.graph.Graph.{Graph}
+use Rattle.graph.specs.Linked.{IsConeOf}
+use Rattle.graph.specs.Told.{declared_by, recorded_by}
+use Rattle.graph.proofs.Texts.{has_text}
 use Rattle.model.specs.Records.{Store, recorded_of, recorded_inputs}
 use Rattle.model.specs.Schedule.{Step}
 use Rattle.model.specs.SingleBuild.{IsNamedMissing}

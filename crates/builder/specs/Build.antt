@@ -33,9 +33,9 @@ use Rattle.theory.specs.Seen.{Looked}
 use Rattle.builder.specs.Asked.{AreTargets, IsFolder}
 use Rattle.paths.specs.Told.{graph_of, text_at}
 use Rattle.builder.specs.Loads.{ReadsDyndeps, RefusesFile}
-use Rattle.links.specs.declared.fault.GraphFault.TheVariants as fault_of
-use Rattle.links.specs.Linked.{IsFaultOf}
-use Rattle.links.specs.Targets.{IsFirstUnknown}
+use Rattle.graph.specs.declared.fault.GraphFault.TheVariants as fault_of
+use Rattle.graph.specs.Linked.{IsFaultOf}
+use Rattle.graph.specs.Targets.{IsFirstUnknown}
 use Rattle.theory.specs.Alone.{AreLeftAlone}
 use Rattle.runner.specs.Removing.{AreRemoved}
 use Rattle.manifest.specs.Answer.{IsGraph}

@@ -8,8 +8,8 @@ use Rattle.model.specs.World.{World}
 use Rattle.model.specs.Calls.{OnlyLooks}
 use Rattle.model.specs.Phases.{Phase}
 use Rattle.paths.specs.Told.{text_at}
-use Rattle.links.specs.declared.cone.Cone.{Cone}
-use Rattle.links.specs.declared.graph.Graph.{Graph}
+use Rattle.graph.specs.declared.cone.Cone.{Cone}
+use Rattle.graph.specs.declared.graph.Graph.{Graph}
 use Rattle.judge.specs.declared.looks.Looks.{Looks}
 use Rattle.plan.specs.declared.plan.Plan.{Plan}
 use Rattle.records.specs.declared.records.Records.{Records}

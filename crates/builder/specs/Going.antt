@@ -17,10 +17,10 @@ use Rattle.model.specs.SingleBuild.{Answer, HeldAt, IsAsked, IsNamedMissing, IsS
 use Rattle.theory.specs.Run.{IsRun}
 use Rattle.theory.specs.Seen.{IsSeen, Unrefused, StartsUnrefused}
 use Rattle.paths.specs.Told.{text_at, texts_at}
-use Rattle.links.specs.declared.cone.Cone.{Cone}
-use Rattle.links.specs.declared.graph.Graph.{Graph}
-use Rattle.links.specs.Linked.{IsConeOf}
-use Rattle.links.specs.Told.{declared_by}
+use Rattle.graph.specs.declared.cone.Cone.{Cone}
+use Rattle.graph.specs.declared.graph.Graph.{Graph}
+use Rattle.graph.specs.Linked.{IsConeOf}
+use Rattle.graph.specs.Told.{declared_by}
 use Rattle.theory.specs.Ledger.{IsPhased}
 use Rattle.plan.specs.declared.plan.Plan.{Plan}
 use Rattle.plan.specs.Planned.{IsPlanned, AreTaken}

@@ -15,11 +15,11 @@ use Rattle.dyndep.specs.declared.fault.ReadError.{ReadError}
 use Rattle.dyndep.specs.declared.fault.ReadError.TheVariants as unread
 use Rattle.plan.specs.Flags.{has}
 use Rattle.paths.specs.Told.{texts_at}
-use Rattle.links.specs.declared.cone.Cone.{Cone}
-use Rattle.links.specs.declared.graph.Graph.{Graph}
-use Rattle.links.specs.Extended.{HasLoaded, IsUnfit, IsRemadeBy}
-use Rattle.links.specs.Targets.{IsConeOfNumbers}
-use Rattle.links.specs.Told.{declared_by, recorded_by, AreSameInputs}
+use Rattle.graph.specs.declared.cone.Cone.{Cone}
+use Rattle.graph.specs.declared.graph.Graph.{Graph}
+use Rattle.graph.specs.Extended.{HasLoaded, IsUnfit, IsRemadeBy}
+use Rattle.graph.specs.Targets.{IsConeOfNumbers}
+use Rattle.graph.specs.Told.{declared_by, recorded_by, AreSameInputs}
 use Rattle.judge.specs.Seen.{look_at}
 use Rattle.records.specs.declared.records.Records.{Records}
 use Rattle.records.specs.Known.{AreKnown}

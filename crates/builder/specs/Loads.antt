@@ -14,8 +14,8 @@ use Rattle.dyndep.specs.declared.addition.Addition.{Addition as Statement}
 use Rattle.dyndep.specs.declared.fault.DynFault.{DynFault}
 use Rattle.dyndep.specs.declared.fault.DynFault.TheVariants as said
 use Rattle.dyndep.specs.Dyndep.{IsRead, accepted}
-use Rattle.links.specs.Extended.{addition_of, IsUnfit}
-use Rattle.links.specs.Linked.{IsLowestOccupied}
+use Rattle.graph.specs.Extended.{addition_of, IsUnfit}
+use Rattle.graph.specs.Linked.{IsLowestOccupied}
 use Rattle.builder.specs.declared.report.Report.{Report}
 use Rattle.builder.specs.declared.report.Report.TheVariants.{Success, Failed, Refused, Fault}
 use Rattle.builder.specs.declared.report.Refusal.TheVariants.{File, MadeTwice, NoDyndepInput, Occupied, NoDyndep, BadVersion, BadStatement, Unfit, UnknownTarget, Cycle, Missing}

@@ -8,8 +8,8 @@ use Rattle.model.specs.Records.{LogFormat, OwnFiles}
 use Rattle.theory.specs.Seen.{Looked}
 use Rattle.paths.specs.declared.manifest.Manifest.{Manifest}
 use Rattle.paths.specs.Told.{graph_of}
-use Rattle.links.specs.declared.graph.Graph.{Graph}
-use Rattle.links.specs.Told.{declared_by}
+use Rattle.graph.specs.declared.graph.Graph.{Graph}
+use Rattle.graph.specs.Told.{declared_by}
 use Rattle.builder.specs.declared.asked.Asked.{Asked}
 use Rattle.builder.specs.declared.asked.Limits.{Limits}
 use Rattle.builder.specs.declared.reading.Reading.{Reading}

@@ -8,9 +8,9 @@ use Rattle.model.specs.declared.record.DepsRecord.{DepsRecord}
 use Rattle.model.specs.Graph.{has, has_number, outputs}
 use Rattle.model.specs.Records.{Store, in_force, deps_in_force, is_known, all_paths_in, recorded_inputs}
 use Rattle.paths.specs.Told.{text_at, texts_at}
-use Rattle.links.specs.declared.graph.Graph.{Graph}
-use Rattle.links.specs.Held.{list_at}
-use Rattle.links.specs.Told.{declared_by, recorded_by, AreSameInputs}
+use Rattle.graph.specs.declared.graph.Graph.{Graph}
+use Rattle.graph.specs.Held.{list_at}
+use Rattle.graph.specs.Told.{declared_by, recorded_by, AreSameInputs}
 use Rattle.log_text.specs.Kept.{joined}
 use Rattle.records.specs.declared.records.Records.{Records}
 use Rattle.records.specs.Known.{AreKnown}

@@ -7,8 +7,8 @@ use Rattle.model.specs.Phases.{Phase}
 use Rattle.model.specs.SingleBuild.{PassesNoFault}
 use Rattle.std.specs.Prelude.{Bool}
 use Rattle.theory.specs.Seen.{IsSeen}
-use Rattle.links.specs.declared.cone.Cone.{Cone}
-use Rattle.links.specs.declared.graph.Graph.{Graph}
+use Rattle.graph.specs.declared.cone.Cone.{Cone}
+use Rattle.graph.specs.declared.graph.Graph.{Graph}
 use Rattle.judge.specs.declared.looks.Look.TheVariants.{Unasked}
 use Rattle.records.specs.declared.records.Records.{Records}
 use Rattle.runner.specs.declared.state.State.{State}

@@ -15,14 +15,14 @@ use Rattle.model.specs.SingleBuild.{Asked, NamesOther, task_of}
 use Rattle.theory.specs.Seen.{Looked}
 use Rattle.paths.specs.declared.manifest.Manifest.{Manifest}
 use Rattle.paths.specs.Told.{text_at, texts_at, graph_of}
-use Rattle.links.specs.declared.cone.Cone.{Cone}
-use Rattle.links.specs.declared.cone.ConeFault.{ConeFault}
-use Rattle.links.specs.declared.cone.ConeFault.TheVariants as cone
-use Rattle.links.specs.declared.graph.Graph.{Graph}
-use Rattle.links.specs.declared.fault.GraphFault.{GraphFault}
-use Rattle.links.specs.declared.fault.GraphFault.TheVariants as graph
-use Rattle.links.specs.Targets.{IsNoCone}
-use Rattle.links.specs.Told.{declared_by, recorded_by}
+use Rattle.graph.specs.declared.cone.Cone.{Cone}
+use Rattle.graph.specs.declared.cone.ConeFault.{ConeFault}
+use Rattle.graph.specs.declared.cone.ConeFault.TheVariants as cone
+use Rattle.graph.specs.declared.graph.Graph.{Graph}
+use Rattle.graph.specs.declared.fault.GraphFault.{GraphFault}
+use Rattle.graph.specs.declared.fault.GraphFault.TheVariants as graph
+use Rattle.graph.specs.Targets.{IsNoCone}
+use Rattle.graph.specs.Told.{declared_by, recorded_by}
 use Rattle.judge.specs.Stores.{IsConeIn}
 use Rattle.records.specs.declared.records.Records.{Records}
 use Rattle.records.specs.Known.{AreKnown}

@@ -8,9 +8,9 @@ use Rattle.model.specs.Schedule.{Step}
 use Rattle.model.specs.Records.{Store}
 use Rattle.model.specs.SingleBuild.{IsNamedMissing}
 use Rattle.theory.specs.Seen.{Unrefused}
-use Rattle.links.specs.declared.cone.Cone.{Cone}
-use Rattle.links.specs.declared.graph.Graph.{Graph}
-use Rattle.links.specs.Told.{declared_by}
+use Rattle.graph.specs.declared.cone.Cone.{Cone}
+use Rattle.graph.specs.declared.graph.Graph.{Graph}
+use Rattle.graph.specs.Told.{declared_by}
 use Rattle.judge.specs.UnderWay.{IsUnderWay}
 use Rattle.judge.specs.Quiet.{IfQuiet}
 use Rattle.judge.specs.declared.looks.Looks.{Looks}

@@ -3,7 +3,7 @@
 ghost use Rattle.std.specs.Prelude.{◌≡◌, length, vec_len};
 ghost use Rattle.builder.specs.Commands.{is_unstarted, count_unstarted};
 
-use links::Graph;
+use graph::Graph;
 use plan::{Plan, Standing};
 
 /// How many of the edges that are due have a command that was not started.

@@ -1,6 +1,6 @@
 //! What a build is asked, and what it answers.
 
-use links::{GraphFault, Occupied};
+use graph::{GraphFault, Occupied};
 use manifest::{FileFault, ReadError};
 use model::SiteFault;
 use status::Pattern;

@@ -3,13 +3,13 @@
 ghost use Rattle.std.specs.Prelude.{◌≡◌, ◌⊎◌, ◌<◌, ◌++◌, suc, true, false, [], length, List, ℕ, None, IfOk, OnOk, OnErr, IsOk};
 ghost use Rattle.model.specs.Calls.{OnlyLooks, HasCause};
 ghost use Rattle.model.specs.Graph.{edge_at};
-ghost use Rattle.links.specs.Told.{declared_by};
+ghost use Rattle.graph.specs.Told.{declared_by};
 ghost use Rattle.status.specs.Screen.{held};
 ghost use Rattle.display.specs.Shown.{is_console, unstarted_after, with_one_more, AreCounts, command_line, end_text, with_unstarted, with_held, shown_now, behind, counted_off, TakesTerminal, released, Ends, ends_silently};
 
 use crate::endings::{push_end, said};
 use crate::terminal::has_terminal;
-use links::Graph;
+use graph::Graph;
 use model::{Finished, SiteFault};
 use paths::EdgeId;
 use site::Site;

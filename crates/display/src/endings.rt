@@ -2,12 +2,12 @@
 
 ghost use Rattle.std.specs.Prelude.{◌≡◌, ◌<◌, ◌++◌, suc, length, map, Some, None, IfOk, OnOk};
 ghost use Rattle.model.specs.Graph.{edge_at, outputs};
-ghost use Rattle.links.specs.Told.{declared_by};
+ghost use Rattle.graph.specs.Told.{declared_by};
 ghost use Rattle.status.specs.Line.{said_of};
 ghost use Rattle.status.specs.Ending.{ending_text};
 ghost use Rattle.display.specs.Shown.{failure_of};
 
-use links::Graph;
+use graph::Graph;
 use paths::{Action, EdgeId};
 use status::{DepfileFault, Ending, Failure, push_ending};
 use std::alloc::{AllocError, Global};

@@ -2,10 +2,10 @@
 
 ghost use Rattle.std.specs.Prelude.{◌≡◌, ◌<◌, suc, length};
 ghost use Rattle.model.specs.Graph.{edge_at};
-ghost use Rattle.links.specs.Told.{declared_by};
+ghost use Rattle.graph.specs.Told.{declared_by};
 ghost use Rattle.display.specs.Shown.{is_console};
 
-use links::Graph;
+use graph::Graph;
 use paths::{Action, EdgeId};
 
 /// The name of the pool for commands at the terminal (manual: "The `console` pool").

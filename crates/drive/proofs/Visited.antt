@@ -24,7 +24,7 @@ use Rattle.model.specs.World.{World, View, IsIdle}
 use Rattle.log_text.specs.DepsFormat.{ReadsLogs, HasFormat}
 use Rattle.depfile.specs.Depfile.{IsReading, HasReading}
 use Rattle.dyndep_law.specs.Readings.{HasReading as HasDyndeps}
-use Rattle.links.specs.Extended.{addition_of}
+use Rattle.graph.specs.Extended.{addition_of}
 use Rattle.manifest.specs.Answer.{site_part}
 use Rattle.manifest.specs.declared.fault.ReadError.{ReadError}
 use Rattle.manifest.specs.declared.fault.ReadError.TheVariants as read

@@ -14,8 +14,8 @@ use Rattle.model.specs.Schedule.{Step, out_of_date_in}
 use Rattle.theory.proofs.Lists.{has-left}
 use Rattle.theory.proofs.Orderly.{IsKept}
 use Rattle.paths.specs.Told.{text_at, texts_at}
-use Rattle.links.specs.Links.{Links}
-use Rattle.links.specs.Linked.{StandFor}
+use Rattle.graph.specs.Links.{Links}
+use Rattle.graph.specs.Linked.{StandFor}
 use Rattle.judge.specs.Dues.{AreMakersKnown, due_by, is_absent, is_due_path, is_due_alias}
 use Rattle.judge.proofs.NumbersAsTexts.{any_number, number_any, has_text, number_of}
 

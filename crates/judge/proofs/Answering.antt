@@ -22,11 +22,11 @@ use Rattle.paths.specs.declared.line.Line.{Line}
 use Rattle.paths.specs.declared.manifest.Action.TheVariants.{Command}
 use Rattle.paths.specs.declared.manifest.Command.{Command as Commanded}
 use Rattle.paths.specs.Told.{text_at, texts_at, edge_of}
-use Rattle.links.specs.declared.graph.Graph.{Graph}
-use Rattle.links.specs.Linked.{StandFor}
-use Rattle.links.specs.Links.{links_of}
-use Rattle.links.specs.Alias.{counts_if_present}
-use Rattle.links.specs.Told.{declared_by}
+use Rattle.graph.specs.declared.graph.Graph.{Graph}
+use Rattle.graph.specs.Linked.{StandFor}
+use Rattle.graph.specs.Links.{links_of}
+use Rattle.graph.specs.Alias.{counts_if_present}
+use Rattle.graph.specs.Told.{declared_by}
 use Rattle.judge.specs.declared.input_facts.Inputs.{Inputs}
 use Rattle.judge.specs.declared.output_facts.Outputs.{Outputs}
 use Rattle.judge.specs.Summaries.{AreOutputs, AreInputs}

@@ -7,10 +7,10 @@ use Rattle.model.specs.Records.{Store, recorded_inputs}
 use Rattle.model.specs.Schedule.{Task, Step}
 use Rattle.theory.specs.Order.{IsOrderly}
 use Rattle.paths.specs.Told.{texts_at}
-use Rattle.links.specs.declared.cone.Cone.{Cone}
-use Rattle.links.specs.declared.graph.Graph.{Graph}
-use Rattle.links.specs.Linked.{IsConeOf}
-use Rattle.links.specs.Told.{declared_by}
+use Rattle.graph.specs.declared.cone.Cone.{Cone}
+use Rattle.graph.specs.declared.graph.Graph.{Graph}
+use Rattle.graph.specs.Linked.{IsConeOf}
+use Rattle.graph.specs.Told.{declared_by}
 use Rattle.plan.specs.declared.plan.Plan.{Plan}
 use Rattle.plan.specs.Planned.{IsPlanned, AreTaken}
 use Rattle.records.specs.declared.records.Records.{Records}

@@ -17,10 +17,10 @@ use Rattle.model.specs.Schedule.{Step, judged_in, out_of_date_in}
 use Rattle.theory.proofs.Lists.{bytes_same, same_bytes, has-left, has-right, same_some, some_none, map_same}
 use Rattle.theory.proofs.Orderly.{IsKept}
 use Rattle.paths.specs.Told.{text_at}
-use Rattle.links.specs.declared.graph.Graph.{Graph}
-use Rattle.links.specs.Linked.{StandFor}
-use Rattle.links.specs.Links.{links_of}
-use Rattle.links.specs.Told.{declared_by}
+use Rattle.graph.specs.declared.graph.Graph.{Graph}
+use Rattle.graph.specs.Linked.{StandFor}
+use Rattle.graph.specs.Links.{links_of}
+use Rattle.graph.specs.Told.{declared_by}
 use Rattle.judge.specs.Facts.{flag_at}
 use Rattle.judge.specs.Judged.{IsReasonBy, AreRecordedOf, MayBeJudgedBy, HasPathsOf, everything}
 use Rattle.judge.specs.Quiet.{HasPathsFor, AreAlike}

@@ -11,8 +11,8 @@ use Rattle.model.specs.Graph.{edge_at}
 use Rattle.model.specs.Records.{Store}
 use Rattle.model.specs.Schedule.{Step}
 use Rattle.theory.proofs.Lists.{bytes_same}
-use Rattle.links.specs.declared.graph.Graph.{Graph}
-use Rattle.links.specs.Told.{declared_by}
+use Rattle.graph.specs.declared.graph.Graph.{Graph}
+use Rattle.graph.specs.Told.{declared_by}
 use Rattle.judge.specs.declared.looks.Looks.{Looks}
 use Rattle.judge.specs.Seen.{AreKept, IfKept, IsStampIn}
 use Rattle.judge.specs.Looking.{HasLooked, LooksFollow, FilesStay}

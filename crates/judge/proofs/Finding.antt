@@ -7,11 +7,11 @@ use Rattle.model.specs.OutOfDate.{NoneIsMissing, IsFirstMissing}
 use Rattle.model.specs.Records.{Store}
 use Rattle.model.specs.Schedule.{Step}
 use Rattle.paths.specs.Told.{text_at}
-use Rattle.links.specs.declared.cone.Cone.{Cone}
-use Rattle.links.specs.declared.graph.Graph.{Graph}
-use Rattle.links.specs.Linked.{StandFor}
-use Rattle.links.specs.Links.{links_of}
-use Rattle.links.specs.Told.{declared_by}
+use Rattle.graph.specs.declared.cone.Cone.{Cone}
+use Rattle.graph.specs.declared.graph.Graph.{Graph}
+use Rattle.graph.specs.Linked.{StandFor}
+use Rattle.graph.specs.Links.{links_of}
+use Rattle.graph.specs.Told.{declared_by}
 use Rattle.judge.specs.declared.looks.Looks.{Looks}
 use Rattle.judge.specs.Looking.{HasLooked}
 use Rattle.plan.specs.declared.plan.Plan.{Plan}

@@ -8,8 +8,8 @@ use Rattle.model.specs.Judgement.{OutputFacts}
 use Rattle.model.specs.OutOfDate.{deps_start}
 use Rattle.model.specs.Records.{Made, in_force, deps_in_force}
 use Rattle.paths.specs.Told.{text_at}
-use Rattle.links.specs.declared.graph.Graph.{Graph}
-use Rattle.links.specs.Links.{links_of}
+use Rattle.graph.specs.declared.graph.Graph.{Graph}
+use Rattle.graph.specs.Links.{links_of}
 use Rattle.records.specs.declared.records.Records.{Records}
 use Rattle.records.specs.Known.{AreKnown}
 use Rattle.judge.specs.declared.output_facts.Outputs.{Outputs}

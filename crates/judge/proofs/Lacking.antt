@@ -13,13 +13,13 @@ use Rattle.model.specs.Records.{Store, recorded_inputs}
 use Rattle.model.specs.Schedule.{Step, out_of_date_in}
 use Rattle.theory.proofs.Lists.{all_append, has-left, some_none}
 use Rattle.paths.specs.Told.{text_at, texts_at}
-use Rattle.links.specs.declared.graph.Graph.{Graph}
-use Rattle.links.specs.declared.cone.Mark.{Mark}
-use Rattle.links.specs.declared.cone.Mark.TheVariants.{Unseen}
-use Rattle.links.specs.Cone.{mark_at, is_listed}
-use Rattle.links.specs.Linked.{IsConeOf, StandFor}
-use Rattle.links.specs.Links.{links_of}
-use Rattle.links.specs.Told.{declared_by}
+use Rattle.graph.specs.declared.graph.Graph.{Graph}
+use Rattle.graph.specs.declared.cone.Mark.{Mark}
+use Rattle.graph.specs.declared.cone.Mark.TheVariants.{Unseen}
+use Rattle.graph.specs.Cone.{mark_at, is_listed}
+use Rattle.graph.specs.Linked.{IsConeOf, StandFor}
+use Rattle.graph.specs.Links.{links_of}
+use Rattle.graph.specs.Told.{declared_by}
 use Rattle.judge.specs.declared.lack.Lack.{Lack}
 use Rattle.judge.specs.declared.looks.Looks.{Looks}
 use Rattle.judge.specs.Looking.{HasLooked}

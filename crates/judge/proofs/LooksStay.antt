@@ -3,7 +3,7 @@ use Rattle.std.proofs.Common.{◌≡◌, ℕ, ◌<◌, Bool, true, List, Option,
 use Rattle.std.proofs.lemmas.List.{get_or-set_same}
 use Rattle.model.specs.World.{World}
 use Rattle.theory.proofs.SiteCalls.{looks_none, looks_then}
-use Rattle.links.specs.declared.graph.Graph.{Graph}
+use Rattle.graph.specs.declared.graph.Graph.{Graph}
 use Rattle.judge.specs.declared.looks.Looks.{Looks}
 use Rattle.judge.specs.Looking.{HasLooked}
 use Rattle.judge.specs.declared.looks.Look.{Look}

@@ -19,9 +19,9 @@ use Rattle.model.specs.OutOfDate.{deps_start, output_facts, input_facts}
 use Rattle.model.specs.Judgement.{OutputFacts, InputFacts, Facts, holds, start_of, is_empty_text, is_unset, is_same_number, reason_of, all_reasons}
 use Rattle.theory.proofs.Lists.{same_bytes, bytes_same, has_number-left, has_number-right, has_number-cases}
 use Rattle.paths.specs.Told.{text_at, texts_at}
-use Rattle.links.specs.declared.graph.Graph.{Graph}
-use Rattle.links.specs.Links.{links_of}
-use Rattle.links.specs.Alias.{counts_if_present}
+use Rattle.graph.specs.declared.graph.Graph.{Graph}
+use Rattle.graph.specs.Links.{links_of}
+use Rattle.graph.specs.Alias.{counts_if_present}
 use Rattle.judge.specs.Facts.{flag_at, output_at, stamp_at, all_inputs, AreIn}
 
 -- ---- whether the depfile is there counts where the command is to leave one

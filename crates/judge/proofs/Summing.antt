@@ -12,12 +12,12 @@ use Rattle.model.specs.Graph.{has_number}
 use Rattle.model.specs.Reading.{IsRead}
 use Rattle.model.specs.Judgement.{InputFacts}
 use Rattle.theory.proofs.Lists.{all_append, has_number-left, has_number-right, has_number-cases, has_number-is, has_number-push, has_number-push_other}
-use Rattle.links.specs.declared.graph.Graph.{Graph}
-use Rattle.links.specs.Links.{Links, links_of}
-use Rattle.links.specs.Alias.{alias_at, counts_if_present}
-use Rattle.links.specs.ReadingOf.{IsReadingOf}
-use Rattle.links.specs.Told.{declared_by}
-use Rattle.links.proofs.ReadThrough.{read_by_step, read_counted, read_through}
+use Rattle.graph.specs.declared.graph.Graph.{Graph}
+use Rattle.graph.specs.Links.{Links, links_of}
+use Rattle.graph.specs.Alias.{alias_at, counts_if_present}
+use Rattle.graph.specs.ReadingOf.{IsReadingOf}
+use Rattle.graph.specs.Told.{declared_by}
+use Rattle.graph.proofs.ReadThrough.{read_by_step, read_counted, read_through}
 use Rattle.judge.specs.declared.looks.Look.{Look}
 use Rattle.judge.specs.Seen.{look_at, look_of, is_asked, AreSeenOf}
 use Rattle.judge.specs.declared.input_facts.Inputs.{Inputs}

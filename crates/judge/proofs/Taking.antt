@@ -15,7 +15,7 @@ use Rattle.model.specs.Records.{in_force, deps_in_force}
 use Rattle.model.specs.Judgement.{OutputFacts, InputFacts}
 use Rattle.theory.proofs.Lists.{all_parts, bytes_same}
 use Rattle.paths.specs.Told.{text_at}
-use Rattle.links.specs.declared.graph.Graph.{Graph}
+use Rattle.graph.specs.declared.graph.Graph.{Graph}
 use Rattle.judge.specs.declared.looks.Looks.{Looks}
 use Rattle.judge.specs.Seen.{look_of, AreKept, AreSeenOf, IfKept, IsStampIn}
 use Rattle.judge.specs.Looking.{HasLooked, LooksFollow, FilesStay}

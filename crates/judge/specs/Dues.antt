@@ -11,9 +11,9 @@ use Rattle.model.specs.Records.{Store, recorded_inputs}
 use Rattle.model.specs.Schedule.{Step}
 use Rattle.model.specs.OutOfDate.{IsDue, ListsCounted}
 use Rattle.paths.specs.Told.{text_at}
-use Rattle.links.specs.declared.graph.Graph.{Graph}
-use Rattle.links.specs.Links.{Links, links_of}
-use Rattle.links.specs.Told.{declared_by}
+use Rattle.graph.specs.declared.graph.Graph.{Graph}
+use Rattle.graph.specs.Links.{Links, links_of}
+use Rattle.graph.specs.Told.{declared_by}
 use Rattle.judge.specs.Facts.{AreIn}
 
 -- ---- by the numbers

@@ -14,11 +14,11 @@ use Rattle.model.specs.OutOfDate.{deps_start}
 use Rattle.model.specs.Records.{in_force, deps_in_force}
 use Rattle.model.specs.Judgement.{OutputFacts, InputFacts}
 use Rattle.paths.specs.Told.{text_at}
-use Rattle.links.specs.declared.graph.Graph.{Graph}
-use Rattle.links.specs.Links.{links_of}
-use Rattle.links.specs.Alias.{counts_if_present}
-use Rattle.links.specs.ReadingOf.{IsCountedIn}
-use Rattle.links.specs.Told.{declared_by}
+use Rattle.graph.specs.declared.graph.Graph.{Graph}
+use Rattle.graph.specs.Links.{links_of}
+use Rattle.graph.specs.Alias.{counts_if_present}
+use Rattle.graph.specs.ReadingOf.{IsCountedIn}
+use Rattle.graph.specs.Told.{declared_by}
 use Rattle.judge.specs.declared.looks.Look.{Look}
 use Rattle.judge.specs.declared.looks.Look.TheVariants.{Unasked, Absent, Stamp}
 use Rattle.judge.specs.Seen.{look_at, is_asked, IfKept}

@@ -12,8 +12,8 @@ use Rattle.model.specs.Records.{Store, recorded_inputs}
 use Rattle.model.specs.OutOfDate.{Counted, ListsCounted, IsStaleByOutputs, input_facts, facts_of}
 use Rattle.model.specs.Judgement.{reason_of}
 use Rattle.paths.specs.Told.{text_at}
-use Rattle.links.specs.declared.graph.Graph.{Graph}
-use Rattle.links.specs.Told.{declared_by, recorded_by}
+use Rattle.graph.specs.declared.graph.Graph.{Graph}
+use Rattle.graph.specs.Told.{declared_by, recorded_by}
 use Rattle.judge.specs.Seen.{AreKept}
 use Rattle.judge.specs.Facts.{flag_at}
 

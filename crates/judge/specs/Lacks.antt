@@ -7,9 +7,9 @@ use Rattle.model.specs.Records.{Store}
 use Rattle.model.specs.Schedule.{Step}
 use Rattle.model.specs.OutOfDate.{IsMissing, NoneIsMissing, IsFirstMissing, NothingIsMissing, IsMissingInput}
 use Rattle.paths.specs.Told.{text_at, texts_at}
-use Rattle.links.specs.declared.graph.Graph.{Graph}
-use Rattle.links.specs.Told.{declared_by}
-use Rattle.links.specs.declared.cone.Cone.{Cone}
+use Rattle.graph.specs.declared.graph.Graph.{Graph}
+use Rattle.graph.specs.Told.{declared_by}
+use Rattle.graph.specs.declared.cone.Cone.{Cone}
 use Rattle.judge.specs.declared.looks.Looks.{Looks}
 use Rattle.records.specs.declared.records.Records.{Records}
 use Rattle.model.specs.World.{World}

@@ -2,8 +2,8 @@
 use Rattle.std.specs.Prelude.{◌≡◌, not, ℕ, Bool, true, false, ◌||◌, List, [], ◌∷◌, Option, Some, None, nat_eq}
 use Rattle.indexmap.specs.IndexMap.{get}
 use Rattle.model.specs.Graph.{has_number}
-use Rattle.links.specs.declared.graph.Graph.{Graph}
-use Rattle.links.specs.Links.{Links, links_of}
+use Rattle.graph.specs.declared.graph.Graph.{Graph}
+use Rattle.graph.specs.Links.{Links, links_of}
 use Rattle.judge.specs.declared.looks.Look.{Look}
 use Rattle.judge.specs.Seen.{look_at, is_asked}
 use Rattle.judge.specs.declared.input_facts.Inputs.{Inputs}

@@ -6,8 +6,8 @@ use Rattle.model.specs.World.{World, file_at}
 use Rattle.model.specs.Graph.{has, has_number, edge_at, maker, outputs, inputs, IsCommand}
 use Rattle.model.specs.Records.{Store, recorded_inputs}
 use Rattle.model.specs.Schedule.{Step, judged_in, out_of_date_in}
-use Rattle.links.specs.declared.graph.Graph.{Graph}
-use Rattle.links.specs.Told.{declared_by}
+use Rattle.graph.specs.declared.graph.Graph.{Graph}
+use Rattle.graph.specs.Told.{declared_by}
 use Rattle.judge.specs.declared.looks.Looks.{Looks}
 use Rattle.judge.specs.Seen.{IfKept}
 use Rattle.judge.specs.Judged.{KeepsDepfile, HasOldDepfile}

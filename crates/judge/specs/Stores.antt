@@ -1,10 +1,10 @@
 -- The records that were read, and the cone of what was asked for at the beginning.
 use Rattle.std.specs.Prelude.{ℕ, List}
 use Rattle.model.specs.Records.{Store, recorded_inputs}
-use Rattle.links.specs.declared.cone.Cone.{Cone}
-use Rattle.links.specs.declared.graph.Graph.{Graph}
-use Rattle.links.specs.Told.{declared_by}
-use Rattle.links.specs.Targets.{IsConeFor}
+use Rattle.graph.specs.declared.cone.Cone.{Cone}
+use Rattle.graph.specs.declared.graph.Graph.{Graph}
+use Rattle.graph.specs.Told.{declared_by}
+use Rattle.graph.specs.Targets.{IsConeFor}
 use Rattle.records.specs.declared.records.Records.{Records}
 use Rattle.records.specs.Known.{AreKnown}
 use Rattle.judge.specs.Judged.{AreRecordedOf}

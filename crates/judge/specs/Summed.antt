@@ -5,11 +5,11 @@ use Rattle.indexmap.specs.IndexMap.{get}
 use Rattle.model.specs.World.{View}
 use Rattle.model.specs.Graph.{has_number}
 use Rattle.model.specs.Reading.{IsRead}
-use Rattle.links.specs.declared.graph.Graph.{Graph}
-use Rattle.links.specs.Links.{links_of}
-use Rattle.links.specs.Alias.{alias_at}
-use Rattle.links.specs.ReadingOf.{IsCountedIn}
-use Rattle.links.specs.Told.{declared_by}
+use Rattle.graph.specs.declared.graph.Graph.{Graph}
+use Rattle.graph.specs.Links.{links_of}
+use Rattle.graph.specs.Alias.{alias_at}
+use Rattle.graph.specs.ReadingOf.{IsCountedIn}
+use Rattle.graph.specs.Told.{declared_by}
 use Rattle.judge.specs.declared.looks.Look.{Look}
 use Rattle.judge.specs.declared.input_facts.Inputs.{Inputs}
 use Rattle.judge.specs.Summaries.{AreInputs}

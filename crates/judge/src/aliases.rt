@@ -2,14 +2,14 @@
 
 ghost use Rattle.std.specs.Prelude.{◌≡◌, ◌<◌, All, IfOk, length, true, false};
 ghost use Rattle.model.specs.Calls.{HasCause};
-ghost use Rattle.links.specs.Links.{links_of};
+ghost use Rattle.graph.specs.Links.{links_of};
 ghost use Rattle.judge.specs.Looking.{HasLooked};
 ghost use Rattle.judge.specs.Quiet.{IfStill};
 ghost use Rattle.judge.specs.Dues.{IsAbsentAt, IsAnyAbsent, IsDuePath, IsAnyDuePath, IsDueAlias};
 
 use crate::laws::looks_follow;
 use crate::looks::Looks;
-use links::{Graph, lists_stand};
+use graph::{Graph, lists_stand};
 use model::SiteFault;
 use paths::{EdgeId, PathId};
 use site::Site;

@@ -2,10 +2,10 @@
 
 ghost use Rattle.std.specs.Prelude.{◌≡◌, ◌<◌, ℕ, true, length};
 ghost use Rattle.model.specs.Graph.{has_number};
-ghost use Rattle.links.specs.Links.{links_of};
+ghost use Rattle.graph.specs.Links.{links_of};
 ghost use Rattle.judge.specs.Lasting.{is_made, any_made, read_made};
 
-use links::Graph;
+use graph::Graph;
 use paths::{EdgeId, PathId};
 
 /// Whether a command makes one of the paths that these edges name themselves as explicit or implicit inputs. It takes time for

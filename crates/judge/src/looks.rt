@@ -9,7 +9,7 @@ ghost use Rattle.judge.specs.declared.looks.Look.TheVariants.{Unasked};
 ghost use Rattle.judge.specs.Looking.{HasLooked};
 ghost use Rattle.judge.specs.Seen.{look_at, look_of, is_asked, IfKept, AreSeenOf, IsStampIn, StaysSeen};
 
-use links::Graph;
+use graph::Graph;
 use model::SiteFault;
 use paths::PathId;
 use site::Site;

@@ -17,7 +17,7 @@ use crate::laws::looks_follow;
 use crate::looks::Looks;
 use crate::output_facts::{OutputFacts, Outputs};
 use crate::stamp::stamp_of;
-use links::Graph;
+use graph::Graph;
 use model::{Act, SiteFault};
 use paths::PathId;
 use records::Records;

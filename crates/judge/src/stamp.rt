@@ -7,7 +7,7 @@ ghost use Rattle.judge.specs.Looking.{HasLooked};
 ghost use Rattle.judge.specs.Seen.{look_at, look_of, IfKept, IsStampIn};
 
 use crate::looks::Looks;
-use links::Graph;
+use graph::Graph;
 use model::SiteFault;
 use paths::PathId;
 use site::Site;

@@ -3,7 +3,7 @@
 ghost use Rattle.std.specs.Prelude.{◌≡◌, ◌++◌, ◌&&◌, not, ℕ, List, [], ◌∷◌, Bool, true, false, if◌then◌else◌, IfSome, OnErr};
 ghost use Rattle.indexmap.specs.IndexMap.{IsEmpty, IsUnchanged};
 ghost use Rattle.model.specs.Graph.{has_number};
-ghost use Rattle.links.specs.declared.graph.Graph.{Graph};
+ghost use Rattle.graph.specs.declared.graph.Graph.{Graph};
 ghost use Rattle.judge.specs.declared.looks.Look.{Look};
 ghost use Rattle.judge.specs.Lasting.{AreMarked, LeavesLasting, StayMarkedWith};
 ghost use Rattle.judge.specs.Summed.{IsSum, AreSums};

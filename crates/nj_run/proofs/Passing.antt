@@ -18,7 +18,7 @@ use Rattle.theory.proofs.Looks.{looks_nothing, looks_then}
 use Rattle.log_text.specs.DepsFormat.{HasFormat}
 use Rattle.depfile.specs.Depfile.{HasReading}
 use Rattle.dyndep_law.specs.Readings.{HasReading as HasDyndeps}
-use Rattle.links.specs.Extended.{addition_of}
+use Rattle.graph.specs.Extended.{addition_of}
 use Rattle.paths.specs.Told.{graph_of}
 use Rattle.builder.specs.declared.asked.Limits.{Limits}
 use Rattle.builder.specs.declared.reading.Reading.{Reading}

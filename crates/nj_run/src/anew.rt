@@ -1,8 +1,8 @@
 //! What is declared and recorded, read anew once a build has ended.
 
 use auditor::{Auditor, dyndep_in, load};
+use graph::Graph;
 use host::Host;
-use links::Graph;
 use log_text::BuildLog;
 use paths::Manifest;
 use site::{Site, Texts};

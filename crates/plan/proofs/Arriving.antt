@@ -6,9 +6,9 @@ use Rattle.std.proofs.lemmas.List.Sums.{sum_by-cons}
 use Rattle.std.proofs.lemmas.Bool.{false≢true, true≢false, or_cases, eq-eqb, eqb-true, cases_Bool, cases_eq, false_from_ne_true, lt-ltb, ltb-true}
 use Rattle.model.specs.Graph.{has_number}
 use Rattle.plan.specs.Flags.{has}
-use Rattle.links.specs.Held.{times, list_at}
-use Rattle.links.specs.declared.graph.Graph.{Graph}
-use Rattle.links.specs.Links.{needs_at, links_of}
+use Rattle.graph.specs.Held.{times, list_at}
+use Rattle.graph.specs.declared.graph.Graph.{Graph}
+use Rattle.graph.specs.Links.{needs_at, links_of}
 use Rattle.paths.specs.Lists.{line_at, line_inputs, no_line}
 use Rattle.plan.specs.declared.plan.Plan.{Plan}
 use Rattle.plan.specs.Settling.{IsStill}

@@ -6,11 +6,11 @@ use Rattle.model.specs.Graph.{has_number}
 use Rattle.model.specs.Schedule.{Task}
 use Rattle.plan.specs.Flags.{has}
 use Rattle.plan.specs.Turns.{Turns}
-use Rattle.links.specs.declared.cone.Mark.{Mark}
-use Rattle.links.specs.declared.graph.Graph.{Graph}
-use Rattle.links.specs.Cone.{mark_at, is_listed}
-use Rattle.links.specs.Links.{Links, links_of}
-use Rattle.links.specs.Linked.{IsConeOf}
+use Rattle.graph.specs.declared.cone.Mark.{Mark}
+use Rattle.graph.specs.declared.graph.Graph.{Graph}
+use Rattle.graph.specs.Cone.{mark_at, is_listed}
+use Rattle.graph.specs.Links.{Links, links_of}
+use Rattle.graph.specs.Linked.{IsConeOf}
 use Rattle.plan.specs.declared.step.Standing.{Standing}
 use Rattle.plan.specs.declared.step.Standing.TheVariants.{Outside, Unjudged, Alias}
 use Rattle.plan.specs.Standing.{standing_at, is_out_of_date, is_running, is_failed, is_well, is_outside, is_phony, is_settled, maker_settled}

@@ -13,9 +13,9 @@ use Rattle.theory.proofs.Lists.{has_number-left, has_number-right, has_number-ca
 use Rattle.plan.specs.Flags.{has}
 use Rattle.paths.specs.Numbers.{HaveOnePlace}
 use Rattle.paths.specs.Told.{text_at}
-use Rattle.links.specs.declared.graph.Graph.{Graph}
-use Rattle.links.specs.Links.{links_of, needs_at}
-use Rattle.links.specs.Extended.{dyndep_at}
+use Rattle.graph.specs.declared.graph.Graph.{Graph}
+use Rattle.graph.specs.Links.{links_of, needs_at}
+use Rattle.graph.specs.Extended.{dyndep_at}
 use Rattle.plan.specs.declared.plan.Plan.{Plan}
 use Rattle.plan.specs.Standing.{maker_settled}
 use Rattle.plan.specs.Loads.{IsWanted, IsFirstToName, LoadsBefore, BySource, ByEdge, AreInOrder, NoneIsThere, IsFirstThere}

@@ -6,7 +6,7 @@ use Rattle.model.specs.Graph.{has_number}
 use Rattle.model.specs.Schedule.{Task, Step, Ended, running_in, Done}
 use Rattle.theory.proofs.Lists.{has_number-one}
 use Rattle.plan.specs.Turns.{Turns, group_at, runs_at, runs_in, set_runs, with_running}
-use Rattle.links.specs.declared.graph.Graph.{Graph}
+use Rattle.graph.specs.declared.graph.Graph.{Graph}
 use Rattle.plan.specs.declared.step.Standing.{Standing}
 use Rattle.plan.specs.declared.step.Standing.TheVariants.{Running, Well, Failed}
 use Rattle.plan.specs.Standing.{standing_at, is_running, is_failed, is_well, is_outside, is_phony}

@@ -19,14 +19,14 @@ use Rattle.paths.specs.declared.manifest.Action.TheVariants as action
 use Rattle.paths.specs.Lists.{line_at, line_outputs}
 use Rattle.paths.specs.Commands.{no_action}
 use Rattle.paths.specs.Told.{edge_of, edges_of}
-use Rattle.links.specs.declared.cone.Mark.{Mark}
-use Rattle.links.specs.declared.cone.Mark.TheVariants.{Unseen}
-use Rattle.links.specs.declared.graph.Graph.{Graph}
-use Rattle.links.specs.Cone.{mark_at, is_listed}
-use Rattle.links.specs.Links.{Links, links_of}
-use Rattle.links.specs.Linked.{IsConeOf}
-use Rattle.links.specs.Told.{declared_by}
-use Rattle.links.specs.Extended.{HasLoaded}
+use Rattle.graph.specs.declared.cone.Mark.{Mark}
+use Rattle.graph.specs.declared.cone.Mark.TheVariants.{Unseen}
+use Rattle.graph.specs.declared.graph.Graph.{Graph}
+use Rattle.graph.specs.Cone.{mark_at, is_listed}
+use Rattle.graph.specs.Links.{Links, links_of}
+use Rattle.graph.specs.Linked.{IsConeOf}
+use Rattle.graph.specs.Told.{declared_by}
+use Rattle.graph.specs.Extended.{HasLoaded}
 use Rattle.plan.specs.declared.plan.Plan.{Plan}
 use Rattle.plan.specs.declared.step.Standing.{Standing}
 use Rattle.plan.specs.declared.step.Standing.TheVariants.{Outside, Unjudged, Clean, OutOfDate, Running, Well, Failed, Alias, Known}

@@ -8,10 +8,10 @@ use Rattle.model.specs.Schedule.{Task, Step, Judged, failed_in, well_in, clean_i
 use Rattle.theory.proofs.Lists.{has-cases, has_number-append}
 use Rattle.theory.proofs.Orderly.{kept_orderly}
 use Rattle.plan.specs.Flags.{has as flagged, IsFirst, AreNone}
-use Rattle.links.specs.declared.graph.Graph.{Graph}
-use Rattle.links.specs.Links.{links_of, needs_at}
-use Rattle.links.specs.Cone.{maker_at}
-use Rattle.links.specs.Linked.{HasMaker, IsMakerFor}
+use Rattle.graph.specs.declared.graph.Graph.{Graph}
+use Rattle.graph.specs.Links.{links_of, needs_at}
+use Rattle.graph.specs.Cone.{maker_at}
+use Rattle.graph.specs.Linked.{HasMaker, IsMakerFor}
 use Rattle.plan.specs.declared.plan.Plan.{Plan}
 use Rattle.plan.specs.declared.step.Standing.{Standing}
 use Rattle.plan.specs.declared.step.Standing.TheVariants.{Outside, Unjudged, Clean, OutOfDate, Running, Well, Failed, Alias, Known}

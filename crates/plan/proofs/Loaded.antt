@@ -10,10 +10,10 @@ use Rattle.plan.specs.Flags.{has}
 use Rattle.paths.specs.declared.manifest.Action.{Action}
 use Rattle.paths.specs.declared.manifest.Action.TheVariants as action
 use Rattle.paths.specs.Commands.{no_action, stop_of, dyndep_stop}
-use Rattle.links.specs.declared.graph.Graph.{Graph}
-use Rattle.links.specs.Held.{dyndep_of}
-use Rattle.links.specs.Links.{links_of}
-use Rattle.links.specs.Extended.{dyndep_at}
+use Rattle.graph.specs.declared.graph.Graph.{Graph}
+use Rattle.graph.specs.Held.{dyndep_of}
+use Rattle.graph.specs.Links.{links_of}
+use Rattle.graph.specs.Extended.{dyndep_at}
 use Rattle.plan.specs.declared.step.Standing.{Standing}
 use Rattle.plan.specs.Standing.{standing_at, is_outside}
 use Rattle.plan.specs.Loads.{IsWanted, NoneIsWanted, AreWanted, IsTaken, NoneIsTaken, IsFirstToName, IsNamedBefore, AreNamedInOrder, HavePushed, BySource, ByEdge, AreInOrder, AreLoads}

@@ -5,7 +5,7 @@ use Rattle.std.proofs.lemmas.List.{length-set, get_or-set_same, get_or-set_other
 use Rattle.std.proofs.lemmas.Bool.{or_left, or_right, eq-eqb}
 use Rattle.model.specs.Graph.{has_number}
 use Rattle.plan.specs.Flags.{has}
-use Rattle.links.specs.Held.{times, StandOnce}
+use Rattle.graph.specs.Held.{times, StandOnce}
 use Rattle.plan.specs.Plan.{AreFlagged}
 
 -- the flags once each is noted for its path

@@ -8,7 +8,7 @@ use Rattle.model.specs.Schedule.{Task, Step, Judged, judged_in, running_in, done
 use Rattle.theory.proofs.Lists.{has_number-one}
 use Rattle.plan.specs.Flags.{has}
 use Rattle.plan.specs.Turns.{Turns, with_waiting}
-use Rattle.links.specs.declared.graph.Graph.{Graph}
+use Rattle.graph.specs.declared.graph.Graph.{Graph}
 use Rattle.plan.specs.declared.step.Standing.{Standing}
 use Rattle.plan.specs.declared.step.Standing.TheVariants.{Outside, Unjudged, Clean, OutOfDate, Running, Well, Failed, Alias, Known}
 use Rattle.plan.specs.Standing.{standing_at, is_unjudged, is_alias, is_running, is_failed, is_well, is_outside, is_phony, is_settled}

@@ -15,9 +15,9 @@ use Rattle.plan.specs.declared.plan.Plan.{Plan}
 use Rattle.model.specs.Graph.{has_number, edge_at, inputs}
 use Rattle.model.specs.Schedule.{Task, IsSettled, Alias as ByAlias}
 use Rattle.theory.proofs.Lists.{has-left}
-use Rattle.links.specs.declared.graph.Graph.{Graph}
-use Rattle.links.specs.Links.{links_of, needs_at}
-use Rattle.links.specs.Linked.{HasMaker}
+use Rattle.graph.specs.declared.graph.Graph.{Graph}
+use Rattle.graph.specs.Links.{links_of, needs_at}
+use Rattle.graph.specs.Linked.{HasMaker}
 use Rattle.plan.proofs.CountBy.{count_keeps, count_none}
 
 pub alias_is : (s : Standing) → is_alias s ≡ true → s ≡ Alias

@@ -7,7 +7,7 @@ use Rattle.model.specs.Schedule.{Task, Step, Started, running_in, failed_in, wel
 use Rattle.theory.proofs.Lists.{same_bytes, bytes_same}
 use Rattle.plan.specs.Flags.{has as flagged, AreNone}
 use Rattle.plan.specs.Turns.{group_at, room, may, IsFirstTurn, NoTurn}
-use Rattle.links.specs.declared.graph.Graph.{Graph}
+use Rattle.graph.specs.declared.graph.Graph.{Graph}
 use Rattle.plan.specs.declared.plan.Plan.{Plan}
 use Rattle.plan.specs.declared.step.Standing.{Standing}
 use Rattle.plan.specs.declared.step.Standing.TheVariants.{Outside, Unjudged, Clean, OutOfDate, Running, Well, Failed, Alias, Known}

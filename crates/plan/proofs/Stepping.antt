@@ -10,8 +10,8 @@ use Rattle.model.specs.Schedule.{Task, Step, running_in, done_in, IsSettled}
 use Rattle.theory.proofs.Settled.{settled_more}
 use Rattle.plan.specs.Flags.{has}
 use Rattle.plan.specs.Turns.{Turns}
-use Rattle.links.specs.declared.graph.Graph.{Graph}
-use Rattle.links.specs.Links.{Links}
+use Rattle.graph.specs.declared.graph.Graph.{Graph}
+use Rattle.graph.specs.Links.{Links}
 use Rattle.plan.specs.declared.plan.Plan.{Plan}
 use Rattle.plan.specs.declared.step.Standing.{Standing}
 use Rattle.plan.specs.declared.step.Standing.TheVariants.{Outside, Alias, Known}

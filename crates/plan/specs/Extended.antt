@@ -3,11 +3,11 @@ use Rattle.std.specs.Prelude.{◌≡◌, ℕ, ◌<◌, ◌≤◌, true, List, le
 use Rattle.model.specs.Graph.{has, edge_at, Addition, IsMadeOnce}
 use Rattle.model.specs.Phases.{IsGrownBy}
 use Rattle.model.specs.Schedule.{Task, Step as Done}
-use Rattle.links.specs.declared.graph.Graph.{Graph}
-use Rattle.links.specs.declared.cone.Cone.{Cone}
-use Rattle.links.specs.Linked.{IsConeOf}
-use Rattle.links.specs.Told.{declared_by}
-use Rattle.links.specs.Extended.{HasLoaded}
+use Rattle.graph.specs.declared.graph.Graph.{Graph}
+use Rattle.graph.specs.declared.cone.Cone.{Cone}
+use Rattle.graph.specs.Linked.{IsConeOf}
+use Rattle.graph.specs.Told.{declared_by}
+use Rattle.graph.specs.Extended.{HasLoaded}
 use Rattle.plan.specs.declared.plan.Plan.{Plan}
 use Rattle.plan.specs.Planned.{IsPlanOver, IsPlanned, IsTaskOf, AreTaken}
 

@@ -2,10 +2,10 @@
 use Rattle.std.specs.Prelude.{◌≡◌, ℕ, ◌<◌, Bool, true, false, if◌then◌else◌, List, replicate, length, slice_index, slice_index_or, get_or, count_by, Option, None, is_none}
 use Rattle.plan.specs.Flags.{has, AreNone}
 use Rattle.plan.specs.Turns.{Turns, AreWithin}
-use Rattle.links.specs.declared.cone.Mark.{Mark}
-use Rattle.links.specs.declared.graph.Graph.{Graph}
-use Rattle.links.specs.Cone.{mark_at, is_listed}
-use Rattle.links.specs.Links.{Links, needs_at, links_of}
+use Rattle.graph.specs.declared.cone.Mark.{Mark}
+use Rattle.graph.specs.declared.graph.Graph.{Graph}
+use Rattle.graph.specs.Cone.{mark_at, is_listed}
+use Rattle.graph.specs.Links.{Links, needs_at, links_of}
 use Rattle.paths.specs.Commands.{no_action}
 use Rattle.plan.specs.declared.plan.Plan.{Plan}
 use Rattle.plan.specs.declared.step.Standing.{Standing}

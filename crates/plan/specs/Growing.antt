@@ -1,9 +1,9 @@
 -- How standings, and what is there, go over to a graph that has grown.
 use Rattle.std.specs.Prelude.{◌≡◌, ℕ, ◌<◌, Bool, List, length}
 use Rattle.plan.specs.Flags.{has}
-use Rattle.links.specs.declared.cone.Mark.{Mark}
-use Rattle.links.specs.declared.graph.Graph.{Graph}
-use Rattle.links.specs.Links.{Links, links_of}
+use Rattle.graph.specs.declared.cone.Mark.{Mark}
+use Rattle.graph.specs.declared.graph.Graph.{Graph}
+use Rattle.graph.specs.Links.{Links, links_of}
 use Rattle.plan.specs.declared.step.Standing.{Standing}
 use Rattle.plan.specs.declared.step.Standing.TheVariants.{Outside, Alias, Known}
 use Rattle.plan.specs.Standing.{standing_at, maker_settled}

@@ -2,8 +2,8 @@
 use Rattle.std.specs.Prelude.{◌≡◌, ◌≢◌, ℕ, ◌==◌, ◌<◌, ◌&&◌, ◌||◌, nat_lt, not, Bool, true, false, List, length, slice_index, count_by, get_or}
 use Rattle.plan.specs.Flags.{has}
 use Rattle.plan.specs.Turns.{Turns, group_at}
-use Rattle.links.specs.Links.{Links, needs_at}
-use Rattle.links.specs.declared.graph.Graph.{Graph}
+use Rattle.graph.specs.Links.{Links, needs_at}
+use Rattle.graph.specs.declared.graph.Graph.{Graph}
 use Rattle.paths.specs.Commands.{no_action}
 use Rattle.plan.specs.declared.step.Standing.{Standing}
 use Rattle.plan.specs.declared.step.Standing.TheVariants.{Clean, OutOfDate, Well, Failed}

@@ -8,12 +8,12 @@ use Rattle.theory.specs.Order.{IsOrderly}
 use Rattle.model.specs.Schedule.{Task, Step as Done, Judged, Started, Ended, IsLawfulStep, NoneMayBeJudged, NoneMayStart, IsSettled, judged_in, clean_in, out_of_date_in, started_in, well_in, failed_in, running_in, done_in}
 use Rattle.plan.specs.Flags.{has, AreNone}
 use Rattle.plan.specs.Turns.{Turns, group_at, may}
-use Rattle.links.specs.declared.graph.Graph.{Graph}
-use Rattle.links.specs.Links.{links_of, needs_at}
-use Rattle.links.specs.declared.cone.Cone.{Cone}
-use Rattle.links.specs.Linked.{IsLinksOf, IsConeOf}
-use Rattle.links.specs.Told.{declared_by, recorded_by, AreSameInputs}
-use Rattle.links.specs.Extended.{dyndep_at}
+use Rattle.graph.specs.declared.graph.Graph.{Graph}
+use Rattle.graph.specs.Links.{links_of, needs_at}
+use Rattle.graph.specs.declared.cone.Cone.{Cone}
+use Rattle.graph.specs.Linked.{IsLinksOf, IsConeOf}
+use Rattle.graph.specs.Told.{declared_by, recorded_by, AreSameInputs}
+use Rattle.graph.specs.Extended.{dyndep_at}
 use Rattle.paths.specs.Numbers.{HaveOnePlace}
 use Rattle.paths.specs.Commands.{no_action}
 use Rattle.paths.specs.Told.{text_at}

@@ -4,8 +4,8 @@ use Rattle.model.specs.declared.graph.Edge.{Edge}
 use Rattle.model.specs.Graph.{edge_at, has_number}
 use Rattle.model.specs.Schedule.{Task, IsSettled}
 use Rattle.plan.specs.Flags.{has}
-use Rattle.links.specs.declared.graph.Graph.{Graph}
-use Rattle.links.specs.Links.{Links, needs_at, links_of}
+use Rattle.graph.specs.declared.graph.Graph.{Graph}
+use Rattle.graph.specs.Links.{Links, needs_at, links_of}
 use Rattle.plan.specs.declared.plan.Plan.{Plan}
 use Rattle.plan.specs.declared.step.Standing.{Standing}
 use Rattle.plan.specs.declared.step.Standing.TheVariants.{Alias}

@@ -2,7 +2,7 @@
 
 ghost use Rattle.std.specs.Prelude.{◌≡◌, ◌<◌, ◌≤◌, ℕ, length, vec_len, IfOk};
 ghost use Rattle.plan.specs.Flags.{has};
-ghost use Rattle.links.specs.Links.{links_of};
+ghost use Rattle.graph.specs.Links.{links_of};
 ghost use Rattle.plan.specs.Standing.{is_settled, maker_settled};
 ghost use Rattle.plan.specs.First.{first_at};
 ghost use Rattle.plan.specs.Growing.{grown_of, AreGrown, AreThereIn};
@@ -12,7 +12,7 @@ use crate::loads::loads_of;
 use crate::lowest::Lowest;
 use crate::plan::Plan;
 use crate::step::Standing;
-use links::{Cone, Graph};
+use graph::{Cone, Graph};
 use paths::{EdgeId, PathId};
 use std::alloc::{AllocError, Global};
 

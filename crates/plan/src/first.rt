@@ -2,14 +2,14 @@
 
 ghost use Rattle.std.specs.Prelude.{◌≡◌, ◌<◌, ◌≤◌, IfOk, length, vec_len, is_none, count_by, true, slice_set, if◌then◌else◌};
 ghost use Rattle.plan.specs.Flags.{has, AreNone};
-ghost use Rattle.links.specs.Links.{links_of, needs_at};
+ghost use Rattle.graph.specs.Links.{links_of, needs_at};
 ghost use Rattle.plan.specs.Standing.{is_unjudged, is_alias};
 ghost use Rattle.plan.specs.Plan.{is_missing, IsReady};
 ghost use Rattle.plan.specs.First.{first_at, AreFirst, AreSources, AreCounts};
 
 use crate::lowest::Lowest;
 use crate::step::Standing;
-use links::{Cone, Graph};
+use graph::{Cone, Graph};
 use paths::{EdgeId, PathId};
 use std::alloc::{AllocError, Global};
 

@@ -6,7 +6,7 @@ ghost use Rattle.plan.specs.Planned.{IsDeclaredTask, IsTaskOf};
 ghost use Rattle.plan.specs.Extended.{LoadsGoOn};
 ghost use Rattle.plan.specs.Steps.{StepsMove, StandingsTell, StepsName, ListsCount};
 
-use links::{Graph, lists_stand, numbers_stand};
+use graph::{Graph, lists_stand, numbers_stand};
 
 /// To build what a graph declares is a task of that graph.
 pub fn task_of(graph: &Graph)

@@ -2,12 +2,12 @@
 
 ghost use Rattle.std.specs.Prelude.{◌≡◌, ◌<◌, ℕ, true, false, is_some, length, IfOk, OnOk, IfSome, MatchOption};
 ghost use Rattle.plan.specs.Flags.{has};
-ghost use Rattle.links.specs.Links.{links_of};
+ghost use Rattle.graph.specs.Links.{links_of};
 ghost use Rattle.plan.specs.Loads.{named_by, AreLoads, NoneIsWanted, AreWanted, IsTaken, NoneIsTaken, HavePushed};
 
 use crate::first::is_there;
 use crate::step::Standing;
-use links::Graph;
+use graph::Graph;
 use paths::{EdgeId, PathId};
 use std::alloc::{AllocError, Global};
 

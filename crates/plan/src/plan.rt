@@ -2,7 +2,7 @@
 
 ghost use Rattle.std.specs.Prelude.{◌≡◌, ◌<◌, ◌≤◌, ◌^◌, ℕ, true, length, vec_len};
 ghost use Rattle.model.specs.Graph.{has_number};
-ghost use Rattle.links.specs.Held.{StandOnce};
+ghost use Rattle.graph.specs.Held.{StandOnce};
 ghost use Rattle.plan.specs.Plan.{IsReady, IsWaiting, IsTallied, AreFlagged};
 
 use crate::first::{first_counts, first_ready, first_standings, is_there, sources};
@@ -11,7 +11,7 @@ use crate::lowest::Lowest;
 use crate::pools::queue_of;
 use crate::queue::Queue;
 use crate::step::{End, Standing, Step, Verdict};
-use links::{Cone, Graph};
+use graph::{Cone, Graph};
 use paths::{EdgeId, PathId};
 use std::alloc::{AllocError, Global};
 
@@ -56,8 +56,8 @@ impl Plan {
     ghost use Rattle.model.specs.Schedule.{Judged, Started, Ended as Finished, well_in, running_in, failed_in};
     ghost use Rattle.plan.specs.Flags.{has};
     ghost use Rattle.plan.specs.Turns.{may};
-    ghost use Rattle.links.specs.declared.graph.Graph.{Graph};
-    ghost use Rattle.links.specs.Links.{links_of};
+    ghost use Rattle.graph.specs.declared.graph.Graph.{Graph};
+    ghost use Rattle.graph.specs.Links.{links_of};
     ghost use Rattle.plan.specs.Standing.{standing_at};
     ghost use Rattle.plan.specs.Plan.{standing_by, standing_after, has_limits, IsSettling, AreFlagged};
     ghost use Rattle.plan.specs.First.{IsBegun};

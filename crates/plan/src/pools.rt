@@ -10,7 +10,7 @@ ghost use Rattle.plan.specs.First.{AreGroups, AreAllGroups, IsIdle};
 use crate::by_name::Places;
 use crate::queue::Queue;
 use crate::step::Standing;
-use links::Graph;
+use graph::Graph;
 use model::Pool;
 use paths::{Action, EdgeId};
 use std::alloc::{AllocError, Global};

@@ -6,14 +6,14 @@ ghost use Rattle.plan.specs.Settling.{lowered, raised};
 use crate::lowest::Lowest;
 use crate::plan::Plan;
 use crate::step::Standing;
-use links::Graph;
+use graph::Graph;
 use paths::{EdgeId, PathId};
 
 impl Plan {
     ghost use Rattle.std.specs.Prelude.{◌≡◌, ◌<◌, ℕ, true, false, if◌then◌else◌, length, vec_len, slice_index, slice_set};
     ghost use Rattle.model.specs.Graph.{has_number};
     ghost use Rattle.plan.specs.Flags.{has, AreNone};
-    ghost use Rattle.links.specs.Links.{links_of};
+    ghost use Rattle.graph.specs.Links.{links_of};
     ghost use Rattle.plan.specs.Standing.{standing_at, awaits, is_settled};
     ghost use Rattle.plan.specs.Planned.{IsOverIn};
     ghost use Rattle.plan.specs.Settling.{IsCountedIn, outputs_in, AreAllThere, OthersAreAsBefore, lowered_for, IsStill, SettlesAliases, KeepsSound, IsAhead};

@@ -2,7 +2,7 @@
 
 ghost use Rattle.std.specs.Prelude.{◌≡◌, ◌<◌, All, IfOk, length, vec_len};
 
-use links::{Cone, ConeFault, Graph, GraphFault};
+use graph::{Cone, ConeFault, Graph, GraphFault};
 use manifest::read;
 use site::{SiteFault, Texts};
 use std::alloc::Global;

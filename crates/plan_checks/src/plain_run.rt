@@ -3,7 +3,7 @@
 ghost use Rattle.plan_plain.specs.Planned.{IsPlanOver};
 
 use crate::run::{Chance, flags_of, take_out};
-use links::{Cone, Graph};
+use graph::{Cone, Graph};
 use paths::EdgeId;
 use plan::{Standing, Step};
 use plan_plain::{Plan, names_none};

@@ -4,7 +4,7 @@ ghost use Rattle.std.specs.Prelude.{◌≡◌, ◌<◌, IfOk, IsTrue, vec_len};
 ghost use Rattle.plan.specs.Standing.{standing_at};
 
 use crate::made_up::Random;
-use links::{Cone, Graph};
+use graph::{Cone, Graph};
 use paths::EdgeId;
 use plan::{Plan, Standing, Step, Verdict};
 use std::alloc::{AllocError, Global};

@@ -4,7 +4,7 @@ use crate::graphs::{cone_of, graph_of};
 use crate::made_up::{Random, build_file};
 use crate::plain_run::PlainRun;
 use crate::run::{Chance, Run};
-use links::{Cone, Graph};
+use graph::{Cone, Graph};
 use paths::PathId;
 use plan::{End, Step};
 use std::alloc::{AllocError, Global};

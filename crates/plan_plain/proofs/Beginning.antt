@@ -6,11 +6,11 @@ use Rattle.std.proofs.lemmas.Bool.{false≢true, true≢false, eq-eqb, eqb-true,
 use Rattle.model.specs.Graph.{has_number}
 use Rattle.model.specs.Reading.{IsInCone}
 use Rattle.model.specs.Schedule.{Task}
-use Rattle.links.specs.declared.graph.Graph.{Graph}
-use Rattle.links.specs.declared.cone.Mark.{Mark}
-use Rattle.links.specs.Links.{links_of}
-use Rattle.links.specs.Cone.{is_listed, mark_at}
-use Rattle.links.specs.Linked.{IsConeOf}
+use Rattle.graph.specs.declared.graph.Graph.{Graph}
+use Rattle.graph.specs.declared.cone.Mark.{Mark}
+use Rattle.graph.specs.Links.{links_of}
+use Rattle.graph.specs.Cone.{is_listed, mark_at}
+use Rattle.graph.specs.Linked.{IsConeOf}
 use Rattle.plan.specs.declared.step.Standing.{Standing}
 use Rattle.plan.specs.declared.step.Standing.TheVariants.{Outside, Unjudged}
 use Rattle.plan.specs.Standing.{standing_at, is_outside, is_phony, is_settled}

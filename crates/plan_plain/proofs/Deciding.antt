@@ -7,10 +7,10 @@ use Rattle.model.specs.Schedule.{Task, Step, Judged, Started, running_in, failed
 use Rattle.theory.proofs.Lists.{has-cases, has_number-filter}
 use Rattle.theory.proofs.Makers.{command_within}
 use Rattle.theory.proofs.Orderly.{kept_orderly}
-use Rattle.links.specs.declared.graph.Graph.{Graph}
-use Rattle.links.specs.Links.{links_of, needs_at}
-use Rattle.links.specs.Cone.{maker_at}
-use Rattle.links.specs.Linked.{IsMakerFor}
+use Rattle.graph.specs.declared.graph.Graph.{Graph}
+use Rattle.graph.specs.Links.{links_of, needs_at}
+use Rattle.graph.specs.Cone.{maker_at}
+use Rattle.graph.specs.Linked.{IsMakerFor}
 use Rattle.plan.specs.declared.step.Standing.{Standing}
 use Rattle.plan.specs.declared.step.Standing.TheVariants.{Outside, Unjudged, Clean, OutOfDate, Running, Well, Failed, Alias, Known}
 use Rattle.plan.specs.Standing.{standing_at, is_unjudged, is_out_of_date, is_running, is_failed, is_alias, is_outside, is_phony, is_settled}

@@ -11,7 +11,7 @@ use Rattle.theory.proofs.Settled.{settled_more}
 use Rattle.theory.proofs.Steps.{in_push, clean-append, well-append}
 use Rattle.plan.specs.declared.step.Standing.{Standing}
 use Rattle.plan.specs.declared.step.Standing.TheVariants.{Outside, Alias, Known}
-use Rattle.links.specs.Links.{Links}
+use Rattle.graph.specs.Links.{Links}
 use Rattle.plan.specs.Standing.{standing_at, is_alias, is_outside, is_phony, is_settled}
 use Rattle.plan.specs.Planned.{standing_in}
 use Rattle.plan.specs.Steps.{edge_of, StepsMove}

@@ -7,7 +7,7 @@ use Rattle.model.specs.Schedule.{Task, Step, Judged, Started, Ended, running_in,
 use Rattle.theory.proofs.Lists.{has_number-one}
 use Rattle.theory.proofs.Orderly.{kept_orderly}
 use Rattle.theory.proofs.Steps.{running_parts}
-use Rattle.links.specs.declared.graph.Graph.{Graph}
+use Rattle.graph.specs.declared.graph.Graph.{Graph}
 use Rattle.plan.specs.declared.step.Standing.{Standing}
 use Rattle.plan.specs.declared.step.Standing.TheVariants.{Unjudged, Clean, OutOfDate, Running, Well, Failed}
 use Rattle.plan.specs.declared.step.Verdict.{Verdict}

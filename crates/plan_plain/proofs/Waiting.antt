@@ -9,10 +9,10 @@ use Rattle.model.specs.Reading.{needs}
 use Rattle.model.specs.Schedule.{Task, IsSettled, Alias as ByAlias}
 use Rattle.theory.proofs.Lists.{has-left}
 use Rattle.paths.specs.Told.{text_at}
-use Rattle.links.specs.declared.graph.Graph.{Graph}
-use Rattle.links.specs.Links.{Links, links_of, needs_at}
-use Rattle.links.specs.Cone.{maker_at}
-use Rattle.links.specs.Linked.{HasMaker}
+use Rattle.graph.specs.declared.graph.Graph.{Graph}
+use Rattle.graph.specs.Links.{Links, links_of, needs_at}
+use Rattle.graph.specs.Cone.{maker_at}
+use Rattle.graph.specs.Linked.{HasMaker}
 use Rattle.plan.specs.declared.step.Standing.{Standing}
 use Rattle.plan.specs.Standing.{standing_at, is_settled, maker_settled}
 use Rattle.plan.specs.Planned.{IsTaskOf}

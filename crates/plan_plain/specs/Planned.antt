@@ -4,11 +4,11 @@ use Rattle.model.specs.declared.graph.Edge.{Edge}
 use Rattle.model.specs.Graph.{edge_at, IsCommand}
 use Rattle.model.specs.Reading.{IsInCone}
 use Rattle.model.specs.Schedule.{Task, Step as Done, IsSettled, done_in}
-use Rattle.links.specs.declared.graph.Graph.{Graph}
-use Rattle.links.specs.declared.cone.Mark.{Mark}
-use Rattle.links.specs.Links.{Links, links_of}
-use Rattle.links.specs.Cone.{is_listed, mark_at}
-use Rattle.links.specs.Extended.{dyndep_at}
+use Rattle.graph.specs.declared.graph.Graph.{Graph}
+use Rattle.graph.specs.declared.cone.Mark.{Mark}
+use Rattle.graph.specs.Links.{Links, links_of}
+use Rattle.graph.specs.Cone.{is_listed, mark_at}
+use Rattle.graph.specs.Extended.{dyndep_at}
 use Rattle.plan.specs.declared.step.Standing.{Standing}
 use Rattle.plan.specs.declared.step.Standing.TheVariants.{Outside, Unjudged, OutOfDate, Alias, Known}
 use Rattle.plan.specs.declared.step.Step.{Step}

@@ -3,8 +3,8 @@ use Rattle.std.specs.Prelude.{◌≡◌, ℕ, zero, suc, ◌<◌, ◌==◌, ◌&
 use Rattle.std.specs.List.{list_all}
 use Rattle.model.specs.Graph.{depth_of}
 use Rattle.model.specs.Schedule.{is_in_pool}
-use Rattle.links.specs.declared.graph.Graph.{Graph}
-use Rattle.links.specs.Links.{Links, needs_at}
+use Rattle.graph.specs.declared.graph.Graph.{Graph}
+use Rattle.graph.specs.Links.{Links, needs_at}
 use Rattle.paths.specs.Commands.{no_action}
 use Rattle.plan.specs.declared.step.Standing.{Standing}
 use Rattle.plan.specs.Standing.{standing_at, is_unjudged, is_out_of_date, is_running, is_alias, maker_settled}

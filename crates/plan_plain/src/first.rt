@@ -1,11 +1,11 @@
 //! How a plan begins.
 
 ghost use Rattle.std.specs.Prelude.{◌≡◌, ◌<◌, length, vec_len, IfOk};
-ghost use Rattle.links.specs.Links.{links_of};
-ghost use Rattle.links.specs.Cone.{is_listed, mark_at};
+ghost use Rattle.graph.specs.Links.{links_of};
+ghost use Rattle.graph.specs.Cone.{is_listed, mark_at};
 ghost use Rattle.plan_plain.specs.Planned.{first_standing, AreFirst};
 
-use links::{Cone, Graph};
+use graph::{Cone, Graph};
 use paths::EdgeId;
 use plan::Standing;
 use std::alloc::{AllocError, Global};

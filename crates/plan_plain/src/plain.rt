@@ -5,7 +5,7 @@ ghost use Rattle.plan.specs.Plan.{standing_by, standing_after};
 ghost use Rattle.plan_plain.specs.Planned.{NamesNone};
 
 use crate::first::first_standings;
-use links::{Cone, Graph};
+use graph::{Cone, Graph};
 use paths::{EdgeId, PathId};
 use plan::{
     End, Standing, Step, Verdict, lists_count, note_changes, standings_tell, steps_move, steps_name,
@@ -28,9 +28,9 @@ pub struct Plan {
 impl Plan {
     ghost use Rattle.std.specs.Prelude.{◌≡◌, ◌<◌, ◌++◌, ◌∷◌, ℕ, suc, true, false, List, [], length, vec_len, slice_set, slice_index_or, IfOk};
     ghost use Rattle.model.specs.Schedule.{Task, Step as Done, Judged, Started, Ended as Finished, IsLawfulStep};
-    ghost use Rattle.links.specs.declared.graph.Graph.{Graph};
-    ghost use Rattle.links.specs.Links.{links_of};
-    ghost use Rattle.links.specs.Linked.{IsConeOf};
+    ghost use Rattle.graph.specs.declared.graph.Graph.{Graph};
+    ghost use Rattle.graph.specs.Links.{links_of};
+    ghost use Rattle.graph.specs.Linked.{IsConeOf};
     ghost use Rattle.plan.specs.Standing.{standing_at};
     ghost use Rattle.plan.specs.Plan.{standing_by, standing_after, IsSettling, AreFlagged};
     ghost use Rattle.plan.specs.Planned.{IsTaskOf, IsNextOf, IsDueOf, AreTaken, is_stale};

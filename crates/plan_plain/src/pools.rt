@@ -7,7 +7,7 @@ ghost use Rattle.plan_plain.specs.Scan.{pool_at};
 
 use crate::plain::Plan;
 use crate::scan::is_running;
-use links::Graph;
+use graph::Graph;
 use model::Pool;
 use paths::{Action, EdgeId};
 use plan::Standing;

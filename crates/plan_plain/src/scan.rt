@@ -4,14 +4,14 @@ ghost use Rattle.std.specs.Prelude.{◌≡◌};
 ghost use Rattle.plan.specs.Standing.{is_settled, is_running, is_failed};
 
 use crate::plain::Plan;
-use links::Graph;
+use graph::Graph;
 use paths::{EdgeId, PathId};
 use plan::Standing;
 
 impl Plan {
     ghost use Rattle.std.specs.Prelude.{◌≡◌, ◌<◌, length, vec_len, count_by, MatchOption};
     ghost use Rattle.std.specs.List.{list_all};
-    ghost use Rattle.links.specs.Links.{links_of};
+    ghost use Rattle.graph.specs.Links.{links_of};
     ghost use Rattle.plan.specs.Standing.{standing_at, is_running, is_failed};
     ghost use Rattle.plan.specs.Plan.{has_limits};
     ghost use Rattle.plan_plain.specs.Scan.{is_there, waits_for_nothing, may_judge, may_settle, IsFirst, NonePasses};

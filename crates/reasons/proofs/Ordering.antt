@@ -5,10 +5,10 @@ use Rattle.model.specs.declared.graph.Edge.{Edge}
 use Rattle.model.specs.Graph.{has_number}
 use Rattle.model.specs.Reading.{IsInCone, Needed, Validating}
 use Rattle.theory.proofs.Lists.{has_number-left, has_number-right, has_number-cases}
-use Rattle.links.specs.declared.cone.Mark.{Mark}
-use Rattle.links.specs.Cone.{IsCone, IsNeeded, Asked, Above, Beside, is_listed, mark_at}
-use Rattle.links.specs.Linked.{IsConeOf, IsLinksOf}
-use Rattle.links.specs.Links.{Links}
+use Rattle.graph.specs.declared.cone.Mark.{Mark}
+use Rattle.graph.specs.Cone.{IsCone, IsNeeded, Asked, Above, Beside, is_listed, mark_at}
+use Rattle.graph.specs.Linked.{IsConeOf, IsLinksOf}
+use Rattle.graph.specs.Links.{Links}
 use Rattle.reasons.specs.Order.{listed_below}
 
 -- ---- lists of numbers

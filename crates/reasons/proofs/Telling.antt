@@ -13,8 +13,8 @@ use Rattle.model.specs.declared.reason.Reason.{Reason}
 use Rattle.model.specs.World.{World}
 use Rattle.model.specs.Graph.{has_number}
 use Rattle.theory.proofs.Lists.{all_append, has_number-cases}
-use Rattle.links.specs.declared.graph.Graph.{Graph}
-use Rattle.links.specs.Links.{links_of}
+use Rattle.graph.specs.declared.graph.Graph.{Graph}
+use Rattle.graph.specs.Links.{links_of}
 use Rattle.judge.specs.declared.looks.Look.{Look}
 use Rattle.judge.specs.declared.looks.Looks.{Looks}
 use Rattle.judge.specs.Looking.{HasLooked, LooksFollow}

@@ -2,12 +2,12 @@
 use Rattle.std.specs.Prelude.{◌≡◌, ℕ, zero, suc, List, [], ◌∷◌, ◌++◌, if◌then◌else◌}
 use Rattle.model.specs.declared.graph.Edge.{Edge}
 use Rattle.model.specs.Graph.{has_number}
-use Rattle.links.specs.declared.cone.Cone.{Cone}
-use Rattle.links.specs.declared.cone.Mark.{Mark}
-use Rattle.links.specs.declared.graph.Graph.{Graph}
-use Rattle.links.specs.Cone.{is_listed, mark_at}
-use Rattle.links.specs.Linked.{IsConeOf, IsLinksOf}
-use Rattle.links.specs.Links.{links_of}
+use Rattle.graph.specs.declared.cone.Cone.{Cone}
+use Rattle.graph.specs.declared.cone.Mark.{Mark}
+use Rattle.graph.specs.declared.graph.Graph.{Graph}
+use Rattle.graph.specs.Cone.{is_listed, mark_at}
+use Rattle.graph.specs.Linked.{IsConeOf, IsLinksOf}
+use Rattle.graph.specs.Links.{links_of}
 
 -- the edges below this number that are listed by these marks, by number
 abbrev pub listed_below : List Mark → ℕ → List ℕ

@@ -13,13 +13,13 @@ use Rattle.model.specs.Judgement.{OutputFacts, has_other_act, is_later, is_same_
 use Rattle.model.specs.OutOfDate.{deps_start}
 use Rattle.model.specs.Records.{in_force, deps_in_force}
 use Rattle.paths.specs.Told.{text_at}
-use Rattle.links.specs.declared.cone.Cone.{Cone}
-use Rattle.links.specs.declared.graph.Graph.{Graph}
-use Rattle.links.specs.Cone.{IsOrder}
-use Rattle.links.specs.Links.{Links, links_of}
-use Rattle.links.specs.Alias.{counts_if_present}
-use Rattle.links.specs.ReadingOf.{IsReadingOf}
-use Rattle.links.specs.Told.{declared_by}
+use Rattle.graph.specs.declared.cone.Cone.{Cone}
+use Rattle.graph.specs.declared.graph.Graph.{Graph}
+use Rattle.graph.specs.Cone.{IsOrder}
+use Rattle.graph.specs.Links.{Links, links_of}
+use Rattle.graph.specs.Alias.{counts_if_present}
+use Rattle.graph.specs.ReadingOf.{IsReadingOf}
+use Rattle.graph.specs.Told.{declared_by}
 use Rattle.judge.specs.declared.looks.Look.{Look}
 use Rattle.judge.specs.declared.looks.Looks.{Looks}
 use Rattle.judge.specs.Looking.{HasLooked}

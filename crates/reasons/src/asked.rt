@@ -4,12 +4,12 @@ ghost use Rattle.std.specs.Prelude.{◌≡◌, ◌<◌, ℕ, OnOk, true, false, 
 ghost use Rattle.std.specs.List.{flat_map};
 ghost use Rattle.model.specs.Calls.{HasCause};
 ghost use Rattle.model.specs.Graph.{has_number};
-ghost use Rattle.links.specs.Links.{links_of};
+ghost use Rattle.graph.specs.Links.{links_of};
 ghost use Rattle.judge.specs.Looking.{HasLooked};
 ghost use Rattle.reasons.specs.Why.{HaveAsked};
 
+use graph::{Graph, lists_stand};
 use judge::{Looks, looks_follow};
-use links::{Graph, lists_stand};
 use model::SiteFault;
 use paths::EdgeId;
 use site::Site;

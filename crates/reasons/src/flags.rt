@@ -1,11 +1,11 @@
 //! Which edges that are due have commands.
 
 ghost use Rattle.std.specs.Prelude.{◌≡◌, ◌<◌, ◌&&◌, not, IfOk, length};
-ghost use Rattle.links.specs.Links.{links_of};
+ghost use Rattle.graph.specs.Links.{links_of};
 ghost use Rattle.judge.specs.Dues.{due_at};
 ghost use Rattle.reasons.specs.Why.{AreCommands};
 
-use links::Graph;
+use graph::Graph;
 use paths::EdgeId;
 use std::alloc::{AllocError, Global};
 

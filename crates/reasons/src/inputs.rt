@@ -4,13 +4,13 @@ ghost use Rattle.std.specs.Prelude.{◌≡◌, ◌<◌, ℕ, true, false, length
 ghost use Rattle.std.specs.List.{flat_map};
 ghost use Rattle.model.specs.Graph.{has_number};
 ghost use Rattle.model.specs.Judgement.{is_later};
-ghost use Rattle.links.specs.Links.{links_of};
+ghost use Rattle.graph.specs.Links.{links_of};
 ghost use Rattle.judge.specs.Dues.{is_made_due};
 ghost use Rattle.reasons.specs.Why.{counts, input_tells, is_sought, first_of, first_input};
 
 use crate::outputs::seen_stamp;
+use graph::Graph;
 use judge::{Looks, Outputs, Reason};
-use links::Graph;
 use paths::{EdgeId, PathId};
 
 /// The first path of which the reason holds, of the regular inputs of these edges that count, then of the recorded inputs of the edge:

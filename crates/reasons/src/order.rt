@@ -1,11 +1,11 @@
 //! The edges of a cone, makers first and else by number.
 
 ghost use Rattle.std.specs.Prelude.{◌≡◌, ◌++◌, ◌∷◌, [], if◌then◌else◌, IfOk, OnOk, length};
-ghost use Rattle.links.specs.Cone.{is_listed, mark_at, IsOrder};
-ghost use Rattle.links.specs.Links.{links_of, AllEdges};
+ghost use Rattle.graph.specs.Cone.{is_listed, mark_at, IsOrder};
+ghost use Rattle.graph.specs.Links.{links_of, AllEdges};
 ghost use Rattle.reasons.specs.Order.{IsSameCone, listed_below};
 
-use links::{Cone, Graph, Mark};
+use graph::{Cone, Graph, Mark};
 use paths::EdgeId;
 use std::alloc::{AllocError, Global};
 

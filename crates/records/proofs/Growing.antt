@@ -5,8 +5,8 @@ use Rattle.model.specs.declared.record.Record.{Record}
 use Rattle.model.specs.declared.record.DepsRecord.{DepsRecord}
 use Rattle.model.specs.Graph.{has_number}
 use Rattle.model.specs.Records.{in_force, deps_in_force}
-use Rattle.links.specs.declared.graph.Graph.{Graph}
-use Rattle.links.proofs.Makes.{output_below}
+use Rattle.graph.specs.declared.graph.Graph.{Graph}
+use Rattle.graph.proofs.Makes.{output_below}
 use Rattle.log_text.specs.BuildLog.{Keeps, makings}
 use Rattle.log_text.specs.DepsLog.{Keeps as KeepsDeps, tolds}
 use Rattle.records.specs.Held.{ArePlaces}

@@ -6,8 +6,8 @@ use Rattle.model.specs.declared.record.Record.{Record}
 use Rattle.model.specs.declared.record.Record.TheVariants.{Begun, Done}
 use Rattle.model.specs.declared.record.DepsRecord.{DepsRecord}
 use Rattle.model.specs.Graph.{edge_at, outputs}
-use Rattle.links.specs.declared.graph.Graph.{Graph}
-use Rattle.links.specs.Told.{declared_by}
+use Rattle.graph.specs.declared.graph.Graph.{Graph}
+use Rattle.graph.specs.Told.{declared_by}
 use Rattle.log_text.specs.DepsRecordLine.{reported}
 use Rattle.records.specs.Held.{Paths}
 

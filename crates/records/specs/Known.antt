@@ -5,8 +5,8 @@ use Rattle.model.specs.declared.record.Record.{Record}
 use Rattle.model.specs.declared.record.DepsRecord.{DepsRecord}
 use Rattle.model.specs.Graph.{has_number}
 use Rattle.model.specs.Records.{in_force, deps_in_force}
-use Rattle.links.specs.declared.graph.Graph.{Graph}
-use Rattle.links.specs.Links.{links_of}
+use Rattle.graph.specs.declared.graph.Graph.{Graph}
+use Rattle.graph.specs.Links.{links_of}
 use Rattle.paths.specs.Told.{text_at}
 use Rattle.log_text.specs.declared.done.Done.{Done}
 use Rattle.log_text.specs.BuildLog.{Keeps, makings, made_in}

@@ -9,7 +9,7 @@ ghost use Rattle.records.specs.Edges.{paths_in};
 ghost use Rattle.records.specs.Held.{text_in, WasReadSo, ArePlaces, AreMadeBehind, StaysWithin, Fills, GrowsTo, IsLonger, IsSameLog, IsKeptOrWrittenAnew, MayTellMore, IsJudged, OfRead, IsStateOf};
 ghost use Rattle.records.specs.Carried.{CarriesOn, CarriesLine, ChangesSo, PutsSo, TellsAlso};
 
-use links::Graph;
+use graph::Graph;
 use log_text::{Records, Tail, front_of_lines, line_grows_log, one_reading};
 use model::SiteFault;
 use paths::PathId;

@@ -10,7 +10,7 @@ ghost use Rattle.log_text.specs.DepsRecordLine.{forms as deps_forms};
 ghost use Rattle.records.specs.Edges.{declared_edges, declared_act, declared_outputs, begun_of, done_of, report_of};
 ghost use Rattle.paths.specs.Told.{text_at};
 
-use links::{Graph, numbers_stand};
+use graph::{Graph, numbers_stand};
 use log_text::{begun_line, made_line, record_line};
 use model::{Act, Record};
 use paths::{Action, EdgeId, PathId};

@@ -14,7 +14,7 @@ ghost use Rattle.records.specs.Logging.{AreSameLogs};
 
 use crate::lines::{begun_line_of, deps_line_of, done_line_of};
 use crate::logs::Logs;
-use links::Graph;
+use graph::Graph;
 use log_text::{Deps, Done};
 use model::{Record, SiteFault};
 use paths::{EdgeId, PathId};

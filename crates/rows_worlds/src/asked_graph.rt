@@ -1,7 +1,7 @@
 //! What is asked of a graph.
 
 use crate::answers::{number, push_number};
-use links::{Cone, ConeFault, Graph, Reading};
+use graph::{Cone, ConeFault, Graph, Reading};
 use paths::{EdgeId, PathId};
 use std::alloc::{AllocError, Global};
 use tables::push_word;

@@ -10,7 +10,7 @@ use crate::asked_graph::{push_asked, push_cone_again, target_numbers};
 use crate::graph_texts::{push_chain, push_fan};
 use crate::one_file::graph_of;
 use dyndep::parse;
-use links::{ExtendFault, Graph};
+use graph::{ExtendFault, Graph};
 use paths::PathId;
 use std::alloc::{AllocError, Global};
 use tables::word;

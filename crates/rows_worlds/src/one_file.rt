@@ -1,6 +1,6 @@
 //! One build file.
 
-use links::Graph;
+use graph::Graph;
 use manifest::read;
 use site::{SiteFault, Texts};
 use std::alloc::Global;

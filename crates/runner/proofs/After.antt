@@ -10,7 +10,7 @@ use Rattle.model.specs.declared.event.Writer.TheVariants.{Program}
 use Rattle.model.specs.World.{World, file_at, runs}
 use Rattle.model.specs.Calls.{OnlyLooks, Ticks, TicksOrNot, Writes, WritesOrNot, Starts, StartsOrNot, Finishes, content_or_empty}
 use Rattle.theory.proofs.Lists.{same_rest}
-use Rattle.links.specs.declared.graph.Graph.{Graph}
+use Rattle.graph.specs.declared.graph.Graph.{Graph}
 use Rattle.theory.specs.Writes.{WritesAt}
 use Rattle.theory.proofs.Writing.{writes_or_not_at}
 use Rattle.judge.specs.declared.looks.Looks.{Looks}

@@ -15,7 +15,7 @@ use Rattle.theory.proofs.Lists.{same_some}
 use Rattle.theory.proofs.Makers.{maker_has, maker_is}
 use Rattle.theory.proofs.Steps.{running_parts}
 use Rattle.paths.specs.Told.{text_at}
-use Rattle.links.specs.declared.graph.Graph.{Graph}
+use Rattle.graph.specs.declared.graph.Graph.{Graph}
 use Rattle.judge.specs.Seen.{AreKept}
 use Rattle.runner.specs.declared.state.State.{State}
 use Rattle.runner.specs.Course.{Course, edges_of, is_quiet, AreAnew, AreSeenBefore}

@@ -10,8 +10,8 @@ use Rattle.model.specs.Records.{LogFormat, OwnFiles, Store}
 use Rattle.model.specs.Schedule.{Step as Done}
 use Rattle.theory.specs.Writes.{WritesAt}
 use Rattle.display.specs.declared.display.Display.{Display}
-use Rattle.links.specs.declared.graph.Graph.{Graph}
-use Rattle.links.specs.Told.{declared_by}
+use Rattle.graph.specs.declared.graph.Graph.{Graph}
+use Rattle.graph.specs.Told.{declared_by}
 use Rattle.plan.specs.declared.step.Step.TheVariants.{Start}
 use Rattle.records.specs.declared.records.Records.{Records}
 use Rattle.records.specs.Logging.{AreSameLogs, IsLogging, IsLoggedStill, NoneInForce}

@@ -6,9 +6,9 @@ use Rattle.std.proofs.Math.ListN.{get_or-append}
 use Rattle.model.specs.World.{World}
 use Rattle.model.specs.Graph.{has_number, edge_at}
 use Rattle.plan.specs.Flags.{has}
-use Rattle.links.specs.declared.graph.Graph.{Graph}
-use Rattle.links.specs.Links.{links_of}
-use Rattle.links.specs.Told.{declared_by}
+use Rattle.graph.specs.declared.graph.Graph.{Graph}
+use Rattle.graph.specs.Links.{links_of}
+use Rattle.graph.specs.Told.{declared_by}
 use Rattle.judge.specs.declared.looks.Look.{Look}
 use Rattle.judge.specs.declared.looks.Look.TheVariants.{Unasked}
 use Rattle.judge.specs.declared.looks.Looks.{Looks}

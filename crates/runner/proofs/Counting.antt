@@ -16,7 +16,7 @@ use Rattle.theory.proofs.Events.{runs_push}
 use Rattle.theory.proofs.Orderly.{started_before}
 use Rattle.theory.proofs.Steps.{in_right, started-append}
 use Rattle.theory.proofs.Runs.{running_now}
-use Rattle.links.specs.Held.{times}
+use Rattle.graph.specs.Held.{times}
 use Rattle.runner.specs.Cutting.{SoManyRun}
 
 -- ---- numbers that stand once

@@ -16,7 +16,7 @@ use Rattle.theory.proofs.SiteCalls.{looks_none}
 use Rattle.log_text.proofs.Distinct.{AreOnce, same_bytes, bytes_same, distinct_of_once}
 use Rattle.theory.proofs.Ledger.{SaysAtEnd, ReadAtEnd}
 use Rattle.theory.proofs.TakenIn.{says_failed, says_nothing, read_failed, read_nothing, read_seen, depfile_seen}
-use Rattle.links.specs.declared.graph.Graph.{Graph}
+use Rattle.graph.specs.declared.graph.Graph.{Graph}
 use Rattle.depfile.specs.declared.fault.DepFault.{DepFault}
 use Rattle.depfile.specs.Depfile.{IsRead, IsReading, accepted, firsts}
 use Rattle.runner.specs.declared.reported.Told.{Told}

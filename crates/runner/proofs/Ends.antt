@@ -7,7 +7,7 @@ use Rattle.model.specs.Schedule.{Task, Step as Done, well_in}
 use Rattle.model.specs.SingleBuild.{task_of}
 use Rattle.theory.specs.Ledger.{IsCutOff}
 use Rattle.theory.proofs.Ledger.{cut_off, carried_looks}
-use Rattle.links.specs.declared.graph.Graph.{Graph}
+use Rattle.graph.specs.declared.graph.Graph.{Graph}
 use Rattle.plan.specs.declared.plan.Plan.{Plan}
 use Rattle.plan.specs.declared.step.End.TheVariants as ending
 use Rattle.plan.specs.declared.step.Step.TheVariants.{Load}

@@ -30,10 +30,10 @@ use Rattle.theory.proofs.Ledger.{SaysAtEnd, ReadAtEnd, command_of, running_of, c
 use Rattle.theory.proofs.TakenIn.{ended_here, depfile_since}
 use Rattle.plan.specs.Flags as flags
 use Rattle.paths.specs.Told.{text_at}
-use Rattle.links.specs.declared.graph.Graph.{Graph}
-use Rattle.links.specs.Links.{links_of}
-use Rattle.links.specs.Linked.{StandFor}
-use Rattle.links.specs.Told.{declared_by}
+use Rattle.graph.specs.declared.graph.Graph.{Graph}
+use Rattle.graph.specs.Links.{links_of}
+use Rattle.graph.specs.Linked.{StandFor}
+use Rattle.graph.specs.Told.{declared_by}
 use Rattle.judge.specs.declared.looks.Look.{Look}
 use Rattle.judge.specs.Seen.{look_at, look_of, is_asked, AreSeenOf}
 use Rattle.judge.proofs.LooksStay.{asked_look}

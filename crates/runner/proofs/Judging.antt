@@ -28,10 +28,10 @@ use Rattle.theory.proofs.Ledger.{others_run, carried_judged}
 use Rattle.display.specs.declared.display.Display.{Display}
 use Rattle.plan.specs.Flags as flags
 use Rattle.paths.specs.Told.{text_at}
-use Rattle.links.specs.declared.graph.Graph.{Graph}
-use Rattle.links.specs.Links.{links_of}
-use Rattle.links.specs.Linked.{StandFor}
-use Rattle.links.specs.Told.{declared_by, recorded_by}
+use Rattle.graph.specs.declared.graph.Graph.{Graph}
+use Rattle.graph.specs.Links.{links_of}
+use Rattle.graph.specs.Linked.{StandFor}
+use Rattle.graph.specs.Told.{declared_by, recorded_by}
 use Rattle.judge.specs.declared.looks.Looks.{Looks}
 use Rattle.judge.specs.Looking.{HasLooked}
 use Rattle.judge.specs.Seen.{look_at, look_of, is_asked, IfKept, AreSeenOf}

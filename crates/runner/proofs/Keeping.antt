@@ -29,7 +29,7 @@ use Rattle.theory.specs.Writes.{WritesAt}
 use Rattle.theory.specs.Ledger.{IsCarried, IsCutOff}
 use Rattle.theory.proofs.Ledger.{command_of, running_of, stale_command, carried_looks, carried_ticks, carried_response, carried_depfile, carried_log, carried_hand, cut_off}
 use Rattle.theory.proofs.Writing.{looks_at, writes_or_not_at, ticks_grew}
-use Rattle.links.specs.declared.graph.Graph.{Graph}
+use Rattle.graph.specs.declared.graph.Graph.{Graph}
 use Rattle.paths.specs.Told.{text_at}
 use Rattle.judge.specs.declared.looks.Look.{Look}
 use Rattle.judge.specs.Seen.{look_of, AreKept, AreSeenOf}

@@ -17,8 +17,8 @@ use Rattle.theory.specs.Writes.{WritesAt}
 use Rattle.theory.specs.Ledger.{IsReadyToStart}
 use Rattle.theory.proofs.Alone.{rests_unstarted}
 use Rattle.theory.proofs.Ledger.{carried_ticks_or_not}
-use Rattle.links.specs.declared.graph.Graph.{Graph}
-use Rattle.links.specs.Told.{declared_by}
+use Rattle.graph.specs.declared.graph.Graph.{Graph}
+use Rattle.graph.specs.Told.{declared_by}
 use Rattle.plan.specs.declared.plan.Plan.{Plan}
 use Rattle.plan.specs.Planned.{TakesStep}
 use Rattle.records.specs.Laws.{LogStays}

@@ -22,7 +22,7 @@ use Rattle.theory.proofs.Alone.{rests_unstarted}
 use Rattle.theory.proofs.Readying.{tick_given, holds_written, holds_over_own, depfile_over_response, no_record_apart}
 use Rattle.theory.proofs.Writing.{ticks_grew}
 use Rattle.theory.proofs.Ledger.{carried_starts, started_under}
-use Rattle.links.specs.declared.graph.Graph.{Graph}
+use Rattle.graph.specs.declared.graph.Graph.{Graph}
 use Rattle.paths.specs.Told.{text_at}
 use Rattle.plan.specs.Flags as flags
 use Rattle.plan.specs.declared.plan.Plan.{Plan}

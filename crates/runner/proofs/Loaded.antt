@@ -30,11 +30,11 @@ use Rattle.theory.proofs.Loading.{carried_load}
 use Rattle.theory.proofs.Turned.{kept_then}
 use Rattle.plan.specs.Flags as flags
 use Rattle.paths.specs.Told.{text_at}
-use Rattle.links.specs.declared.graph.Graph.{Graph}
-use Rattle.links.specs.declared.cone.Cone.{Cone}
-use Rattle.links.specs.Links.{links_of}
-use Rattle.links.specs.Linked.{StandFor, IsConeOf}
-use Rattle.links.specs.Told.{declared_by, recorded_by, AreSameInputs}
+use Rattle.graph.specs.declared.graph.Graph.{Graph}
+use Rattle.graph.specs.declared.cone.Cone.{Cone}
+use Rattle.graph.specs.Links.{links_of}
+use Rattle.graph.specs.Linked.{StandFor, IsConeOf}
+use Rattle.graph.specs.Told.{declared_by, recorded_by, AreSameInputs}
 use Rattle.judge.specs.declared.looks.Look.{Look}
 use Rattle.judge.specs.Seen.{look_at, look_of, is_asked}
 use Rattle.plan.specs.Planned.{IsTaskOf, IsPlanned, AreTaken}

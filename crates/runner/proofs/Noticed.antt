@@ -4,7 +4,7 @@ use Rattle.model.specs.World.{World, file_at, stamp_of}
 use Rattle.model.specs.Judgement.{is_same_number}
 use Rattle.model.specs.Schedule.{Step as Done}
 use Rattle.paths.specs.Told.{text_at}
-use Rattle.links.specs.declared.graph.Graph.{Graph}
+use Rattle.graph.specs.declared.graph.Graph.{Graph}
 use Rattle.judge.specs.declared.looks.Looks.{Looks}
 use Rattle.judge.specs.Looking.{HasLooked}
 use Rattle.judge.specs.Seen.{look_at, look_of, is_asked}

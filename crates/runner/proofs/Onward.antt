@@ -10,7 +10,7 @@ use Rattle.model.specs.Phases.{AreTakenIn}
 use Rattle.theory.proofs.Lists.{has_number-is}
 use Rattle.theory.proofs.Orderly.{orderly_step, orderly_push}
 use Rattle.theory.proofs.Steps.{judged-append, in_either}
-use Rattle.links.specs.declared.graph.Graph.{Graph}
+use Rattle.graph.specs.declared.graph.Graph.{Graph}
 use Rattle.plan.specs.declared.plan.Plan.{Plan}
 use Rattle.plan.specs.declared.step.Step.{Step}
 use Rattle.plan.specs.declared.step.Step.TheVariants.{Wait}

@@ -10,10 +10,10 @@ use Rattle.paths.specs.declared.manifest.Action.TheVariants.{Alias, Command}
 use Rattle.paths.specs.Lists.{line_at}
 use Rattle.paths.specs.Commands.{no_action}
 use Rattle.paths.specs.Told.{edge_of, edges_of}
-use Rattle.links.specs.declared.graph.Graph.{Graph}
-use Rattle.links.specs.Held.{maker_in}
-use Rattle.links.specs.Links.{is_alias, links_of}
-use Rattle.links.specs.Told.{declared_by}
+use Rattle.graph.specs.declared.graph.Graph.{Graph}
+use Rattle.graph.specs.Held.{maker_in}
+use Rattle.graph.specs.Links.{is_alias, links_of}
+use Rattle.graph.specs.Told.{declared_by}
 use Rattle.judge.proofs.Numbers.{item_has}
 
 -- ---- edges by number

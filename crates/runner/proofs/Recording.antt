@@ -27,8 +27,8 @@ use Rattle.theory.specs.Writes.{WritesAt}
 use Rattle.theory.proofs.Alone.{rests_ended}
 use Rattle.theory.proofs.Growing.{longer}
 use Rattle.theory.proofs.Ledger.{carried_depfile, carried_response}
-use Rattle.links.specs.declared.graph.Graph.{Graph}
-use Rattle.links.specs.Told.{declared_by}
+use Rattle.graph.specs.declared.graph.Graph.{Graph}
+use Rattle.graph.specs.Told.{declared_by}
 use Rattle.records.specs.declared.records.Records.{Records}
 use Rattle.records.specs.Logging.{AreSameLogs, IsLogging, IsLoggedStill, IsReported, MayReport, EndedWell}
 use Rattle.records.specs.Laws.{LogStays}

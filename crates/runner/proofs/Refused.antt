@@ -9,7 +9,7 @@ use Rattle.model.specs.Records.{Store, OwnFiles}
 use Rattle.model.specs.Schedule.{Step as Done, Judged, Started, Ended}
 use Rattle.model.specs.Phases.{Phase, AreTakenIn}
 use Rattle.model.specs.SingleBuild.{Asked}
-use Rattle.links.specs.declared.graph.Graph.{Graph}
+use Rattle.graph.specs.declared.graph.Graph.{Graph}
 use Rattle.theory.specs.Ledger.{IsPhased, IsRefused}
 use Rattle.theory.proofs.PhasesGoOn.{phased_on, phased_taken_in}
 use Rattle.runner.specs.declared.state.State.{State}

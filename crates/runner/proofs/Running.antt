@@ -10,7 +10,7 @@ use Rattle.model.specs.SingleBuild.{task_of}
 use Rattle.theory.proofs.Orderly.{IsKept, kept_orderly}
 use Rattle.theory.proofs.Steps.{running_parts}
 use Rattle.theory.proofs.Runs.{running_now}
-use Rattle.links.specs.declared.graph.Graph.{Graph}
+use Rattle.graph.specs.declared.graph.Graph.{Graph}
 use Rattle.plan.specs.declared.plan.Plan.{Plan}
 use Rattle.plan.specs.declared.step.Standing.{Standing}
 use Rattle.plan.specs.declared.step.Standing.TheVariants.{Unjudged, Clean, OutOfDate, Running, Well, Failed}

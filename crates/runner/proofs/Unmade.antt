@@ -3,8 +3,8 @@ use Rattle.std.proofs.Common.{◌≡◌, ℕ, suc, Bool, true, false, not, Some,
 use Rattle.std.proofs.lemmas.Bool.{false≢true, false_from_ne_true}
 use Rattle.model.specs.World.{World}
 use Rattle.model.specs.Graph.{has_number}
-use Rattle.links.specs.declared.graph.Graph.{Graph}
-use Rattle.links.specs.Links.{links_of}
+use Rattle.graph.specs.declared.graph.Graph.{Graph}
+use Rattle.graph.specs.Links.{links_of}
 use Rattle.judge.specs.Seen.{is_asked}
 use Rattle.judge.specs.Lasting.{has_command, is_made, KeepsUnmade}
 use Rattle.runner.specs.declared.state.State.{State}

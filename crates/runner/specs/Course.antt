@@ -15,9 +15,9 @@ use Rattle.model.specs.Premises.{FilesAreKept}
 use Rattle.model.specs.Kept.{StartedUnder}
 use Rattle.model.specs.SingleBuild.{Asked, task_of}
 use Rattle.paths.specs.Told.{text_at}
-use Rattle.links.specs.declared.graph.Graph.{Graph}
-use Rattle.links.specs.Links.{links_of}
-use Rattle.links.specs.Told.{declared_by, recorded_by, AreSameInputs}
+use Rattle.graph.specs.declared.graph.Graph.{Graph}
+use Rattle.graph.specs.Links.{links_of}
+use Rattle.graph.specs.Told.{declared_by, recorded_by, AreSameInputs}
 use Rattle.depfile.specs.Depfile.{IsReading}
 use Rattle.plan.specs.Flags as flags
 use Rattle.plan.specs.Planned.{IsPlanned, AreTaken}

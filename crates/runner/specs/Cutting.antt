@@ -7,7 +7,7 @@ use Rattle.model.specs.World.{World, runs}
 use Rattle.model.specs.Calls.{HasCause, is_stop}
 use Rattle.model.specs.Graph.{has_number}
 use Rattle.theory.specs.Seen.{IsSeen, StartsUnrefused}
-use Rattle.links.specs.Held.{StandOnce}
+use Rattle.graph.specs.Held.{StandOnce}
 use Rattle.runner.specs.declared.cut.Cut.{Cut}
 use Rattle.runner.specs.declared.cut.Cut.TheVariants.{Waiting, Other}
 use Rattle.runner.specs.Cut.{fault_of, HasRefusedWait}

@@ -8,9 +8,9 @@ use Rattle.model.specs.Phases.{IsNextLoad, NoLoadIsDue}
 use Rattle.model.specs.SingleBuild.{task_of}
 use Rattle.theory.specs.Run.{IsRun}
 use Rattle.plan.specs.Flags as flags
-use Rattle.links.specs.declared.graph.Graph.{Graph}
-use Rattle.links.specs.Links.{links_of}
-use Rattle.links.specs.Told.{declared_by}
+use Rattle.graph.specs.declared.graph.Graph.{Graph}
+use Rattle.graph.specs.Links.{links_of}
+use Rattle.graph.specs.Told.{declared_by}
 use Rattle.theory.specs.Ledger.{IsCutOff}
 use Rattle.paths.specs.Told.{text_at}
 use Rattle.judge.specs.declared.looks.Looks.{Looks}

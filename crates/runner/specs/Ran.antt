@@ -5,7 +5,7 @@ use Rattle.model.specs.Schedule.{Step, well_in, failed_in}
 use Rattle.model.specs.Phases.{NoLoadIsDue}
 use Rattle.model.specs.SingleBuild.{task_of}
 use Rattle.theory.specs.Run.{IsRun}
-use Rattle.links.specs.declared.graph.Graph.{Graph}
+use Rattle.graph.specs.declared.graph.Graph.{Graph}
 use Rattle.theory.specs.Ledger.{IsCutOff}
 use Rattle.plan.specs.declared.step.End.TheVariants as ending
 use Rattle.plan.specs.declared.step.Step.TheVariants.{Ended as Over}

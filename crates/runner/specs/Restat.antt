@@ -3,8 +3,8 @@ use Rattle.std.specs.Prelude.{◌≡◌, ◌<◌, ◌==◌, not, ℕ, Bool, true
 use Rattle.plan.specs.Flags as flags
 use Rattle.model.specs.World.{World}
 use Rattle.model.specs.Graph.{has_number}
-use Rattle.links.specs.declared.graph.Graph.{Graph}
-use Rattle.links.specs.Links.{links_of}
+use Rattle.graph.specs.declared.graph.Graph.{Graph}
+use Rattle.graph.specs.Links.{links_of}
 use Rattle.judge.specs.declared.looks.Look.{Look}
 use Rattle.judge.specs.declared.looks.Look.TheVariants.{Unasked, Absent, Stamp}
 use Rattle.judge.specs.declared.looks.Looks.{Looks}

@@ -4,7 +4,7 @@ use Rattle.model.specs.World.{World}
 use Rattle.model.specs.Schedule.{Step as Done, Started, Ended, IsLawfulStep}
 use Rattle.model.specs.Phases.{NoLoadIsDue}
 use Rattle.model.specs.SingleBuild.{task_of}
-use Rattle.links.specs.declared.graph.Graph.{Graph}
+use Rattle.graph.specs.declared.graph.Graph.{Graph}
 use Rattle.theory.specs.Ledger.{HasNoRecord}
 use Rattle.records.specs.Logging.{EndedWell}
 use Rattle.runner.specs.Course.{Course, edges_of, goes_on, IsOn}

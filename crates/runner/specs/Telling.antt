@@ -12,7 +12,7 @@ use Rattle.model.specs.Premises.{FilesAreKept, EndedAt}
 use Rattle.model.specs.Kept.{StartedUnder}
 use Rattle.depfile.specs.declared.fault.DepFault.{DepFault}
 use Rattle.depfile.specs.Depfile.{IsRead}
-use Rattle.links.specs.declared.graph.Graph.{Graph}
+use Rattle.graph.specs.declared.graph.Graph.{Graph}
 use Rattle.records.specs.Logging.{NoneInForce}
 use Rattle.runner.specs.Course.{Course, edges_of, IsOn}
 use Rattle.runner.specs.Going.{MayTakeIn}

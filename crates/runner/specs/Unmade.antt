@@ -1,5 +1,5 @@
 -- What a run knows of paths that no command makes.
-use Rattle.links.specs.declared.graph.Graph.{Graph}
+use Rattle.graph.specs.declared.graph.Graph.{Graph}
 use Rattle.judge.specs.Lasting.{KeepsUnmade}
 use Rattle.runner.specs.declared.state.State.{State}
 

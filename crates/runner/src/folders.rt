@@ -3,7 +3,7 @@
 ghost use Rattle.std.specs.Prelude.{◌≡◌, ◌<◌, false, length};
 ghost use Rattle.model.specs.Calls.{OnlyLooks, HasCause};
 
-use links::Graph;
+use graph::Graph;
 use model::SiteFault;
 use paths::EdgeId;
 use site::Site;

@@ -4,16 +4,16 @@ ghost use Rattle.std.specs.Prelude.{◌≡◌, ◌<◌, not, ℕ, IfOk, OnOk, Li
 ghost use Rattle.model.specs.Calls.{OnlyLooks, HasCause};
 ghost use Rattle.model.specs.Graph.{edge_at, has_number, IsCommand};
 ghost use Rattle.plan.specs.Flags.{has};
-ghost use Rattle.links.specs.Links.{links_of};
-ghost use Rattle.links.specs.Told.{declared_by};
+ghost use Rattle.graph.specs.Links.{links_of};
+ghost use Rattle.graph.specs.Told.{declared_by};
 ghost use Rattle.judge.specs.declared.looks.Look.TheVariants.{Unasked};
 ghost use Rattle.judge.specs.Looking.{HasLooked};
 ghost use Rattle.judge.specs.Seen.{look_at, is_asked};
 ghost use Rattle.runner.specs.Restat.{is_same_look, AreChangesOf, LooksAnew};
 
 use crate::setting::Setting;
+use graph::{Graph, lists_stand};
 use judge::{Look, Looks};
-use links::{Graph, lists_stand};
 use model::SiteFault;
 use paths::{Action, EdgeId, PathId};
 use site::Site;

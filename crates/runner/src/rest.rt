@@ -4,7 +4,7 @@ ghost use Rattle.std.specs.Prelude.{◌≡◌, ◌⊎◌, ℕ, List, Option, fal
 ghost use Rattle.model.specs.World.{World, IsIdle};
 ghost use Rattle.model.specs.Schedule.{Step as Done};
 ghost use Rattle.model.specs.Calls.{HasCause, is_stop};
-ghost use Rattle.links.specs.declared.graph.Graph.{Graph};
+ghost use Rattle.graph.specs.declared.graph.Graph.{Graph};
 ghost use Rattle.theory.specs.Ledger.{IsCutOff};
 ghost use Rattle.runner.specs.After.{ComesAfter};
 ghost use Rattle.runner.specs.Course.{Course};

@@ -11,7 +11,7 @@ ghost use Rattle.runner.specs.Course.{Course, goes_on, Suits, IsOn};
 ghost use Rattle.runner.specs.Going.{IsGoing, IsOver, IsHalted, IsCut, AreSet};
 ghost use Rattle.runner.specs.Ran.{HasRun, HasPaused, AreEdgesOf, IsPauseOf};
 ghost use Rattle.runner.specs.Cutting.{Cuts};
-ghost use Rattle.links.specs.declared.graph.Graph.{Graph};
+ghost use Rattle.graph.specs.declared.graph.Graph.{Graph};
 
 use crate::cut::Cut;
 use crate::rest::take_in_rest;

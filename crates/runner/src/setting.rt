@@ -1,6 +1,6 @@
 //! What a run works on.
 
-use links::Graph;
+use graph::Graph;
 use std::alloc::Global;
 
 /// What a run works on, and does not change.

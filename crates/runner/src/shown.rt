@@ -3,7 +3,7 @@
 ghost use Rattle.std.specs.Prelude.{◌≡◌, ◌<◌, suc, false, length};
 ghost use Rattle.model.specs.Calls.{OnlyLooks, HasCause};
 ghost use Rattle.model.specs.Graph.{IsCommand};
-ghost use Rattle.links.specs.Told.{declared_by};
+ghost use Rattle.graph.specs.Told.{declared_by};
 
 use crate::setting::Setting;
 use crate::start::act;

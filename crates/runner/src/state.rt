@@ -6,8 +6,8 @@ ghost use Rattle.model.specs.Schedule.{Task};
 ghost use Rattle.runner.specs.Going.{AreEnough, AreSet};
 
 use display::Display;
+use graph::Graph;
 use judge::Looks;
-use links::Graph;
 use paths::EdgeId;
 use plan::Plan;
 use records::Records;

@@ -16,7 +16,7 @@ use Rattle.builder.specs.declared.report.Report.TheVariants.{Success, Failed, Re
 use Rattle.log_text.specs.DepsFormat.{HasFormat}
 use Rattle.depfile.specs.Depfile.{HasReading}
 use Rattle.dyndep_law.specs.Readings.{HasReading as HasDyndeps}
-use Rattle.links.specs.Extended.{addition_of}
+use Rattle.graph.specs.Extended.{addition_of}
 use Rattle.builder.specs.Build.{missing_answer, Says, IsBuild}
 use Rattle.builder.specs.Loads.{ReadsDyndeps}
 use Rattle.scripts.specs.Script.{GoesOn}

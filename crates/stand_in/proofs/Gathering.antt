@@ -10,8 +10,8 @@ use Rattle.lexer.specs.Path.{IsCanonical}
 use Rattle.paths.specs.Lists.{line_at, line_outputs}
 use Rattle.paths.specs.Told.{IsNamedNumber, IsUnnamed, text_at}
 use Rattle.paths.specs.declared.line.Line.{Line}
-use Rattle.links.specs.Links.{links_of}
-use Rattle.links.specs.declared.graph.Graph.{Graph}
+use Rattle.graph.specs.Links.{links_of}
+use Rattle.graph.specs.declared.graph.Graph.{Graph}
 use Rattle.tools.specs.Above.{AreAbove, Further, IsNeededFor, Makes}
 use Rattle.tools.specs.Files.{runs_generator}
 use Rattle.tools.specs.declared.declared.Declared.{Declared}

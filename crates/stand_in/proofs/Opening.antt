@@ -14,8 +14,8 @@ use Rattle.theory.specs.Seen.{Looked}
 use Rattle.theory.proofs.SiteCalls.{unrefused_call}
 use Rattle.paths.specs.declared.manifest.Manifest.{Manifest}
 use Rattle.paths.specs.Told.{graph_of}
-use Rattle.links.specs.declared.graph.Graph.{Graph}
-use Rattle.links.specs.Told.{declared_by, recorded_by}
+use Rattle.graph.specs.declared.graph.Graph.{Graph}
+use Rattle.graph.specs.Told.{declared_by, recorded_by}
 use Rattle.manifest.specs.declared.described.Described.{Described}
 use Rattle.manifest.specs.declared.fault.ReadError.{ReadError}
 use Rattle.manifest.specs.declared.fault.ReadError.TheVariants as read

@@ -16,9 +16,9 @@ use Rattle.theory.specs.Seen.{Looked}
 use Rattle.log_text.specs.DepsFormat.{HasFormat}
 use Rattle.depfile.specs.Depfile.{HasReading}
 use Rattle.dyndep_law.specs.Readings.{HasReading as HasDyndeps}
-use Rattle.links.specs.Extended.{addition_of}
-use Rattle.links.specs.Told.{declared_by}
-use Rattle.links.specs.declared.graph.Graph.{Graph}
+use Rattle.graph.specs.Extended.{addition_of}
+use Rattle.graph.specs.Told.{declared_by}
+use Rattle.graph.specs.declared.graph.Graph.{Graph}
 use Rattle.manifest.specs.Answer.{IsGraph, ReadsFile}
 use Rattle.tools.specs.Joined.{KeepsEdges}
 use Rattle.tools.specs.declared.declared.Declared.{Declared}

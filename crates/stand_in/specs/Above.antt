@@ -2,8 +2,8 @@
 use Rattle.std.specs.Prelude.{◌≡◌, ◌≢◌, ◌<◌, ℕ, List, [], ◌∷◌, ◌++◌, All, filter, flat_map, length, Option, Some, None, MatchOption, slice_get, if◌then◌else◌, ◌==◌}
 use Rattle.lexer.specs.Path.{IsCanonical}
 use Rattle.paths.specs.Told.{IsUnnamed, text_at}
-use Rattle.links.specs.Links.{links_of}
-use Rattle.links.specs.declared.graph.Graph.{Graph}
+use Rattle.graph.specs.Links.{links_of}
+use Rattle.graph.specs.declared.graph.Graph.{Graph}
 use Rattle.tools.specs.declared.declared.Declared.{Declared}
 use Rattle.tools.specs.Above.{AreAbove}
 use Rattle.tools.specs.Files.{runs_generator}

@@ -7,7 +7,7 @@ use Rattle.model.specs.Calls.{HasCause, IsRestart, OnlyLooks}
 use Rattle.model.specs.declared.fault.SiteFault.{SiteFault}
 use Rattle.theory.specs.Seen.{Looked}
 use Rattle.manifest.specs.Answer.{IsGraph, ReadsFile}
-use Rattle.links.specs.Told.{declared_by}
+use Rattle.graph.specs.Told.{declared_by}
 use Rattle.tools.specs.declared.declared.Declared.{Declared}
 use Rattle.builder.specs.declared.asked.Limits.{Limits}
 use Rattle.builder.specs.Reports.{IsLinked}

@@ -3,8 +3,8 @@
 ghost use Rattle.std.specs.Prelude.{OnOk, IfOk};
 ghost use Rattle.stand_in.specs.Above.{AddsEdge, AddsEdges, AreAboveFile, AreEdges, IsAllAbove, IsFileOf};
 
+use graph::Graph;
 use lexer::{ReadFault, canonical, one_form};
-use links::Graph;
 use paths::{EdgeId, PathId};
 use std::alloc::{AllocError, Global};
 use text::Text;

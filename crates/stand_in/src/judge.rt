@@ -3,7 +3,7 @@
 ghost use Rattle.std.specs.Prelude.{◌≡◌, ◌<◌, false, length, IsSome};
 ghost use Rattle.stand_in.specs.Moves.{OnlyAsks};
 
-use links::{Graph, Reading};
+use graph::{Graph, Reading};
 use model::SiteFault;
 use paths::{EdgeId, PathId};
 use site::Site;

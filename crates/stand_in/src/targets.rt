@@ -6,7 +6,7 @@ ghost use Rattle.model.specs.Calls.{OnlyLooks};
 ghost use Rattle.tools.specs.Joined.{KeepsEdges};
 
 use crate::above::Above;
-use links::Graph;
+use graph::Graph;
 use paths::PathId;
 use site::Site;
 use std::alloc::{AllocError, Global};

@@ -4,8 +4,8 @@ use Rattle.std.specs.List.{AllZip}
 use Rattle.std.specs.Map.Iter.{deref}
 use denote.Ref.{Bor}
 use Rattle.std.proofs.lemmas.List.{map-append, take_more}
-use Rattle.links.specs.Links.{links_of, users_at}
-use Rattle.links.specs.declared.graph.Graph.{Graph}
+use Rattle.graph.specs.Links.{links_of, users_at}
+use Rattle.graph.specs.declared.graph.Graph.{Graph}
 use Rattle.tools.specs.Found.{HasText, IsFirstMade, IsFirstMadeOf, IsNamed}
 
 zip_push : {X Y : Type 0} (P : X → Y → Type 0) (xs : List X) (ys : List Y) (x : X) (y : Y) → AllZip P xs ys → P x y → AllZip P (xs ++ x ∷ []) (ys ++ y ∷ [])

@@ -14,7 +14,7 @@ use Rattle.log_text.specs.Kept.{if_some, outputs_left, texts_at}
 use Rattle.log_text.specs.BuildLog.{makings, saying}
 use Rattle.log_text.specs.DepsLog.{Keeps as KeepsDeps, told_of_record, tolds as deps_tolds}
 use Rattle.log_text.specs.declared.deps.Deps.{Deps}
-use Rattle.links.specs.declared.graph.Graph.{Graph}
+use Rattle.graph.specs.declared.graph.Graph.{Graph}
 use Rattle.paths.specs.Numbers.{IsAdded}
 use Rattle.paths.specs.Told.{IsNamedNumber, IsUnnamed}
 use Rattle.paths.specs.declared.manifest.Manifest.{Manifest}

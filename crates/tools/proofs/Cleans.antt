@@ -15,8 +15,8 @@ use Rattle.paths.specs.declared.line.Line.{Line}
 use Rattle.paths.specs.declared.manifest.Action.{Action}
 use Rattle.paths.specs.declared.manifest.Action.TheVariants.{Alias, Command}
 use Rattle.paths.specs.declared.manifest.Command.{Command as EdgeCommand}
-use Rattle.links.specs.Held.{AreMakers}
-use Rattle.links.specs.Links.{links_of}
+use Rattle.graph.specs.Held.{AreMakers}
+use Rattle.graph.specs.Links.{links_of}
 use Rattle.tools.specs.Above.{IsNamedAbove, AreNamedMade}
 use Rattle.tools.specs.Clean.{AddsJust, AreCleaned, IsAnyRule, IsAsked, IsCleanedOutput, IsCleanedRule, IsCleanedTarget, IsFileOf, IsFree, IsOtherAt, IsOwnFileOf, LacksJust, MayClean, MayCleanPath}
 use Rattle.tools.specs.Files.{command_at, files_of, own_files, rule_of}

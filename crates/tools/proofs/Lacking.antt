@@ -12,8 +12,8 @@ use Rattle.log_text.specs.Kept.{if_some, texts_at}
 use Rattle.tools.proofs.Removed.{has_at}
 use Rattle.log_text.specs.DepsLog.{told_found}
 use Rattle.log_text.specs.declared.deps.Deps.{Deps}
-use Rattle.links.specs.Links.{links_of}
-use Rattle.links.specs.declared.graph.Graph.{Graph}
+use Rattle.graph.specs.Links.{links_of}
+use Rattle.graph.specs.declared.graph.Graph.{Graph}
 use Rattle.paths.specs.Lists.{line_outputs, no_line}
 use Rattle.paths.specs.Numbers.{HaveOnePlace}
 use Rattle.paths.specs.Told.{text_at}

@@ -4,7 +4,7 @@ use Rattle.std.specs.List.{flat_map}
 use Rattle.std.proofs.lemmas.Bool.{cases_lt}
 use Rattle.std.proofs.lemmas.List.{length-append}
 use Rattle.std.proofs.lemmas.List.Concat.{flat_map-append}
-use Rattle.links.specs.Links.{links_of}
+use Rattle.graph.specs.Links.{links_of}
 use Rattle.tools.specs.Answers.{branch, indented, levels, line, lines, tree, Puts}
 use Rattle.tools.specs.Showing.{Opens, OpensAbove, Shows, head_line, indentation, left_from, left_lines, shown}
 use Rattle.tools.specs.declared.declared.Declared.{Declared}

@@ -13,11 +13,11 @@ use Rattle.model.specs.World.{World}
 use Rattle.theory.specs.Seen.{Looked}
 use Rattle.theory.proofs.Looks.{looks_then}
 use Rattle.paths.specs.Told.{text_at}
-use Rattle.links.specs.Grown.{HasNumbered}
-use Rattle.links.specs.Held.{list_at}
-use Rattle.links.specs.Links.{links_of}
-use Rattle.links.specs.Told.{recorded_by}
-use Rattle.links.specs.declared.graph.Graph.{Graph}
+use Rattle.graph.specs.Grown.{HasNumbered}
+use Rattle.graph.specs.Held.{list_at}
+use Rattle.graph.specs.Links.{links_of}
+use Rattle.graph.specs.Told.{recorded_by}
+use Rattle.graph.specs.declared.graph.Graph.{Graph}
 use Rattle.records.specs.Known.{AreKnown, IsOf, IsOfDeps, Knows, SomeOfBoth}
 use Rattle.records.specs.Laws.{AreRead}
 use Rattle.records.specs.declared.records.Records.{Records}

@@ -8,8 +8,8 @@ use Rattle.model.specs.Graph.{has_number}
 use Rattle.paths.specs.declared.manifest.Action.{Action}
 use Rattle.paths.specs.declared.manifest.Action.TheVariants.{Alias, Command}
 use Rattle.paths.specs.declared.manifest.Command.{Command as EdgeCommand}
-use Rattle.links.specs.Links.{links_of}
-use Rattle.links.specs.declared.graph.Graph.{Graph}
+use Rattle.graph.specs.Links.{links_of}
+use Rattle.graph.specs.declared.graph.Graph.{Graph}
 use Rattle.tools.specs.Answers.{AreMakers, AreMet, command_in}
 use Rattle.tools.specs.Files.{command_at}
 use Rattle.tools.proofs.Rises.{has_push, once_push, once_none}

@@ -5,9 +5,9 @@ use Rattle.std.proofs.Math.ListN.{set}
 use Rattle.std.proofs.lemmas.Bool.{cases_Bool, cases_lt, eqb-true, eq-eqb, false≢true, or_cases, or_left, or_right}
 use Rattle.std.proofs.lemmas.List.{get_or-replicate, get_or-set_same, get_or-set_other, get_or_past, length-replicate, take_more}
 use Rattle.model.specs.Graph.{has_number}
-use Rattle.links.specs.Held.{AreMakers, maker_in}
-use Rattle.links.specs.Links.{Links, links_of}
-use Rattle.links.specs.declared.graph.Graph.{Graph}
+use Rattle.graph.specs.Held.{AreMakers, maker_in}
+use Rattle.graph.specs.Links.{Links, links_of}
+use Rattle.graph.specs.declared.graph.Graph.{Graph}
 use Rattle.tools.specs.Above.{AreAbove, AreNamedBy, AreNamedMade, IsNamedAbove, IsNeededFor, Makes, Further}
 use Rattle.tools.proofs.Putting.{flat_next}
 use Rattle.tools.proofs.Rises.{has_push}

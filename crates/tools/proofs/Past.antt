@@ -8,8 +8,8 @@ use Rattle.paths.specs.Commands.{no_action}
 use Rattle.paths.specs.Lists.{line_at, line_inputs, line_outputs, line_regular_inputs, no_line}
 use Rattle.paths.specs.declared.line.Line.{Line}
 use Rattle.paths.specs.declared.manifest.Action.{Action}
-use Rattle.links.specs.Held.{list_at}
-use Rattle.links.specs.Links.{is_alias}
+use Rattle.graph.specs.Held.{list_at}
+use Rattle.graph.specs.Links.{is_alias}
 
 got : (texts : List (List ℕ)) (n : ℕ) → get_or texts n [] ≡ unwrap_or (slice_get texts n) []
 got [] n = refl

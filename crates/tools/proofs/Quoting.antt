@@ -5,7 +5,7 @@ use Rattle.std.proofs.lemmas.Bool.{eqb-true, eq-eqb, false≢true, or_cases, or_
 use Rattle.std.proofs.lemmas.Slice.Eq.{bytes_eq-Decides}
 use Rattle.lexer.specs.Quote.{quoted}
 use Rattle.model.specs.Graph.{has, has_number}
-use Rattle.links.specs.Links.{links_of}
+use Rattle.graph.specs.Links.{links_of}
 use Rattle.tools.specs.Above.{AreAbove}
 use Rattle.tools.specs.Answers.{IsInputFor, PrintsEach, PrintsInputs, path_text, quoted_inputs}
 use Rattle.tools.specs.declared.declared.Declared.{Declared}

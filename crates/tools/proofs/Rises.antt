@@ -4,11 +4,11 @@ use Rattle.std.proofs.Math.ListN.{set}
 use Rattle.std.proofs.lemmas.List.{get_or-set_same, get_or-set_other, length-set, length_push, length-take-le, get_or-take, get_or_past}
 use Rattle.std.proofs.lemmas.Bool.{cases_Bool, cases_lt, eqb-true, eq-eqb, false≢true, or_cases, or_left, or_right}
 use Rattle.model.specs.Graph.{has_number}
-use Rattle.links.specs.Links.{Links}
-use Rattle.links.specs.declared.cone.Mark.{Mark}
-use Rattle.links.specs.declared.cone.Mark.TheVariants.{Unseen, Open, Listed}
-use Rattle.links.specs.Cone.{mark_at, is_listed, is_unseen, maker_seen, IsLast, Keeps}
-use Rattle.links.specs.Held.{StandOnce, times}
+use Rattle.graph.specs.Links.{Links}
+use Rattle.graph.specs.declared.cone.Mark.{Mark}
+use Rattle.graph.specs.declared.cone.Mark.TheVariants.{Unseen, Open, Listed}
+use Rattle.graph.specs.Cone.{mark_at, is_listed, is_unseen, maker_seen, IsLast, Keeps}
+use Rattle.graph.specs.Held.{StandOnce, times}
 use Rattle.tools.specs.Above.{AreBehindMakers, IsNeededFor, Makes, Further, MakesInputOf}
 use Rattle.tools.specs.Rising.{IsNext, IsRiseAt}
 

@@ -1,9 +1,9 @@
 -- Which edges are above paths, by the lines of build files alone (this project's own; what real ninja's tools go through).
 use Rattle.std.specs.Prelude.{◌≡◌, ◌⊎◌, ℕ, ◌<◌, ◌||◌, Bool, true, false, List, ◌++◌, ◌∷◌, ◌↔◌, IsSome, Some, filter, flat_map, get_or, length}
 use Rattle.model.specs.Graph.{has_number}
-use Rattle.links.specs.Links.{Links, links_of}
-use Rattle.links.specs.declared.graph.Graph.{Graph}
-use Rattle.links.specs.Held.{StandOnce}
+use Rattle.graph.specs.Links.{Links, links_of}
+use Rattle.graph.specs.declared.graph.Graph.{Graph}
+use Rattle.graph.specs.Held.{StandOnce}
 
 -- the edge makes one of the paths, or an input of an edge that is needed for them
 pub data IsNeededFor (links : Links) (paths : List ℕ) : ℕ → Type 0 where

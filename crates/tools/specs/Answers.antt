@@ -12,9 +12,9 @@ use Rattle.paths.specs.Lists.{line_at}
 use Rattle.paths.specs.Told.{text_at, texts_at}
 use Rattle.paths.specs.declared.manifest.Action.{Action}
 use Rattle.paths.specs.declared.manifest.Action.TheVariants.{Alias, Command}
-use Rattle.links.specs.Held.{StandOnce}
-use Rattle.links.specs.Links.{links_of, users_at}
-use Rattle.links.specs.declared.graph.Graph.{Graph}
+use Rattle.graph.specs.Held.{StandOnce}
+use Rattle.graph.specs.Links.{links_of, users_at}
+use Rattle.graph.specs.declared.graph.Graph.{Graph}
 use Rattle.tools.specs.Above.{AreAbove, IsNeededFor}
 use Rattle.tools.specs.Files.{rule_of}
 use Rattle.tools.specs.Roots.{AreRoots}

@@ -2,7 +2,7 @@
 use Rattle.std.specs.Prelude.{◌≡◌, ◌≢◌, ◌<◌, ℕ, Bool, true, false, List, [], ◌↔◌, ◌⊎◌, Some, map, length, slice_get}
 use Rattle.std.specs.Map.Iter.{deref}
 use Rattle.model.specs.Graph.{has}
-use Rattle.links.specs.Links.{links_of}
+use Rattle.graph.specs.Links.{links_of}
 use Rattle.paths.specs.Told.{text_at, texts_at}
 use Rattle.tools.specs.declared.declared.Declared.{Declared}
 use Rattle.tools.specs.declared.cleaning.Cleaning.{Cleaning}

@@ -6,7 +6,7 @@ use Rattle.model.specs.Graph.{has}
 use Rattle.model.specs.Records.{in_force}
 use Rattle.paths.specs.Told.{IsUnnamed}
 use Rattle.paths.specs.declared.manifest.Manifest.{Manifest}
-use Rattle.links.specs.declared.graph.Graph.{Graph}
+use Rattle.graph.specs.declared.graph.Graph.{Graph}
 use Rattle.log_text.specs.BuildLog.{Keeps as KeepsMade}
 use Rattle.log_text.specs.DepsLog.{Keeps}
 use Rattle.records.specs.Known.{Knows}

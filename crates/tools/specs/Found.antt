@@ -2,8 +2,8 @@
 use Rattle.std.specs.Prelude.{◌≡◌, ℕ, List, [], ◌++◌, ◌∷◌, Some, ◌⊎◌, slice_get}
 use Rattle.std.specs.List.{AllZip}
 use Rattle.lexer.specs.Path.{IsCanonical}
-use Rattle.links.specs.Links.{links_of, users_at}
-use Rattle.links.specs.declared.graph.Graph.{Graph}
+use Rattle.graph.specs.Links.{links_of, users_at}
+use Rattle.graph.specs.declared.graph.Graph.{Graph}
 
 -- the path is what the text names
 abbrev pub HasText : Graph → List ℕ → ℕ → Type 0

@@ -1,7 +1,7 @@
 -- What stays where a graph gets numbers for more paths.
 use Rattle.std.specs.Prelude.{◌≡◌, ◌++◌, ℕ, List, []}
-use Rattle.links.specs.Told.{declared_by, recorded_by}
-use Rattle.links.specs.declared.graph.Graph.{Graph}
+use Rattle.graph.specs.Told.{declared_by, recorded_by}
+use Rattle.graph.specs.declared.graph.Graph.{Graph}
 
 -- more paths have a number, and the edges are the same; nothing is recorded of them where nothing was
 pub record KeepsEdges (old new : Graph) : Type 0 where

@@ -3,8 +3,8 @@ use Rattle.std.specs.Prelude.{◌≡◌, ◌≢◌, ◌⊎◌, ◌↔◌, ℕ, B
 use Rattle.model.specs.declared.record.DepsRecord.{DepsRecord}
 use Rattle.model.specs.Graph.{has}
 use Rattle.model.specs.Records.{deps_in_force, paths_in}
-use Rattle.links.specs.Links.{links_of}
-use Rattle.links.specs.declared.graph.Graph.{Graph}
+use Rattle.graph.specs.Links.{links_of}
+use Rattle.graph.specs.declared.graph.Graph.{Graph}
 use Rattle.paths.specs.Told.{text_at}
 use Rattle.records.specs.Known.{Knows}
 use Rattle.records.specs.declared.records.Records.{Records}

@@ -1,12 +1,12 @@
 -- A walk up to the edges that are needed for paths, between its steps.
 use Rattle.std.specs.Prelude.{◌≡◌, ◌≢◌, ℕ, suc, ◌+◌, ◌-◌, ◌*◌, ◌<◌, ◌≤◌, true, false, List, length, slice_index, count_by, sum, Some}
 use Rattle.model.specs.Graph.{has_number}
-use Rattle.links.specs.Cone.{IsLast, mark_at, is_listed, is_unseen, maker_seen}
-use Rattle.links.specs.Held.{StandOnce}
-use Rattle.links.specs.Links.{Links, links_of}
-use Rattle.links.specs.declared.cone.Mark.{Mark}
-use Rattle.links.specs.declared.cone.Mark.TheVariants.{Open}
-use Rattle.links.specs.declared.graph.Graph.{Graph}
+use Rattle.graph.specs.Cone.{IsLast, mark_at, is_listed, is_unseen, maker_seen}
+use Rattle.graph.specs.Held.{StandOnce}
+use Rattle.graph.specs.Links.{Links, links_of}
+use Rattle.graph.specs.declared.cone.Mark.{Mark}
+use Rattle.graph.specs.declared.cone.Mark.TheVariants.{Open}
+use Rattle.graph.specs.declared.graph.Graph.{Graph}
 use Rattle.tools.specs.declared.above.Walk.{Walk}
 use Rattle.tools.specs.Above.{AreBehindMakers, IsNeededFor, MakesInputOf}
 

@@ -1,8 +1,8 @@
 -- What is meant where no target is named and build files say nothing.
 use Rattle.std.specs.Prelude.{◌≡◌, ℕ, List, filter, flat_map, length, nat_eq}
 use Rattle.paths.specs.Lists.{line_outputs}
-use Rattle.links.specs.Links.{users_at}
-use Rattle.links.specs.declared.graph.Graph.{Graph}
+use Rattle.graph.specs.Links.{users_at}
+use Rattle.graph.specs.declared.graph.Graph.{Graph}
 
 -- those of the paths that no edge names as an input
 abbrev pub unread : Graph → List ℕ → List ℕ

@@ -1,6 +1,6 @@
 -- Trees of paths and sorted texts, line by line: what is still to be printed between two lines.
 use Rattle.std.specs.Prelude.{◌≡◌, ℕ, zero, suc, ◌+◌, ◌-◌, ◌*◌, ◌<◌, ◌≤◌, List, [], ◌∷◌, ◌++◌, Option, None, Some, drop, length, get_or, flat_map, bytes_eq, if◌then◌else◌}
-use Rattle.links.specs.Links.{links_of}
+use Rattle.graph.specs.Links.{links_of}
 use Rattle.tools.specs.Answers.{indented, lines, path_text, tree, with_rule}
 use Rattle.tools.specs.declared.declared.Declared.{Declared}
 use Rattle.tools.specs.declared.listing.Level.{Level}

@@ -2,13 +2,13 @@
 
 ghost use Rattle.std.specs.Prelude.{◌≡◌, ◌<◌, ◌≤◌, IfOk, MatchOption, OnOk, false, length, true};
 ghost use Rattle.model.specs.Graph.{has_number};
-ghost use Rattle.links.specs.Cone.{IsLast, Keeps, is_unseen, mark_at, maker_seen};
-ghost use Rattle.links.specs.Links.{links_of};
-ghost use Rattle.links.specs.declared.cone.Mark;
+ghost use Rattle.graph.specs.Cone.{IsLast, Keeps, is_unseen, mark_at, maker_seen};
+ghost use Rattle.graph.specs.Links.{links_of};
+ghost use Rattle.graph.specs.declared.cone.Mark;
 ghost use Rattle.tools.specs.Above.{AreAbove, IsNeededFor};
 ghost use Rattle.tools.specs.Rising.{CountsInputs, HasSeenNext, IsAwaited, IsNextOf, IsRise, MakerIsAwaited, MakerIsNeeded, left_at, work};
 
-use links::{Graph, Mark};
+use graph::{Graph, Mark};
 use paths::{EdgeId, PathId};
 use std::alloc::{AllocError, Global};
 

@@ -3,10 +3,10 @@
 ghost use Rattle.std.specs.Prelude.{◌≡◌, ◌<◌, ◌^◌, slice_get};
 ghost use Rattle.std.specs.Map.Iter.{deref};
 ghost use Rattle.std.specs.Option.{option_map};
-ghost use Rattle.links.specs.Links.{links_of, users_at};
+ghost use Rattle.graph.specs.Links.{links_of, users_at};
 ghost use Rattle.paths.specs.Told.{text_at};
 
-use links::Graph;
+use graph::Graph;
 use paths::{EdgeId, PathId, Paths};
 
 /// The text of a path.

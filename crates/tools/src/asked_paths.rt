@@ -2,7 +2,7 @@
 
 ghost use Rattle.std.specs.Prelude.{◌≡◌, ◌<◌, ◌++◌, ◌∷◌, [], IfOk, OnOk, Some, codes, filter, flat_map, length, string_bytes};
 ghost use Rattle.model.specs.Graph.{has_number};
-ghost use Rattle.links.specs.Links.{links_of};
+ghost use Rattle.graph.specs.Links.{links_of};
 ghost use Rattle.tools.specs.Answers.{Tells, if_some, lines, maker_lines, marked, outputs_of, query_lines, validated_by};
 
 use crate::access::{outputs_at, text_at, users_at};

@@ -7,7 +7,7 @@ use crate::above::edges_above;
 use crate::declared::Declared;
 use crate::lines::push_line;
 use crate::marks::{is_marked, set_mark};
-use links::Graph;
+use graph::Graph;
 use paths::{EdgeId, PathId};
 use std::alloc::{AllocError, Global};
 

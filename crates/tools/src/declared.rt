@@ -5,7 +5,7 @@ ghost use Rattle.std.specs.Option.{option_map};
 ghost use Rattle.paths.specs.Commands.{no_action};
 ghost use Rattle.tools.specs.Files.{command_at, rule_of};
 
-use links::Graph;
+use graph::Graph;
 use manifest::Described;
 use paths::{Action, Command, EdgeId};
 use records::Records;

@@ -3,7 +3,7 @@
 ghost use Rattle.std.specs.Prelude.{◌≡◌, ◌<◌, ◌+◌, ◌++◌, ◌∷◌, [], IfOk, None, OnOk, filter, flat_map, is_none, length, map, string_bytes};
 ghost use Rattle.std.specs.Map.Iter.{deref};
 ghost use Rattle.std.specs.Option.{option_map};
-ghost use Rattle.links.specs.Links.{links_of};
+ghost use Rattle.graph.specs.Links.{links_of};
 ghost use Rattle.paths.specs.Told.{texts_at};
 ghost use Rattle.tools.specs.Answers.{PrintsEach, PrintsOfRule, PrintsTargets, Tells, all_sources, all_targets, levels, lines, outputs_of_rule, sources_of, targets_of, tree};
 ghost use Rattle.tools.specs.Showing.{IsGoneOn, Opens, Shows, head_line, indentation, unless_same, unrepeated};
@@ -15,7 +15,7 @@ use crate::fault::{Fault, Near};
 use crate::lines::push_line;
 use crate::near::near_word;
 use crate::unread::roots;
-use links::{ConeFault, Graph};
+use graph::{ConeFault, Graph};
 use paths::{EdgeId, PathId};
 use std::alloc::{AllocError, Global};
 use text::{Path, Text};

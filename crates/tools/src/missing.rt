@@ -2,7 +2,7 @@
 
 ghost use Rattle.std.specs.Prelude.{◌≡◌, ◌++◌, ◌∷◌, [], IfOk, IsSome, OnOk, false, filter, flat_map, get_or, length, slice_get};
 ghost use Rattle.log_text.specs.Kept.{if_some, texts_at};
-ghost use Rattle.links.specs.Links.{links_of};
+ghost use Rattle.graph.specs.Links.{links_of};
 ghost use Rattle.tools.specs.Above.{AreNamedBy, AreNamedMade, MarksAlso, marked_outputs};
 ghost use Rattle.tools.specs.Missing.{AddsDeps, AddsMissing, AreNeeded, IsApart, IsMadeFor, IsUnmarked, Misses};
 
@@ -10,7 +10,7 @@ use crate::above::edges_above;
 use crate::access::{inputs_at, outputs_at};
 use crate::declared::Logged;
 use crate::marks::{is_marked, set_mark};
-use links::Graph;
+use graph::Graph;
 use paths::{EdgeId, PathId};
 use std::alloc::{AllocError, Global};
 

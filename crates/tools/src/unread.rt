@@ -5,7 +5,7 @@ ghost use Rattle.tools.specs.Roots.{AreRoots, unread};
 
 use crate::access::users_at;
 use crate::fault::Fault;
-use links::Graph;
+use graph::Graph;
 use paths::PathId;
 use std::alloc::{AllocError, Global};
 

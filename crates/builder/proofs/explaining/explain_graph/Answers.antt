@@ -1,7 +1,7 @@
 use Rattle.std.proofs.Common.{[], refl}
 use Rattle.model.specs.Records.{file_in, tick_name}
 use Rattle.theory.proofs.Looks.{looks_nothing}
-use Rattle.links.specs.Told.{declared_by}
+use Rattle.graph.specs.Told.{declared_by}
 use Rattle.builder.specs.Build.{asked_of}
 use Rattle.builder.proofs.Beginning.{begins_this}
 use Rattle.builder.proofs.Looking.{course_of}

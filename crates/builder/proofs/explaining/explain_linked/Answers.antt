@@ -4,7 +4,7 @@ use Rattle.model.specs.Graph.{IsMadeOnce}
 use Rattle.model.specs.Outcome.{Behaviour}
 use Rattle.model.specs.SingleBuild.{NamesOther}
 use Rattle.theory.proofs.Looks.{looks_then}
-use Rattle.links.specs.Told.{declared_by}
+use Rattle.graph.specs.Told.{declared_by}
 use Rattle.manifest.specs.Answer.{IsGraph}
 use Rattle.builder.specs.Build.{asked_of}
 use Rattle.builder.specs.Explained.{ExplainsBuild}

@@ -2,7 +2,7 @@ use Rattle.std.proofs.Common.{◌≡◌, false, ℕ, List}
 use Rattle.model.specs.declared.graph.Edge.{Edge}
 use Rattle.model.specs.Calls.{OnlyLooks}
 use Rattle.model.specs.Phases.{Phase}
-use Rattle.links.specs.Told.{declared_by}
+use Rattle.graph.specs.Told.{declared_by}
 use Rattle.runner.specs.Course.{Course}
 use Rattle.builder.specs.Going.{BeginsAt, files_left}
 use Rattle.builder.proofs.explaining.load_sources.Given as goal

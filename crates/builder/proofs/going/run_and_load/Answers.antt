@@ -1,6 +1,6 @@
 use Rattle.std.proofs.Common.{[], ◌∷◌, ◌++◌}
 use Rattle.std.proofs.lemmas.Result.{err_from_is_err_and}
-use Rattle.links.specs.Told.{declared_by}
+use Rattle.graph.specs.Told.{declared_by}
 use Rattle.builder.proofs.Faults.{well_then}
 use Rattle.builder.proofs.Rounds.{done_there, load_next, halted_there}
 use Rattle.builder.proofs.going.run_and_load.Goals as goal

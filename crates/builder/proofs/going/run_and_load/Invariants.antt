@@ -1,7 +1,7 @@
 use Rattle.std.proofs.Common.{List}
 use Rattle.model.specs.declared.graph.Edge.{Edge}
 use Rattle.model.specs.Phases.{Phase}
-use Rattle.links.specs.Told.{declared_by}
+use Rattle.graph.specs.Told.{declared_by}
 use Rattle.runner.specs.Course.{Course}
 use Rattle.runner.specs.Going.{AreSet}
 use Rattle.builder.specs.Going.{BeginsAt, GoesWell, files_left}

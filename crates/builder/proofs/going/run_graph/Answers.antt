@@ -1,5 +1,5 @@
 use Rattle.model.specs.SingleBuild as answer
-use Rattle.links.specs.Told.{declared_by}
+use Rattle.graph.specs.Told.{declared_by}
 use Rattle.builder.proofs.Closing.{refused_some}
 use Rattle.builder.proofs.Faults.{passes_well, passes_stop, seen_stop}
 use Rattle.builder.proofs.going.run_graph.Goals as goal

@@ -1,6 +1,6 @@
 use Rattle.std.proofs.Common.{◌≡◌, ℕ, List, sym, ◌∙◌, ap, subst}
 use Rattle.paths.specs.Told.{texts_at}
-use Rattle.links.specs.Targets.{IsConeOfNumbers}
+use Rattle.graph.specs.Targets.{IsConeOfNumbers}
 use Rattle.builder.proofs.StopCases.{refused_then}
 use Rattle.builder.proofs.loads.cone_again.Goals as goal
 

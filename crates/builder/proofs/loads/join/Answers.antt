@@ -1,8 +1,8 @@
 use Rattle.std.proofs.Common.{◌≡◌, inl, inr, ◌++◌, ℕ, List, map, sym, ◌∙◌, ap, subst}
 use Rattle.model.specs.Records.{recorded_inputs}
-use Rattle.links.specs.declared.graph.Graph.{Graph}
-use Rattle.links.specs.Extended.{addition_of}
-use Rattle.links.specs.Told.{declared_by}
+use Rattle.graph.specs.declared.graph.Graph.{Graph}
+use Rattle.graph.specs.Extended.{addition_of}
+use Rattle.graph.specs.Told.{declared_by}
 use Rattle.paths.specs.Told.{text_at}
 use Rattle.records.specs.declared.records.Records.{Records}
 use Rattle.records.specs.Known.{IsOf, IsOfDeps, AreKnown}

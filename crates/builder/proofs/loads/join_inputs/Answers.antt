@@ -1,6 +1,6 @@
 use Rattle.std.proofs.Common.{List, sym, subst}
-use Rattle.links.specs.LoadedEdges.{numbers_in}
-use Rattle.links.specs.declared.back.LoadedEdge.{LoadedEdge}
+use Rattle.graph.specs.LoadedEdges.{numbers_in}
+use Rattle.graph.specs.declared.back.LoadedEdge.{LoadedEdge}
 use Rattle.builder.specs.Recorded.{AreToJoin, HasJoinedOf}
 use Rattle.builder.proofs.loads.join_inputs.Goals as goal
 

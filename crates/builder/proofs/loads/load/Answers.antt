@@ -1,8 +1,8 @@
 use Rattle.std.proofs.Common.{inl, inr, refl, sym, subst, List, Ok}
 use Rattle.model.specs.SingleBuild.{asked_with}
-use Rattle.links.specs.declared.graph.Graph.{Graph}
-use Rattle.links.specs.declared.cone.Cone.{Cone}
-use Rattle.links.specs.Told.{declared_by}
+use Rattle.graph.specs.declared.graph.Graph.{Graph}
+use Rattle.graph.specs.declared.cone.Cone.{Cone}
+use Rattle.graph.specs.Told.{declared_by}
 use Rattle.paths.specs.Told.{text_at}
 use Rattle.dyndep.specs.declared.addition.Addition.{Addition as Statement}
 use Rattle.builder.specs.Going.{IfRefused, IsStopped}

@@ -7,7 +7,7 @@ use Rattle.model.specs.Records.{store_in}
 use Rattle.model.specs.SingleBuild.{NamesOther}
 use Rattle.theory.proofs.SiteCalls.{cause_then}
 use Rattle.theory.proofs.Looks.{looks_then}
-use Rattle.links.specs.Told.{declared_by}
+use Rattle.graph.specs.Told.{declared_by}
 use Rattle.manifest.specs.Answer.{IsGraph}
 use Rattle.builder.specs.declared.report.Report.{Report}
 use Rattle.builder.specs.Build.{Builds, asked_of}

@@ -1,7 +1,7 @@
 use Rattle.std.proofs.Common.{List, ℕ, inr, refl, sym, ◌∙◌, subst}
 use Rattle.model.specs.Records.{recorded_inputs}
-use Rattle.links.specs.Targets.{IsConeFor}
-use Rattle.links.specs.Told.{declared_by, recorded_by, AreSameInputs}
+use Rattle.graph.specs.Targets.{IsConeFor}
+use Rattle.graph.specs.Told.{declared_by, recorded_by, AreSameInputs}
 use Rattle.model.specs.declared.graph.BuildGraph.{BuildGraph}
 use Rattle.builder.proofs.one_build.cone_of.Goals as goal
 

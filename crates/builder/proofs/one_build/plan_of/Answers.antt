@@ -1,6 +1,6 @@
 use Rattle.std.proofs.Common.{refl}
 use Rattle.model.specs.SingleBuild.{task_of}
-use Rattle.links.specs.Told.{declared_by}
+use Rattle.graph.specs.Told.{declared_by}
 use Rattle.builder.specs.Build.{asked_of}
 use Rattle.builder.proofs.Slices.{if_ok_and}
 use Rattle.builder.proofs.Telling.{none_of_phony}

@@ -1,8 +1,8 @@
 use Rattle.std.proofs.Common.{[], suc, refl, sym, ◌∙◌, subst}
 use Rattle.model.specs.Graph.{edge_at, outputs}
 use Rattle.model.specs.Records.{all_paths_in}
-use Rattle.links.specs.declared.graph.Graph.{Graph}
-use Rattle.links.specs.Told.{declared_by}
+use Rattle.graph.specs.declared.graph.Graph.{Graph}
+use Rattle.graph.specs.Told.{declared_by}
 use Rattle.records.specs.Known.{AreKnown}
 use Rattle.builder.specs.Recorded.{AreNumbered, HaveJust, texts_of}
 use Rattle.builder.proofs.Joining.{joined_unused, joined_used, others_kept, all_within, numbered_gained}

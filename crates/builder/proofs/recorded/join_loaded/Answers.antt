@@ -1,7 +1,7 @@
 use Rattle.std.proofs.Common.{◌≡◌, ◌<◌, ◌++◌, ℕ, true, List, [], ◌∷◌, take, length, sym, ◌∙◌, ap, subst, arith}
 use Rattle.model.specs.Graph.{has_number}
-use Rattle.links.specs.LoadedEdges.{numbers_in}
-use Rattle.links.specs.declared.back.LoadedEdge.{LoadedEdge}
+use Rattle.graph.specs.LoadedEdges.{numbers_in}
+use Rattle.graph.specs.declared.back.LoadedEdge.{LoadedEdge}
 use Rattle.builder.specs.Recorded.{HasJoinedOf}
 use Rattle.builder.proofs.Joining.{known_more, numbers_next, numbers_at, numbers_whole, may_be_now, joined_push}
 use Rattle.builder.proofs.Numbering.{more_then}

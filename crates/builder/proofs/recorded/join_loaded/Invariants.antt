@@ -1,7 +1,7 @@
 use Rattle.std.proofs.Common.{List, take}
 use Rattle.model.specs.declared.record.Record.{Record}
 use Rattle.model.specs.declared.record.DepsRecord.{DepsRecord}
-use Rattle.links.specs.LoadedEdges.{numbers_in}
+use Rattle.graph.specs.LoadedEdges.{numbers_in}
 use Rattle.records.specs.Known.{AreKnown}
 use Rattle.builder.specs.Recorded.{HasMorePaths, AreNumbered, AreToJoin, HasJoinedOf, texts_of}
 use Rattle.builder.proofs.recorded.join_loaded.Given as goal

@@ -1,6 +1,6 @@
 use Rattle.std.proofs.Common.{◌≡◌, ℕ, length, ap, sym, subst, arith}
-use Rattle.links.specs.declared.graph.Graph.{Graph}
-use Rattle.links.specs.Held.{list_at}
+use Rattle.graph.specs.declared.graph.Graph.{Graph}
+use Rattle.graph.specs.Held.{list_at}
 use Rattle.builder.specs.Recorded.{IsJoined, MayBeJoined, texts_of}
 use Rattle.builder.specs.Reports.{IsUnrecorded}
 use Rattle.builder.proofs.Joining.{joined_none, joined_next, may_be_first, numbered_none, known_more, has_joined}

@@ -1,7 +1,7 @@
 use Rattle.std.proofs.Common.{List, ℕ, Option, None, get_or, ◌∷◌, [], ◌++◌, sym, ◌∙◌, ap, Bor}
 use Rattle.std.specs.Option.{option_map}
 use Rattle.log_text.specs.Kept.{if_some}
-use Rattle.links.proofs.Sets.{inserted}
+use Rattle.graph.proofs.Sets.{inserted}
 use Rattle.builder.specs.Recorded.{texts_of}
 use Rattle.builder.proofs.Numbering.{just_more, just_insert, just_is}
 use Rattle.builder.proofs.recorded.push_input.Goals as goal

@@ -2,7 +2,7 @@ use Rattle.std.proofs.Common.{List, ℕ, Option, Some, None, get_or, sym, ◌∙
 use Rattle.std.specs.Option.{option_copied, option_map}
 use Rattle.log_text.specs.declared.deps.Deps.{Deps}
 use Rattle.log_text.specs.DepsLog.{told_in}
-use Rattle.links.specs.Links.{links_of}
+use Rattle.graph.specs.Links.{links_of}
 use Rattle.builder.specs.Recorded.{texts_of}
 use Rattle.builder.proofs.Joining.{named_too, adds_nothing}
 use Rattle.builder.proofs.Numbering.{just_as, just_is}

@@ -4,7 +4,7 @@ use Rattle.model.specs.Records.{all_paths_in}
 use Rattle.paths.specs.declared.line.Line.{Line}
 use Rattle.paths.specs.Lists.{line_at, line_outputs}
 use Rattle.paths.specs.Told.{texts_at}
-use Rattle.links.specs.Links.{links_of}
+use Rattle.graph.specs.Links.{links_of}
 use Rattle.judge.specs.Facts.{AreKnownOf}
 use Rattle.builder.specs.Recorded.{HaveJust, named_by}
 use Rattle.builder.proofs.Joining.{outputs_known}

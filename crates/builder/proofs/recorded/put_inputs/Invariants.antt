@@ -1,7 +1,7 @@
 use Rattle.std.proofs.Common.{List}
 use Rattle.model.specs.declared.record.Record.{Record}
 use Rattle.model.specs.declared.record.DepsRecord.{DepsRecord}
-use Rattle.links.specs.Links.{links_of}
+use Rattle.graph.specs.Links.{links_of}
 use Rattle.records.specs.Known.{AreKnown}
 use Rattle.builder.specs.Recorded.{HasOnlyMorePaths, AreNumbered, HaveJust, named_by, texts_of}
 use Rattle.builder.proofs.recorded.put_inputs.Given as goal

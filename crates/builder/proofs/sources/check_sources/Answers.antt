@@ -1,6 +1,6 @@
 use Rattle.std.proofs.Common.{IfSome, inr, refl, subst}
 use Rattle.theory.proofs.SiteCalls.{unrefused_call}
-use Rattle.links.specs.Told.{declared_by}
+use Rattle.graph.specs.Told.{declared_by}
 use Rattle.paths.specs.Told.{text_at}
 use Rattle.judge.specs.declared.lack.Found.{Found}
 use Rattle.judge.specs.Lacks.{IsFound, lack_in, IfPresent, HasDue, IsLackOf, IsAskedFor}

@@ -1,7 +1,7 @@
 use Rattle.std.proofs.Common.{ℕ, sym, ◌∙◌, ap, subst, arith}
 use Rattle.std.proofs.lemmas.List.{take_all}
 use Rattle.theory.proofs.SiteCalls.{unrefused_call, unrefused_then}
-use Rattle.links.specs.Links.{links_of}
+use Rattle.graph.specs.Links.{links_of}
 use Rattle.judge.specs.Dues.{is_due_path, IsSourceIn}
 use Rattle.judge.proofs.FilesStay.{looked_then, passed_by, found_one, none_found}
 use Rattle.judge.proofs.aliases.has_due_path.Goals as goal

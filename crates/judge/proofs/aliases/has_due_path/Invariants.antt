@@ -1,7 +1,7 @@
 use Rattle.std.proofs.Common.{◌≡◌, false, take}
 use Rattle.std.specs.List.{list_any}
 use Rattle.theory.specs.Seen.{Unrefused}
-use Rattle.links.specs.Links.{links_of}
+use Rattle.graph.specs.Links.{links_of}
 use Rattle.judge.specs.Looking.{HasLooked}
 use Rattle.judge.specs.Quiet.{IfStill}
 use Rattle.judge.specs.Dues.{is_due_path, AreSourcesIn}

@@ -1,6 +1,6 @@
 use Rattle.std.proofs.Common.{◌≡◌, ◌==◌, ℕ, List, true, false, length, sym, ◌∙◌, ap, subst, rules}
 use Rattle.std.specs.List.{list_any}
-use Rattle.links.specs.Links.{links_of}
+use Rattle.graph.specs.Links.{links_of}
 use Rattle.judge.specs.Facts.{AreIn}
 use Rattle.judge.specs.Dues.{is_absent, is_due_path, AreSourcesIn}
 use Rattle.judge.proofs.AliasDues.{alias_by_outputs, alias_by_inputs}

@@ -1,7 +1,7 @@
 use Rattle.std.proofs.Common.{◌≡◌, [], true, false, suc, refl, sym, ◌∙◌, is_some, rules}
 use Rattle.theory.proofs.Orderly.{kept_orderly}
-use Rattle.links.specs.Links.{links_of}
-use Rattle.links.specs.Told.{declared_by}
+use Rattle.graph.specs.Links.{links_of}
+use Rattle.graph.specs.Told.{declared_by}
 use Rattle.judge.specs.Dues.{reads_due}
 use Rattle.judge.proofs.CommandDues.{due_by_flags, due_by_reason, may_be_judged, reason_then, paths_of_clean}
 use Rattle.judge.proofs.commands.is_command_due.Goals as goal

@@ -6,7 +6,7 @@ use Rattle.model.specs.OutOfDate.{IsDue}
 use Rattle.model.specs.Records.{recorded_inputs}
 use Rattle.theory.specs.Order.{AreMakersFirst}
 use Rattle.theory.proofs.SiteCalls.{unrefused_none, unrefused_call, unrefused_then}
-use Rattle.links.specs.Told.{declared_by}
+use Rattle.graph.specs.Told.{declared_by}
 use Rattle.judge.specs.Dues.{AreDue, AreListed, AreMakersKnown, IsDueEdge}
 use Rattle.judge.proofs.LooksStay.{looked_none}
 use Rattle.judge.proofs.DueEdges.{makers_known, due_one_more, none_due, none_listed, listed_one_more}

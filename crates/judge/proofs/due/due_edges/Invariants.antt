@@ -2,7 +2,7 @@ use Rattle.std.proofs.Common.{◌≡◌, [], ℕ, List, length, take}
 use Rattle.model.specs.Records.{Store}
 use Rattle.model.specs.Schedule.{Step}
 use Rattle.theory.specs.Seen.{Unrefused}
-use Rattle.links.specs.Told.{declared_by}
+use Rattle.graph.specs.Told.{declared_by}
 use Rattle.judge.specs.Looking.{HasLooked}
 use Rattle.judge.specs.Summed.{AreSums}
 use Rattle.judge.specs.Quiet.{IfQuiet}

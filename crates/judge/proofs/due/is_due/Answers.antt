@@ -3,8 +3,8 @@ use Rattle.std.proofs.lemmas.Bool.{false≢true, false_from_ne_true}
 use Rattle.model.specs.Graph.{has_number}
 use Rattle.model.specs.Schedule.{out_of_date_in}
 use Rattle.theory.proofs.Orderly.{kept_orderly}
-use Rattle.links.specs.Links.{links_of}
-use Rattle.links.specs.Told.{declared_by}
+use Rattle.graph.specs.Links.{links_of}
+use Rattle.graph.specs.Told.{declared_by}
 use Rattle.plan.specs.Planned.{standing_in}
 use Rattle.judge.proofs.Summing.{sums_stay}
 use Rattle.judge.specs.UnderWay.{was_due}

@@ -3,7 +3,7 @@ use Rattle.std.specs.List.{flat_map}
 use Rattle.std.proofs.lemmas.List.{take_all}
 use Rattle.theory.proofs.SiteCalls.{unrefused_none, unrefused_call, unrefused_then}
 use Rattle.judge.proofs.LooksStay.{looked_none}
-use Rattle.links.specs.Links.{links_of}
+use Rattle.graph.specs.Links.{links_of}
 use Rattle.judge.specs.Facts.{HasTaken}
 use Rattle.judge.proofs.Reasons.{at_has, within_by}
 use Rattle.judge.proofs.Summing.{taken_none, taken_edge}

@@ -1,6 +1,6 @@
 use Rattle.std.proofs.Common.{take, false}
 use Rattle.std.specs.List.{flat_map}
-use Rattle.links.specs.Links.{links_of}
+use Rattle.graph.specs.Links.{links_of}
 use Rattle.judge.specs.Facts.{HasTaken}
 use Rattle.theory.specs.Seen.{Unrefused}
 use Rattle.judge.specs.Looking.{HasLooked}

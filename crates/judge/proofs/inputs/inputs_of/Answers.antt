@@ -1,5 +1,5 @@
 use Rattle.std.proofs.Common.{◌∷◌, List, ℕ, true, false, length, subst}
-use Rattle.links.specs.Links.{links_of}
+use Rattle.graph.specs.Links.{links_of}
 use Rattle.judge.proofs.LooksStay.{looked_then}
 use Rattle.judge.specs.Facts.{HasTaken}
 use Rattle.judge.specs.Summed.{HasJoined}

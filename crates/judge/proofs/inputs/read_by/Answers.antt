@@ -1,7 +1,7 @@
 use Rattle.std.proofs.Common.{List, ℕ, false, subst, sym, ap, ◌∙◌}
 use Rattle.std.specs.List.{flat_map}
-use Rattle.links.specs.Links.{links_of}
-use Rattle.links.specs.ReadingOf.{edges_in}
+use Rattle.graph.specs.Links.{links_of}
+use Rattle.graph.specs.ReadingOf.{edges_in}
 use Rattle.judge.specs.Facts.{HasTaken}
 use Rattle.judge.specs.Lasting.{read_made}
 use Rattle.judge.proofs.Summing.{sum_taken, lasting_taken, turned}

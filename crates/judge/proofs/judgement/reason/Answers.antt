@@ -3,8 +3,8 @@ use Rattle.model.specs.declared.act.Act.{Act}
 use Rattle.model.specs.declared.graph.Edge.{Edge}
 use Rattle.model.specs.Graph.{edge_at}
 use Rattle.paths.specs.Lists.{line_at}
-use Rattle.links.specs.Links.{links_of}
-use Rattle.links.specs.Told.{declared_by}
+use Rattle.graph.specs.Links.{links_of}
+use Rattle.graph.specs.Told.{declared_by}
 use Rattle.judge.specs.Seen.{AreKept, IfKept}
 use Rattle.judge.specs.Facts.{HasOutputs, HasInputs}
 use Rattle.judge.proofs.Reasons.{within_by}

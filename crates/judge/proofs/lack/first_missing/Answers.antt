@@ -4,7 +4,7 @@ use Rattle.model.specs.Graph.{has_number}
 use Rattle.model.specs.OutOfDate.{NoneIsMissing}
 use Rattle.theory.proofs.SiteCalls.{unrefused_call, unrefused_then}
 use Rattle.paths.specs.Told.{texts_at}
-use Rattle.links.specs.Told.{declared_by}
+use Rattle.graph.specs.Told.{declared_by}
 use Rattle.judge.proofs.Lacking.{missing_passed, missing_found}
 use Rattle.judge.proofs.NumbersAsTexts.{at_has}
 use Rattle.judge.proofs.FilesStay.{looked_then}

@@ -2,7 +2,7 @@ use Rattle.std.proofs.Common.{take}
 use Rattle.theory.specs.Seen.{Unrefused}
 use Rattle.model.specs.OutOfDate.{NoneIsMissing}
 use Rattle.paths.specs.Told.{texts_at}
-use Rattle.links.specs.Told.{declared_by}
+use Rattle.graph.specs.Told.{declared_by}
 use Rattle.judge.specs.Looking.{HasLooked}
 use Rattle.judge.specs.Quiet.{IfStill}
 use Rattle.judge.specs.Dues.{AreSourcesIn}

@@ -1,6 +1,6 @@
 use Rattle.std.proofs.Common.{sym}
 use Rattle.std.proofs.lemmas.Bool.{false≢true}
-use Rattle.links.specs.Told.{declared_by}
+use Rattle.graph.specs.Told.{declared_by}
 use Rattle.judge.proofs.Lacking.{missing_by}
 use Rattle.judge.proofs.NumbersAsTexts.{if_ok_then}
 use Rattle.judge.proofs.lack.is_missing.Goals as goal

@@ -1,5 +1,5 @@
 use Rattle.theory.specs.Seen.{Unrefused}
-use Rattle.links.specs.Told.{declared_by}
+use Rattle.graph.specs.Told.{declared_by}
 use Rattle.judge.specs.Looking.{HasLooked}
 use Rattle.judge.specs.Quiet.{IfStill}
 use Rattle.judge.specs.Lacks.{NoneBelow}

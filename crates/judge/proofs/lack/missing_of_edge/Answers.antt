@@ -1,5 +1,5 @@
 use Rattle.std.proofs.Common.{◌≡◌, List, ℕ, true, length, IfSome, sym, subst, rules}
-use Rattle.links.specs.Links.{links_of}
+use Rattle.graph.specs.Links.{links_of}
 use Rattle.judge.specs.Dues.{due_at, AreSourcesIn}
 use Rattle.judge.specs.Lacks.{IsFirstIn, IsSourceOf}
 use Rattle.judge.proofs.NumbersAsTexts.{within_by, if_ok_then, if_some_so}

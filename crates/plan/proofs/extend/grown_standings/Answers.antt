@@ -1,5 +1,5 @@
 use Rattle.std.proofs.Common.{◌≡◌, ◌∙◌, ℕ, ap, arith}
-use Rattle.links.specs.Links.{links_of}
+use Rattle.graph.specs.Links.{links_of}
 use Rattle.plan.specs.declared.step.Standing.TheVariants.{Outside}
 use Rattle.plan.specs.Standing.{standing_at}
 use Rattle.plan.specs.First.{first_at}

@@ -1,5 +1,5 @@
 use Rattle.std.proofs.Common.{◌≡◌, ◌<◌, ℕ, length}
-use Rattle.links.specs.Links.{links_of}
+use Rattle.graph.specs.Links.{links_of}
 use Rattle.plan.specs.Standing.{standing_at}
 use Rattle.plan.specs.First.{first_at}
 use Rattle.plan.specs.Growing.{grown_of}

@@ -1,6 +1,6 @@
 use Rattle.std.proofs.Common.{◌≡◌, ◌<◌, ℕ, length}
 use Rattle.plan.specs.Flags.{has}
-use Rattle.links.specs.Links.{links_of}
+use Rattle.graph.specs.Links.{links_of}
 use Rattle.plan.specs.Standing.{maker_settled}
 use Rattle.plan.proofs.extend.settled_paths.Given as goal
 

@@ -1,5 +1,5 @@
 use Rattle.std.proofs.Common.{◌≡◌, ◌<◌, ℕ, true, length, get_or, count_by}
-use Rattle.links.specs.Links.{links_of, needs_at}
+use Rattle.graph.specs.Links.{links_of, needs_at}
 use Rattle.plan.specs.Standing.{standing_at, awaits}
 use Rattle.plan.specs.Plan.{is_missing}
 use Rattle.plan.proofs.first.first_counts.Given as goal

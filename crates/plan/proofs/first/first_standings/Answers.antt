@@ -1,6 +1,6 @@
 use Rattle.std.proofs.Common.{◌≡◌, ◌∙◌, ℕ, ap}
 use Rattle.plan.specs.declared.step.Standing.TheVariants.{Outside}
-use Rattle.links.specs.Links.{links_of}
+use Rattle.graph.specs.Links.{links_of}
 use Rattle.plan.specs.First.{first_at}
 use Rattle.plan.proofs.Beginning.{built, longer}
 use Rattle.plan.proofs.first.first_standings.Goals as goal

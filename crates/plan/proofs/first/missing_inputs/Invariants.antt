@@ -1,5 +1,5 @@
 use Rattle.std.proofs.Common.{◌≡◌, ◌≤◌, take, count_by}
-use Rattle.links.specs.Links.{links_of, needs_at}
+use Rattle.graph.specs.Links.{links_of, needs_at}
 use Rattle.plan.specs.Plan.{is_missing}
 use Rattle.plan.proofs.first.missing_inputs.Given as goal
 

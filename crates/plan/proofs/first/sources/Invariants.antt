@@ -1,7 +1,7 @@
 use Rattle.std.proofs.Common.{◌≡◌, ◌<◌, ℕ, length}
 use Rattle.std.specs.Option.{is_none}
 use Rattle.plan.specs.Flags.{has}
-use Rattle.links.specs.Links.{links_of}
+use Rattle.graph.specs.Links.{links_of}
 use Rattle.plan.proofs.first.sources.Given as goal
 
 abbrev pub invariant-loop-place : goal.invariant-loop-place

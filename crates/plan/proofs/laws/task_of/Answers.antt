@@ -12,10 +12,10 @@ use Rattle.paths.specs.declared.manifest.Action.TheVariants as action
 use Rattle.paths.specs.Lists.{line_at}
 use Rattle.paths.specs.Commands.{no_action}
 use Rattle.paths.specs.Told.{edge_of, text_at}
-use Rattle.links.specs.Held.{dyndep_of}
-use Rattle.links.specs.Links.{links_of, is_alias}
-use Rattle.links.specs.Linked.{IsLinksOf}
-use Rattle.links.specs.Told.{declared_by}
+use Rattle.graph.specs.Held.{dyndep_of}
+use Rattle.graph.specs.Links.{links_of, is_alias}
+use Rattle.graph.specs.Linked.{IsLinksOf}
+use Rattle.graph.specs.Told.{declared_by}
 use Rattle.plan.proofs.Loaded.{file_within}
 use Rattle.plan.proofs.Grown.{pool_is}
 use Rattle.plan.proofs.laws.task_of.Goals as goal

@@ -1,5 +1,5 @@
 use Rattle.std.proofs.Common.{refl}
-use Rattle.links.specs.Told.{recorded_by}
+use Rattle.graph.specs.Told.{recorded_by}
 use Rattle.plan_checks.proofs.graphs.cone_of.Goals as goal
 
 pub returns-in-Ok-clause-within : goal.returns-in-Ok-clause-within

@@ -1,7 +1,7 @@
 use Rattle.std.proofs.Common.{◌≡◌, ◌∙◌, ◌∷◌, ◌++◌, [], ℕ, List, length, ap, arith}
 use Rattle.std.proofs.lemmas.List.{length-append}
-use Rattle.links.specs.Links.{links_of}
-use Rattle.links.specs.Cone.{is_listed, mark_at}
+use Rattle.graph.specs.Links.{links_of}
+use Rattle.graph.specs.Cone.{is_listed, mark_at}
 use Rattle.plan.specs.declared.step.Standing.{Standing}
 use Rattle.plan.specs.Standing.{standing_at}
 use Rattle.plan_plain.specs.Planned.{first_standing}

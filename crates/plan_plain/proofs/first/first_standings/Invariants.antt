@@ -1,6 +1,6 @@
 use Rattle.std.proofs.Common.{◌≡◌, ℕ, ◌<◌, length}
-use Rattle.links.specs.Links.{links_of}
-use Rattle.links.specs.Cone.{is_listed, mark_at}
+use Rattle.graph.specs.Links.{links_of}
+use Rattle.graph.specs.Cone.{is_listed, mark_at}
 use Rattle.plan.specs.Standing.{standing_at}
 use Rattle.plan_plain.specs.Planned.{first_standing}
 use Rattle.plan_plain.proofs.first.first_standings.Given as goal

@@ -1,5 +1,5 @@
 use Rattle.std.proofs.Common.{◌≡◌, ◌<◌, ℕ, None}
-use Rattle.links.specs.Extended.{dyndep_at}
+use Rattle.graph.specs.Extended.{dyndep_at}
 use Rattle.plan_plain.proofs.plain.names_none.Given as goal
 
 abbrev pub invariant-loop-place : goal.invariant-loop-place

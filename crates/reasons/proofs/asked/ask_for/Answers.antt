@@ -1,6 +1,6 @@
 use Rattle.std.proofs.Common.{◌<◌, length, subst}
 use Rattle.std.specs.List.{flat_map}
-use Rattle.links.specs.Links.{links_of}
+use Rattle.graph.specs.Links.{links_of}
 use Rattle.reasons.specs.Why.{HaveAsked}
 use Rattle.reasons.proofs.Telling.{asked_later, within_of}
 use Rattle.reasons.proofs.asked.ask_for.Goals as goal

@@ -1,7 +1,7 @@
 use Rattle.std.proofs.Common.{take}
 use Rattle.std.specs.List.{flat_map}
 use Rattle.theory.specs.Seen.{Unrefused}
-use Rattle.links.specs.Links.{links_of}
+use Rattle.graph.specs.Links.{links_of}
 use Rattle.judge.specs.Looking.{HasLooked}
 use Rattle.reasons.specs.Why.{HaveAsked}
 use Rattle.reasons.proofs.asked.ask_regular.Given as goal

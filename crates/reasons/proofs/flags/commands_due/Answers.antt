@@ -1,5 +1,5 @@
 use Rattle.std.proofs.Common.{◌≡◌, ◌∙◌, ◌&&◌, ◌+◌, ◌∷◌, [], ℕ, Bool, List, not, length, sym, ap, subst, arith}
-use Rattle.links.specs.Links.{links_of}
+use Rattle.graph.specs.Links.{links_of}
 use Rattle.judge.specs.Dues.{due_at}
 use Rattle.reasons.specs.Why.{AreCommands}
 use Rattle.reasons.proofs.Telling.{commands_more, one_longer}

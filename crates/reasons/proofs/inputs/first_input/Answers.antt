@@ -1,5 +1,5 @@
 use Rattle.std.proofs.Common.{true, Option, ℕ, sym, ◌∙◌, ap}
-use Rattle.links.specs.Links.{links_of}
+use Rattle.graph.specs.Links.{links_of}
 use Rattle.std.specs.Option.{option_or}
 use Rattle.reasons.specs.Why.{first_of}
 use Rattle.reasons.proofs.inputs.first_input.Goals as goal

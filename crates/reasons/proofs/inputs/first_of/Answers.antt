@@ -1,5 +1,5 @@
 use Rattle.std.proofs.Common.{◌≡◌, ℕ, Bool, true, false, Some, get_or, sym, ◌∙◌, ap, arith}
-use Rattle.links.specs.Links.{links_of}
+use Rattle.graph.specs.Links.{links_of}
 use Rattle.reasons.specs.Why.{is_sought}
 use Rattle.reasons.proofs.Firsts.{found_at, passed_at, none_past}
 use Rattle.reasons.proofs.inputs.first_of.Goals as goal

@@ -1,7 +1,7 @@
 use Rattle.std.proofs.Common.{◌≡◌, ◌<◌, ◌≤◌, ℕ, Bool, true, false, List, Option, is_some, length, get_or, sym, ◌∙◌, ap, subst, arith, rules}
 use Rattle.std.specs.List.{flat_map}
 use Rattle.std.proofs.lemmas.List.{drop_all}
-use Rattle.links.specs.Links.{links_of}
+use Rattle.graph.specs.Links.{links_of}
 use Rattle.reasons.specs.Why.{is_sought, first_of}
 use Rattle.reasons.proofs.Firsts.{at_has, first_step, some_first, none_first}
 use Rattle.reasons.proofs.inputs.first_read.Goals as goal

@@ -1,6 +1,6 @@
 use Rattle.std.proofs.Common.{◌≡◌, ◌∙◌, ℕ, true, List, length, slice_index, subst}
 use Rattle.model.specs.Graph.{has_number}
-use Rattle.links.specs.Links.{links_of}
+use Rattle.graph.specs.Links.{links_of}
 use Rattle.reasons.specs.Order.{listed_below}
 use Rattle.reasons.proofs.Ordering.{at_index, listed_has, same_cone}
 use Rattle.reasons.proofs.order.in_order.Goals as goal

@@ -1,5 +1,5 @@
 use Rattle.std.proofs.Common.{◌≡◌, ◌∙◌, ◌++◌, ◌∷◌, ◌+◌, [], ℕ, suc, List, if◌then◌else◌, ap, arith}
-use Rattle.links.specs.Cone.{is_listed, mark_at}
+use Rattle.graph.specs.Cone.{is_listed, mark_at}
 use Rattle.reasons.specs.Order.{listed_below}
 use Rattle.reasons.proofs.order.listed_edges.Goals as goal
 

@@ -2,7 +2,7 @@ use Rattle.std.proofs.Common.{sym, ap, ◌∙◌}
 use Rattle.std.proofs.lemmas.Bool.{false≢true}
 use Rattle.paths.specs.Lists.{line_at}
 use Rattle.paths.specs.Told.{edge_of}
-use Rattle.links.specs.Links.{is_alias}
+use Rattle.graph.specs.Links.{is_alias}
 use Rattle.reasons.proofs.told.command_of.Goals as goal
 
 pub unreachable-requires : goal.unreachable-requires

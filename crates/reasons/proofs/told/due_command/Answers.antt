@@ -1,5 +1,5 @@
 use Rattle.std.proofs.Common.{[], length, sym, subst}
-use Rattle.links.specs.ReadingOf.{IsReadingOf, edges_in}
+use Rattle.graph.specs.ReadingOf.{IsReadingOf, edges_in}
 use Rattle.judge.proofs.LooksStay.{looked_none}
 use Rattle.judge.proofs.Summing.{sums_stay}
 use Rattle.reasons.proofs.Telling.{within_of}

@@ -2,7 +2,7 @@ use Rattle.std.proofs.Common.{sym, ◌∙◌, suc, get_or}
 use Rattle.model.specs.Graph.{edge_at}
 use Rattle.paths.specs.Lists.{line_at}
 use Rattle.paths.specs.Commands.{no_action}
-use Rattle.links.specs.Told.{declared_by}
+use Rattle.graph.specs.Told.{declared_by}
 use Rattle.records.proofs.Places.{no_alias, act_is}
 use Rattle.records.proofs.lines.act_of.Goals as goal
 

@@ -1,6 +1,6 @@
 use Rattle.std.proofs.Common.{sym, ap, subst, ◌∙◌, ℕ, List, map, suc}
 use Rattle.log_text.specs.Kept.{AreDistinct}
-use Rattle.links.specs.Told.{declared_by}
+use Rattle.graph.specs.Told.{declared_by}
 use Rattle.records.proofs.Distinct.{distinct}
 use Rattle.records.proofs.lines.deps_line_of.Goals as goal
 

@@ -4,7 +4,7 @@ use Rattle.model.specs.Graph.{edge_at}
 use Rattle.paths.specs.Lists.{line_at}
 use Rattle.paths.specs.Commands.{no_action}
 use Rattle.paths.specs.Told.{text_at, texts_at}
-use Rattle.links.specs.Told.{declared_by}
+use Rattle.graph.specs.Told.{declared_by}
 use Rattle.records.proofs.Places.{map_next, edge_outputs}
 use Rattle.records.proofs.lines.output_texts.Goals as goal
 

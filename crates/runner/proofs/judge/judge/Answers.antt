@@ -1,7 +1,7 @@
 use Rattle.std.proofs.Common.{suc, true, List, Bool, sym, ap, ◌∙◌, subst}
 use Rattle.model.specs.declared.record.Record.{Record}
 use Rattle.model.specs.declared.record.DepsRecord.{DepsRecord}
-use Rattle.links.specs.Told.{declared_by}
+use Rattle.graph.specs.Told.{declared_by}
 use Rattle.judge.specs.Seen.{IfKept}
 use Rattle.judge.proofs.LooksStay.{looked_then}
 use Rattle.plan.specs.Planned.{is_stale}

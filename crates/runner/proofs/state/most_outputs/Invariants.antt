@@ -1,5 +1,5 @@
 use Rattle.std.proofs.Common.{ℕ, ◌<◌, ◌≤◌, length}
-use Rattle.links.specs.Links.{links_of}
+use Rattle.graph.specs.Links.{links_of}
 use Rattle.runner.proofs.state.most_outputs.Given as goal
 
 abbrev pub invariant-loop-place : goal.invariant-loop-place

@@ -1,6 +1,6 @@
 use Rattle.std.proofs.Common.{ℕ, List, length, refl, ap, ◌∙◌}
 use Rattle.model.specs.Graph.{has_number}
-use Rattle.links.specs.Links.{links_of}
+use Rattle.graph.specs.Links.{links_of}
 use Rattle.runner.proofs.Work.{finished_less}
 use Rattle.runner.proofs.Noting.{flags_set, flags_kept, edge_within}
 use Rattle.runner.proofs.taken.note_all.Goals as goal

@@ -1,5 +1,5 @@
 use Rattle.std.proofs.Common.{true}
-use Rattle.links.specs.Links.{links_of}
+use Rattle.graph.specs.Links.{links_of}
 use Rattle.runner.proofs.Comparing.{flags_compared}
 use Rattle.runner.proofs.Noting.{flags_kept}
 use Rattle.runner.proofs.Work.{finished_less}

@@ -2,7 +2,7 @@ use Rattle.std.proofs.Common.{Bool, sym, ◌∙◌, suc, refl, subst}
 use Rattle.std.proofs.lemmas.Bool.{and_left, and_right}
 use Rattle.model.specs.Graph.{edge_at}
 use Rattle.model.specs.Schedule.{Ended as Finished}
-use Rattle.links.specs.Told.{declared_by}
+use Rattle.graph.specs.Told.{declared_by}
 use Rattle.plan.specs.Planned.{TakesStep}
 use Rattle.runner.proofs.Comparing.{ended_compared, ended_all}
 use Rattle.runner.proofs.Results.{ok_then₃}

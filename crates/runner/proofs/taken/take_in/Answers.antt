@@ -1,5 +1,5 @@
 use Rattle.std.proofs.Common.{◌≡◌, ℕ, suc, None, Vec, Global, inl, refl, sym, ◌∙◌, ap, subst, arith}
-use Rattle.links.specs.Told.{declared_by}
+use Rattle.graph.specs.Told.{declared_by}
 use Rattle.model.specs.declared.act.Act.{Act}
 use Rattle.model.specs.declared.graph.BuildGraph.{BuildGraph}
 use Rattle.model.specs.Calls.{Finishes}

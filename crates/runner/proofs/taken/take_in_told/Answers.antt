@@ -1,5 +1,5 @@
 use Rattle.std.proofs.Common.{suc, None, refl, sym, subst, ◌∙◌}
-use Rattle.links.specs.Told.{declared_by}
+use Rattle.graph.specs.Told.{declared_by}
 use Rattle.model.specs.Graph.{edge_at}
 use Rattle.runner.proofs.Ends.{cut_looking}
 use Rattle.runner.proofs.Finishing.{ending_stands, ending_command, ending_cut, ending_taken}

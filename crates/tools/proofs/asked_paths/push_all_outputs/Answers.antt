@@ -1,6 +1,6 @@
 use Rattle.std.proofs.Common.{ℕ, List, codes, sym, ap, ◌∙◌, subst, string_bytes, take}
 use Rattle.std.proofs.lemmas.List.{take_all}
-use Rattle.links.specs.Links.{links_of}
+use Rattle.graph.specs.Links.{links_of}
 use Rattle.tools.specs.Answers.{Puts, marked, outputs_of}
 use Rattle.tools.proofs.Putting.{flat_next, puts_none, puts_then}
 use Rattle.tools.proofs.asked_paths.push_all_outputs.Goals as goal

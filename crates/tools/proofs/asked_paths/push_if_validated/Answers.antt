@@ -1,7 +1,7 @@
 use Rattle.std.proofs.Common.{◌≡◌, ◌++◌, ℕ, List, true, false, Bool, sym, ap, ◌∙◌}
 use Rattle.std.proofs.lemmas.List.{append-nil}
 use Rattle.model.specs.Graph.{has_number}
-use Rattle.links.specs.Links.{links_of}
+use Rattle.graph.specs.Links.{links_of}
 use Rattle.tools.proofs.Putting.{any_has, filter_one_no, filter_one_yes}
 use Rattle.tools.proofs.asked_paths.push_if_validated.Goals as goal
 

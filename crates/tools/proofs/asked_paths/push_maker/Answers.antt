@@ -1,5 +1,5 @@
 use Rattle.std.proofs.Common.{◌∷◌, ◌++◌, [], ℕ, List, codes, refl, subst, string_bytes}
-use Rattle.links.specs.Links.{links_of}
+use Rattle.graph.specs.Links.{links_of}
 use Rattle.paths.specs.Lists.{line_at}
 use Rattle.tools.specs.Answers.{Puts, if_some, marked}
 use Rattle.tools.specs.Files.{rule_of}

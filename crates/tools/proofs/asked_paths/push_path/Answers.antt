@@ -1,5 +1,5 @@
 use Rattle.std.proofs.Common.{◌∷◌, ◌++◌, [], ℕ, List, codes, refl, ◌∙◌, subst, string_bytes}
-use Rattle.links.specs.Links.{links_of, users_at}
+use Rattle.graph.specs.Links.{links_of, users_at}
 use Rattle.tools.specs.Answers.{Puts, if_some, maker_lines, outputs_of, path_text, validated_by}
 use Rattle.tools.proofs.Putting.{on_ok, one_part, puts_then, two_parts}
 use Rattle.tools.proofs.asked_paths.push_path.Goals as goal

@@ -1,7 +1,7 @@
 use Rattle.std.proofs.Common.{◌≡◌, filter}
 use Rattle.std.specs.List.{range_with_len}
 use Rattle.model.specs.Graph.{has_number}
-use Rattle.links.specs.Links.{links_of}
+use Rattle.graph.specs.Links.{links_of}
 use Rattle.tools.proofs.asked_paths.validated_by.Given as goal
 
 abbrev pub invariant-loop-place : goal.invariant-loop-place

@@ -1,6 +1,6 @@
 use Rattle.std.proofs.Common.{[], ℕ, List, map, sym, subst, string_bytes}
 use Rattle.std.specs.List.{flat_map, range_with_len}
-use Rattle.links.specs.Links.{links_of}
+use Rattle.graph.specs.Links.{links_of}
 use Rattle.tools.specs.Answers.{Puts, with_rule}
 use Rattle.tools.proofs.Putting.{flat_counted, puts_then}
 use Rattle.tools.proofs.listing.all.Goals as goal

@@ -1,6 +1,6 @@
 use Rattle.std.proofs.Common.{◌≡◌, ◌++◌, [], ℕ, Bool, true, false, List, if◌then◌else◌, map, ap, sym, ◌∙◌, append-nil, bytes_eq}
 use Rattle.std.specs.Map.Iter.{deref}
-use Rattle.links.specs.Links.{links_of}
+use Rattle.graph.specs.Links.{links_of}
 use Rattle.paths.specs.Told.{texts_at}
 use Rattle.tools.specs.Answers.{outputs_of_rule}
 use Rattle.tools.specs.Files.{rule_of}

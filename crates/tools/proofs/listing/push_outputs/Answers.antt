@@ -1,6 +1,6 @@
 use Rattle.std.proofs.Common.{◌≡◌, ◌<◌, ℕ, List, codes, ◌∷◌, [], get_or, length, map, refl, string_bytes, subst, sym, take}
 use Rattle.std.proofs.lemmas.List.{take_all}
-use Rattle.links.specs.Links.{links_of}
+use Rattle.graph.specs.Links.{links_of}
 use Rattle.tools.specs.Answers.{Puts, path_text, with_rule}
 use Rattle.tools.specs.Files.{rule_of}
 use Rattle.tools.proofs.Putting.{map_next, puts_none, puts_then, three_parts}

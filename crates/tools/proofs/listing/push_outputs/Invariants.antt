@@ -1,5 +1,5 @@
 use Rattle.std.proofs.Common.{map, take, string_bytes}
-use Rattle.links.specs.Links.{links_of}
+use Rattle.graph.specs.Links.{links_of}
 use Rattle.tools.specs.Answers.{Puts, with_rule}
 use Rattle.tools.proofs.listing.push_outputs.Given as goal
 

@@ -1,5 +1,5 @@
 use Rattle.std.proofs.Common.{[], ◌∷◌, ℕ, List, None, Some, Option, is_none, map, filter, cond, Bool, sym, ap, ◌∙◌, subst, string_bytes}
-use Rattle.links.specs.Links.{links_of}
+use Rattle.graph.specs.Links.{links_of}
 use Rattle.paths.specs.Told.{texts_at, text_at}
 use Rattle.tools.specs.Answers.{Puts}
 use Rattle.tools.proofs.Putting.{filter_one_yes, filter_one_no, on_ok, one_part, puts_none}

@@ -1,6 +1,6 @@
 use Rattle.std.proofs.Common.{[], ◌∷◌, ℕ, List, filter, is_none, map, sym, ap, ◌∙◌, subst, string_bytes, take}
 use Rattle.std.proofs.lemmas.List.{map-append, take_all}
-use Rattle.links.specs.Links.{links_of}
+use Rattle.graph.specs.Links.{links_of}
 use Rattle.paths.specs.Told.{text_at, texts_at}
 use Rattle.tools.specs.Answers.{Puts}
 use Rattle.tools.proofs.Putting.{filter_next, puts_none, puts_then}

@@ -1,5 +1,5 @@
 use Rattle.std.proofs.Common.{filter, is_none, take, string_bytes}
-use Rattle.links.specs.Links.{links_of}
+use Rattle.graph.specs.Links.{links_of}
 use Rattle.paths.specs.Told.{texts_at}
 use Rattle.tools.specs.Answers.{Puts}
 use Rattle.tools.proofs.listing.push_sources.Given as goal

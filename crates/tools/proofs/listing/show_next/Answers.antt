@@ -1,5 +1,5 @@
 use Rattle.std.proofs.Common.{◌≡◌, ◌∷◌, [], ℕ, List, length, arith, refl, string_bytes, subst}
-use Rattle.links.specs.Links.{links_of}
+use Rattle.graph.specs.Links.{links_of}
 use Rattle.tools.specs.Answers.{Puts}
 use Rattle.tools.specs.Showing.{Opens, head_line}
 use Rattle.tools.specs.declared.listing.Level.{Level}

@@ -1,7 +1,7 @@
 use Rattle.std.proofs.Common.{[], ℕ, List, filter, is_none, map, sym, ap, ◌∙◌, subst, string_bytes}
 use Rattle.std.specs.List.{flat_map, range_with_len}
 use Rattle.std.proofs.lemmas.List.{map-append}
-use Rattle.links.specs.Links.{links_of}
+use Rattle.graph.specs.Links.{links_of}
 use Rattle.tools.specs.Answers.{Puts, path_text}
 use Rattle.tools.proofs.Putting.{filter-append, flat_counted, puts_then}
 use Rattle.tools.proofs.listing.sources.Goals as goal

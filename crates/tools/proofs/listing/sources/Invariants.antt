@@ -1,6 +1,6 @@
 use Rattle.std.proofs.Common.{◌≡◌, filter, is_none, map, string_bytes}
 use Rattle.std.specs.List.{flat_map, range_with_len}
-use Rattle.links.specs.Links.{links_of}
+use Rattle.graph.specs.Links.{links_of}
 use Rattle.tools.specs.Answers.{lines, path_text}
 use Rattle.tools.proofs.listing.sources.Given as goal
 

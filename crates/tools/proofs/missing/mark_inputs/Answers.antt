@@ -2,7 +2,7 @@ use Rattle.std.proofs.Common.{◌≡◌, ◌<◌, ◌||◌, ℕ, List, false, ge
 use Rattle.std.specs.List.{flat_map}
 use Rattle.std.proofs.lemmas.List.{take_all}
 use Rattle.model.specs.Graph.{has_number}
-use Rattle.links.specs.Links.{links_of}
+use Rattle.graph.specs.Links.{links_of}
 use Rattle.tools.proofs.NamedAbove.{marks_first, marks_more}
 use Rattle.tools.proofs.missing.mark_inputs.Goals as goal
 

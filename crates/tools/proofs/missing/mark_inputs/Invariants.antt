@@ -1,7 +1,7 @@
 use Rattle.std.proofs.Common.{◌≡◌, ◌<◌, ◌||◌, ℕ, false, get_or, length, take}
 use Rattle.std.specs.List.{flat_map}
 use Rattle.model.specs.Graph.{has_number}
-use Rattle.links.specs.Links.{links_of}
+use Rattle.graph.specs.Links.{links_of}
 use Rattle.tools.proofs.missing.mark_inputs.Given as goal
 
 abbrev pub invariant-loop-edge : goal.invariant-loop-edge

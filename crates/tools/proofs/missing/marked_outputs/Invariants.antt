@@ -1,6 +1,6 @@
 use Rattle.std.proofs.Common.{◌≡◌, false, filter, get_or, take}
 use Rattle.std.specs.List.{flat_map}
-use Rattle.links.specs.Links.{links_of}
+use Rattle.graph.specs.Links.{links_of}
 use Rattle.tools.proofs.missing.marked_outputs.Given as goal
 
 abbrev pub invariant-loop-edge : goal.invariant-loop-edge

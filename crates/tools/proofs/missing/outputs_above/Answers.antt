@@ -1,6 +1,6 @@
 use Rattle.std.proofs.Common.{◌≡◌, ℕ, Bool, false, List, filter, get_or, ap, subst, ◌∙◌}
 use Rattle.std.specs.List.{flat_map}
-use Rattle.links.specs.Links.{links_of}
+use Rattle.graph.specs.Links.{links_of}
 use Rattle.tools.specs.Above.{AreNamedBy}
 use Rattle.tools.proofs.NamedAbove.{named_made}
 use Rattle.tools.proofs.Putting.{if_ok_then}

@@ -1,5 +1,5 @@
 use Rattle.std.proofs.Common.{subst, sym}
-use Rattle.links.specs.declared.graph.Graph.{Graph}
+use Rattle.graph.specs.declared.graph.Graph.{Graph}
 use Rattle.tools.specs.Joined.{KeepsEdges}
 use Rattle.tools.proofs.Logging.{keeps_none, keeps_numbered, keeps_then}
 use Rattle.tools.proofs.recorded.join_paths.Goals as goal

@@ -1,6 +1,6 @@
 use Rattle.std.proofs.Common.{◌∙◌, suc}
 use Rattle.model.specs.Graph.{edge_at}
-use Rattle.links.specs.Told.{declared_by}
+use Rattle.graph.specs.Told.{declared_by}
 use Rattle.display.proofs.Steps.{silent_end}
 use Rattle.display.proofs.display.Display.end.Goals as goal
 

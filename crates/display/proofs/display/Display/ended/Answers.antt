@@ -1,6 +1,6 @@
 use Rattle.std.proofs.Common.{◌∙◌, sym, subst, suc}
 use Rattle.model.specs.Graph.{edge_at}
-use Rattle.links.specs.Told.{declared_by}
+use Rattle.graph.specs.Told.{declared_by}
 use Rattle.display.specs.Shown.{Showing, AreCounts}
 use Rattle.display.proofs.Steps.{both_ok, ends_at_terminal, ends_among_others}
 use Rattle.display.proofs.display.Display.ended.Goals as goal

@@ -1,7 +1,7 @@
 use Rattle.std.proofs.Common.{List, Bool, suc}
 use Rattle.status.specs.declared.part.Part.{Part}
 use Rattle.model.specs.Graph.{edge_at}
-use Rattle.links.specs.Told.{declared_by}
+use Rattle.graph.specs.Told.{declared_by}
 use Rattle.display.specs.Shown.{command_line}
 use Rattle.display.proofs.Steps.{counted_at_start, held_behind}
 use Rattle.display.proofs.display.Display.start.Goals as goal

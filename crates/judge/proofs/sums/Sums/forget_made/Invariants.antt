@@ -1,5 +1,5 @@
 use Rattle.std.proofs.Common.{List, Bool, length}
-use Rattle.links.specs.declared.graph.Graph.{Graph}
+use Rattle.graph.specs.declared.graph.Graph.{Graph}
 use Rattle.judge.specs.declared.looks.Look.{Look}
 use Rattle.judge.specs.Lasting.{AreMarked}
 use Rattle.judge.proofs.sums.Sums.forget_made.Given as goal

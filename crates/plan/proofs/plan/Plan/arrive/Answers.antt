@@ -1,7 +1,7 @@
 use Rattle.std.proofs.Common.{◌≡◌, ◌∙◌, ℕ, ◌+◌, ◌<◌, Bool, true, false, cond, List, length, get_or, take, sym, ap, subst, arith}
 use Rattle.plan.specs.Flags.{has}
-use Rattle.links.specs.Held.{times}
-use Rattle.links.specs.Links.{links_of, needs_at}
+use Rattle.graph.specs.Held.{times}
+use Rattle.graph.specs.Links.{links_of, needs_at}
 use Rattle.plan.specs.declared.step.Standing.{Standing}
 use Rattle.plan.specs.Standing.{standing_at, awaits}
 use Rattle.plan.specs.Settling.{IsCounted, lowered}

@@ -1,5 +1,5 @@
 use Rattle.std.proofs.Common.{length, take}
-use Rattle.links.specs.Links.{links_of}
+use Rattle.graph.specs.Links.{links_of}
 use Rattle.plan.specs.Settling.{IsCounted}
 use Rattle.plan.specs.Settling.{IsStill}
 use Rattle.plan.proofs.Arriving.{HaveCome}

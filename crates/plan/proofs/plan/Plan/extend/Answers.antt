@@ -1,6 +1,6 @@
 use Rattle.std.proofs.Common.{◌≡◌, ◌∙◌, ℕ, List, Bool, length, sym, ap, subst, arith}
 use Rattle.model.specs.Schedule.{done_in}
-use Rattle.links.specs.Links.{links_of}
+use Rattle.graph.specs.Links.{links_of}
 use Rattle.plan.specs.declared.step.Standing.{Standing}
 use Rattle.plan.specs.Plan.{IsReady}
 use Rattle.plan.specs.First.{AreCounts}

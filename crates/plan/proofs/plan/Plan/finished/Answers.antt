@@ -4,7 +4,7 @@ use Rattle.std.proofs.lemmas.Bool.{false≢true}
 use Rattle.std.proofs.lemmas.List.{with_items_is}
 use Rattle.model.specs.Schedule.{Ended, done_in}
 use Rattle.plan.specs.Turns.{Turns}
-use Rattle.links.specs.Links.{links_of}
+use Rattle.graph.specs.Links.{links_of}
 use Rattle.plan.specs.declared.step.Standing.TheVariants.{Well, Failed}
 use Rattle.plan.specs.Standing.{is_unjudged, is_alias, is_out_of_date, is_outside, is_settled}
 use Rattle.plan.specs.Plan.{standing_after, IsSettling}

@@ -3,7 +3,7 @@ use Rattle.std.proofs.Math.ListN.{set}
 use Rattle.std.proofs.lemmas.Bool.{false≢true}
 use Rattle.model.specs.Schedule.{Judged, done_in}
 use Rattle.plan.specs.Turns.{Turns}
-use Rattle.links.specs.Links.{links_of}
+use Rattle.graph.specs.Links.{links_of}
 use Rattle.plan.specs.declared.step.Standing.TheVariants.{Clean, OutOfDate}
 use Rattle.plan.specs.declared.step.Verdict.{Verdict}
 use Rattle.plan.specs.Standing.{is_out_of_date, is_outside, is_settled}

@@ -1,7 +1,7 @@
 use Rattle.std.proofs.Common.{◌≡◌, ℕ, suc, List, true, length, count_by}
 use Rattle.model.specs.Graph.{edge_at}
 use Rattle.model.specs.Schedule.{Task}
-use Rattle.links.specs.Links.{links_of}
+use Rattle.graph.specs.Links.{links_of}
 use Rattle.plan.specs.declared.step.Standing.TheVariants.{Alias}
 use Rattle.plan.specs.Standing.{standing_at, is_alias}
 use Rattle.plan.specs.Plan.{IsOver}

@@ -1,7 +1,7 @@
 use Rattle.std.proofs.Common.{false, refl, sym, ap}
 use Rattle.std.proofs.lemmas.Bool.{false≢true}
 use Rattle.plan.specs.Turns.{Turns}
-use Rattle.links.specs.Links.{links_of}
+use Rattle.graph.specs.Links.{links_of}
 use Rattle.plan.specs.declared.step.Standing.TheVariants.{Running}
 use Rattle.plan.specs.Standing.{is_unjudged, is_alias, is_outside, is_settled}
 use Rattle.plan.proofs.Stepping.{sets_same, waits_next, over_same, half_of}

@@ -1,5 +1,5 @@
 use Rattle.std.proofs.Common.{◌≡◌, ℕ, ◌<◌, false}
-use Rattle.links.specs.Links.{links_of}
+use Rattle.graph.specs.Links.{links_of}
 use Rattle.plan_plain.specs.Scan.{may_settle}
 use Rattle.plan_plain.proofs.plain.Plan.first_to_settle.Given as goal
 

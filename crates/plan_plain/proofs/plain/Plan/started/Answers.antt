@@ -1,6 +1,6 @@
 use Rattle.std.proofs.Common.{◌∙◌, sym, ap}
 use Rattle.std.proofs.lemmas.List.{length-set}
-use Rattle.links.specs.Links.{links_of}
+use Rattle.graph.specs.Links.{links_of}
 use Rattle.plan.specs.declared.step.Standing.TheVariants.{OutOfDate, Running}
 use Rattle.plan.specs.Standing.{is_alias, is_settled}
 use Rattle.plan_plain.proofs.Stood.{none_same}

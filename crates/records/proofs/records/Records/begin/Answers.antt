@@ -4,7 +4,7 @@ use Rattle.model.specs.Graph.{edge_at, outputs}
 use Rattle.log_text.specs.declared.form.Version.TheVariants.{Two}
 use Rattle.log_text.specs.Form.{IsLineOf}
 use Rattle.log_text.specs.BuildRecord.{forms}
-use Rattle.links.specs.Told.{declared_by}
+use Rattle.graph.specs.Told.{declared_by}
 use Rattle.records.proofs.Results.{on_err}
 use Rattle.records.proofs.Putting.{build_carried}
 use Rattle.records.proofs.Standing.{begun_ok, begun_err}

@@ -4,7 +4,7 @@ use Rattle.log_text.specs.Form.{IsLineOf}
 use Rattle.log_text.specs.Found.{texts_in}
 use Rattle.log_text.specs.DepsRecordLine.{forms}
 use Rattle.records.specs.Logging.{deps_of}
-use Rattle.links.specs.Told.{declared_by}
+use Rattle.graph.specs.Told.{declared_by}
 use Rattle.records.proofs.Results.{on_err}
 use Rattle.records.proofs.Putting.{deps_carried}
 use Rattle.records.proofs.Standing.{report_ok, report_err}

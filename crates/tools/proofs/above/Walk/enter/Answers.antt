@@ -1,5 +1,5 @@
 use Rattle.std.proofs.Common.{ℕ, Option, sym, subst}
-use Rattle.links.specs.Cone.{maker_seen}
+use Rattle.graph.specs.Cone.{maker_seen}
 use Rattle.tools.proofs.Putting.{on_ok}
 use Rattle.tools.proofs.above.Walk.enter.Goals as goal
 

@@ -1,4 +1,4 @@
-use Rattle.links.specs.Cone.{Keeps}
+use Rattle.graph.specs.Cone.{Keeps}
 use Rattle.tools.specs.Rising.{IsRise, work}
 use Rattle.tools.proofs.above.Walk.finish.Given as goal
 

@@ -1,7 +1,7 @@
 use Rattle.std.proofs.Common.{◌≡◌, ℕ, ◌-◌, List, [], ◌∷◌, ◌++◌, length, take, arith, sym, ◌∙◌, ap, subst}
 use Rattle.std.proofs.Math.ListN.{set}
-use Rattle.links.specs.Links.{links_of}
-use Rattle.links.specs.declared.cone.Mark.TheVariants.{Listed}
+use Rattle.graph.specs.Links.{links_of}
+use Rattle.graph.specs.declared.cone.Mark.TheVariants.{Listed}
 use Rattle.tools.specs.Rising.{IsRiseAt}
 use Rattle.tools.proofs.Rises.{rise_list}
 use Rattle.tools.proofs.above.Walk.list.Goals as goal

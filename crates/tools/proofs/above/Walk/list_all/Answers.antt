@@ -1,9 +1,9 @@
 use Rattle.std.proofs.Common.{◌≡◌, ℕ, List, true, ap, arith, sym, subst, ◌∙◌, slice_index}
 use Rattle.std.proofs.lemmas.List.{get_or_default}
 use Rattle.model.specs.Graph.{has_number}
-use Rattle.links.specs.Cone.{maker_seen}
-use Rattle.links.specs.Links.{Links, links_of}
-use Rattle.links.specs.declared.graph.Graph.{Graph}
+use Rattle.graph.specs.Cone.{maker_seen}
+use Rattle.graph.specs.Links.{Links, links_of}
+use Rattle.graph.specs.declared.graph.Graph.{Graph}
 use Rattle.tools.specs.Rising.{IsRise}
 use Rattle.tools.proofs.Rises.{has_at, asked_next, asked_all, rise_end}
 use Rattle.tools.proofs.above.Walk.list_all.Goals as goal

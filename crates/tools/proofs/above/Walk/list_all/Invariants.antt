@@ -1,6 +1,6 @@
 use Rattle.std.proofs.Common.{◌≡◌, ℕ, ◌<◌, length, slice_index}
-use Rattle.links.specs.Cone.{maker_seen}
-use Rattle.links.specs.Links.{links_of}
+use Rattle.graph.specs.Cone.{maker_seen}
+use Rattle.graph.specs.Links.{links_of}
 use Rattle.tools.specs.Rising.{IsRise}
 use Rattle.tools.proofs.above.Walk.list_all.Given as goal
 

@@ -1,5 +1,5 @@
 use Rattle.std.proofs.Common.{arith}
-use Rattle.links.specs.Links.{links_of}
+use Rattle.graph.specs.Links.{links_of}
 use Rattle.tools.specs.Above.{Makes}
 use Rattle.tools.proofs.Putting.{on_ok}
 use Rattle.tools.proofs.Rises.{seen_kept}

@@ -1,6 +1,6 @@
 use Rattle.std.proofs.Common.{ℕ, ◌<◌, List, length, slice_index, ap, sym, subst}
-use Rattle.links.specs.Links.{links_of}
-use Rattle.links.specs.declared.graph.Graph.{Graph}
+use Rattle.graph.specs.Links.{links_of}
+use Rattle.graph.specs.declared.graph.Graph.{Graph}
 use Rattle.tools.proofs.Rises.{last_within, next_needed, next_awaited, next_seen}
 use Rattle.tools.proofs.above.Walk.look.Goals as goal
 

@@ -1,7 +1,7 @@
 use Rattle.std.proofs.Common.{ℕ, ◌++◌, ◌∷◌, [], List, arith, sym, subst}
 use Rattle.std.proofs.Math.ListN.{set}
-use Rattle.links.specs.Links.{links_of}
-use Rattle.links.specs.declared.cone.Mark.TheVariants.{Open}
+use Rattle.graph.specs.Links.{links_of}
+use Rattle.graph.specs.declared.cone.Mark.TheVariants.{Open}
 use Rattle.tools.specs.Rising.{IsRiseAt}
 use Rattle.tools.proofs.Rises.{rise_open}
 use Rattle.tools.proofs.above.Walk.open.Goals as goal

@@ -1,4 +1,4 @@
-use Rattle.links.specs.Links.{links_of}
+use Rattle.graph.specs.Links.{links_of}
 use Rattle.tools.proofs.Rises.{last_within}
 use Rattle.tools.proofs.above.Walk.step.Goals as goal
 

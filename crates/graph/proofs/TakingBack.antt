@@ -1,0 +1,154 @@
+-- How the load of a dyndep file is taken back.
+use Rattle.std.proofs.Common.{◌≡◌, ◌⊎◌, inl, inr, ℕ, zero, suc, ◌<◌, ◌≤◌, ◌^◌, ◌||◌, Bool, true, false, List, [], ◌∷◌, ◌++◌, Option, Some, None, map, length, get_or, slice_get, take, drop, refl, sym, ◌∙◌, ap, subst, arith, append_assoc}
+use Rattle.std.specs.Option.{is_some}
+use Rattle.std.proofs.Math.Seq.{take-append_seam}
+use Rattle.std.proofs.lemmas.Bool.{cases_Bool, cases_lt, false≢true, false_from_ne_true}
+use Rattle.std.proofs.lemmas.List.{get_or_past}
+use Rattle.model.specs.Graph.{has_number, edge_at, Addition}
+use Rattle.paths.specs.declared.line.Line.{Line}
+use Rattle.paths.specs.declared.manifest.Action.{Action}
+use Rattle.paths.specs.declared.manifest.Action.TheVariants.{Alias, Command}
+use Rattle.paths.specs.declared.manifest.Command.{Command as Does}
+use Rattle.paths.specs.declared.manifest.Manifest.{Manifest}
+use Rattle.paths.specs.Commands.{no_action}
+use Rattle.paths.specs.Told.{text_at}
+use Rattle.graph.specs.declared.back.Before.{Before}
+use Rattle.graph.specs.declared.back.LoadedEdge.{LoadedEdge}
+use Rattle.graph.specs.declared.graph.Graph.{Graph}
+use Rattle.graph.specs.Held.{list_at, dyndep_of}
+use Rattle.graph.specs.Extended.{dyndep_at}
+use Rattle.graph.specs.LoadedEdges.{numbers_in}
+use Rattle.graph.specs.Statements.{is_place, action_at, action_with, loaded_action, addition_at, owner_in, owners_of, IsChoice, IsFirstOf, AreChosen, AreLoadedActions, HasMore}
+use Rattle.graph.specs.Told.{declared_by}
+use Rattle.graph.specs.Back.{has_restat, undone, IsLoadedEdge, AreLoadedEdges, AreUndoneBy, IsManifestBefore, Undoes, HasGainedAt, MayBeTakenBack}
+use Rattle.graph.proofs.Choosing.{owner_some, is_at, place_is, names_number, named_within}
+use Rattle.graph.proofs.Places.{map_get}
+use Rattle.graph.proofs.Undoing.{number_there, number_at, forgotten_is}
+
+none_some : {X : Type 0} (x : X) → None ≡ Some x → ⊥
+none_some x is = cc
+
+some_same : {X : Type 0} (a b : X) → Some a ≡ Some b → a ≡ b
+some_same a b is = cc
+
+-- a command whose file is loaded does what it did, once it names the file again
+back_to : (file : ℕ) (restat given : Bool) (a : Action) → dyndep_of a ≡ Some file → restat ≡ has_restat a → undone file restat (loaded_action given a) ≡ a
+back_to file restat given Alias names same = absurd (none_some file names)
+back_to file restat given (Command command) names same = ap (λ (r : Bool). Command (record command { restat = r; dyndep = Some file })) same ∙ ap (λ (o : Option ℕ). Command (record command { dyndep = o })) (sym names)
+
+module _ (graph : Graph) (file : ℕ) (low : file < length graph.manifest.paths) (additions : List Addition) (chosen : List (Option ℕ)) (are : AreChosen graph file additions chosen)
+    (edges : List LoadedEdge) (loaded : AreLoadedEdges graph.manifest.actions chosen (length chosen) edges) where
+  -- an edge for which a statement was chosen names the file
+  chosen_names : (e k : ℕ) → get_or chosen e None ≡ Some k → e < length chosen → dyndep_at graph e ≡ Some file
+  chosen_names e k is within = by (are.choices e within)
+    where
+      name : List ℕ
+      name = text_at graph.manifest.paths file
+
+      owner : Addition → Option ℕ
+      owner a = owner_in (declared_by graph).edges name a.output
+
+      by : IsChoice (owners_of (declared_by graph).edges name additions) (length additions) e (get_or chosen e None) → dyndep_at graph e ≡ Some file
+      by choice =
+          let at = (subst (IsChoice (owners_of (declared_by graph).edges name additions) (length additions) e) is choice).1 in
+          let one = map_get owner additions k (Some (suc e)) at.at in
+          names_number graph e file low (owner_some (declared_by graph).edges name one.0.output (suc e) one.2).0
+
+  some_chosen : (o : Option ℕ) → is_some o ≡ true → (k : ℕ) × (o ≡ Some k)
+  some_chosen None is = absurd (false≢true is)
+  some_chosen (Some k) is = (k, refl)
+
+  pub undone_by : (actions : List Action) → AreLoadedActions graph.manifest.actions chosen additions actions → AreUndoneBy file edges actions graph.manifest.actions
+  undone_by actions grown = record {
+    fits = sym grown.fits;
+    within = λ k l at. let place = (loaded.each k l at).within in let a = are.fits in let b = graph.manifest.fits in let c = grown.fits in omega (arith, place, a, b, c);
+    each = λ k l at.
+        let is = loaded.each k l at in
+        let one = some_chosen (get_or chosen l.edge None) is.some in
+        let was = action_at graph.manifest.actions l.edge in
+        let now : action_at actions l.edge ≡ loaded_action (addition_at additions one.0).restat was = grown.each l.edge ∙ ap (action_with additions was) one.1 in
+        ap (undone file l.restat) now ∙ back_to file l.restat (addition_at additions one.0).restat was (chosen_names l.edge one.0 one.1 is.within) is.restat;
+    others = λ e absent. grown.each e ∙ unchosen e absent;
+  }
+    where
+      unchosen : (e : ℕ) → has_number (numbers_in edges) e ≡ false → action_with additions (action_at graph.manifest.actions e) (get_or chosen e None) ≡ action_at graph.manifest.actions e
+      unchosen e absent = by (get_or chosen e None) refl
+        where
+          by : (o : Option ℕ) → get_or chosen e None ≡ o → action_with additions (action_at graph.manifest.actions e) o ≡ action_at graph.manifest.actions e
+          by None is = refl
+          by (Some k) is = elim (cases_lt e (length chosen)) [
+            | inl within ↦ absurd (false≢true (sym absent ∙ loaded.all e within (ap is_some is)))
+            | inr past ↦ absurd (none_some k (sym (get_or_past chosen e None past) ∙ is))
+          ]
+
+  -- the edges are just those that named the file
+  pub loaded_are : (e : ℕ) → has_number (numbers_in edges) e ≡ is_place (dyndep_at graph e) file
+  loaded_are e = elim (cases_Bool (has_number (numbers_in edges) e)) [
+    | inl has ↦
+        let at = number_at edges e has in
+        let is = loaded.each at.0 at.1.0 at.1.1 in
+        let one = some_chosen (get_or chosen at.1.0.edge None) is.some in
+        has ∙ sym (is_at (dyndep_at graph e) file (subst (λ (n : ℕ). dyndep_at graph n ≡ Some file) at.1.2 (chosen_names at.1.0.edge one.0 one.1 is.within)))
+    | inr absent ↦ absent ∙ sym (false_from_ne_true (is_place (dyndep_at graph e) file) (λ is.
+        let names = place_is (dyndep_at graph e) file is in
+        let within = number_within e names in
+        by e absent names within (get_or chosen e None) refl))
+  ]
+    where
+      number_within : (e : ℕ) → dyndep_at graph e ≡ Some file → e < length graph.manifest.lines
+      number_within e names = elim (cases_lt e (length graph.manifest.lines)) [
+        | inl lt ↦ lt
+        | inr past ↦ absurd (none_some file (sym (ap dyndep_of (get_or_past graph.manifest.actions e no_action (let fit = graph.manifest.fits in omega (arith, past, fit)))) ∙ names))
+      ]
+
+      by : (e : ℕ) → has_number (numbers_in edges) e ≡ false → dyndep_at graph e ≡ Some file → e < length graph.manifest.lines → (o : Option ℕ) → get_or chosen e None ≡ o → ⊥
+      by e absent names within None is = are.each e within names is
+      by e absent names within (Some k) is = false≢true (sym absent ∙ loaded.all e (let fit = are.fits in omega (arith, within, fit)) (ap is_some is))
+
+-- ---- the graph that was
+
+module _ (old loaded now : Graph) (lines : List Line) (edges : List LoadedEdge) (name paths : ℕ) where
+  -- what joined since then is taken back too
+  pub still_before : IsManifestBefore old.manifest loaded.manifest lines edges name paths → HasGainedAt (numbers_in edges) loaded now → IsManifestBefore old.manifest now.manifest lines edges name paths
+  still_before is gained = record {
+    lines = is.lines;
+    paths = is.paths;
+    more = record { added = is.more.added ++ gained.paths.added; grows = gained.paths.grows ∙ (ap (λ (l : List (List ℕ)). l ++ gained.paths.added) is.more.grows ∙ append_assoc old.manifest.paths is.more.added gained.paths.added) };
+    actions = subst (λ (l : List Action). AreUndoneBy name edges l old.manifest.actions) (sym gained.actions) is.actions;
+    named = gained.named ∙ is.named;
+    pools = gained.pools ∙ is.pools;
+    defaults = gained.defaults ∙ is.defaults;
+    builddir = gained.builddir ∙ is.builddir;
+  }
+
+-- the first paths are those that the manifest had
+pub paths_back : (before now : List (List ℕ)) (count : ℕ) → HasMore before now → count ≡ length before → take count now ≡ before
+paths_back before now count more is = ap (λ (n : ℕ). take n now) is ∙ (ap (take (length before)) more.grows ∙ take-append_seam before more.added)
+
+-- a list that was written over one of its length stands whole
+pub actions_back : (len : ℕ) (old new : List Action) → len ≡ length old → length new ≡ length old → take len (new ++ drop (length new) old) ≡ new
+actions_back len old new full size = ap (λ (n : ℕ). take n (new ++ drop (length new) old)) (full ∙ sym size) ∙ take-append_seam new (drop (length new) old)
+
+module _ (old loaded now : Graph) (before : Before) (may : MayBeTakenBack old loaded now before) where
+  as_many : length now.recorded ≡ length old.recorded
+  as_many =
+      let a = now.recording.fits in
+      let b = ap (λ (l : List Line). length l) may.gained.lines in
+      let c = loaded.recording.fits in
+      let d = ap (λ (l : List (List ℕ)). length l) may.undoes.recorded in
+      omega (arith, a, b, c, d)
+
+  -- the edges that were loaded are edges of the graph
+  pub edge_within : (k : ℕ) (l : LoadedEdge) → slice_get before.edges.items k ≡ Some l → l.edge < length now.recorded
+  edge_within k l at =
+      let low = may.undoes.manifest.actions.within k l at in
+      let a = ap (λ (x : List Action). length x) may.gained.actions in
+      let b = now.manifest.fits in
+      let c = now.recording.fits in
+      omega (arith, low, a, b, c)
+
+  pub recorded_back : (edges : List LoadedEdge) → edges ≡ before.edges.items → (recorded : List (List ℕ)) → length recorded ≡ length now.recorded
+      → ((k : ℕ) (l : LoadedEdge) → slice_get edges k ≡ Some l → list_at recorded l.edge ≡ []) → ((e : ℕ) → has_number (numbers_in edges) e ≡ false → list_at recorded e ≡ list_at now.recorded e) → recorded ≡ old.recorded
+  recorded_back edges is recorded size gone kept = forgotten_is edges now.recorded recorded old.recorded size gone kept (sym as_many)
+      (λ e absent. may.gained.others e (sym (ap (λ (l : List LoadedEdge). has_number (numbers_in l) e) is) ∙ absent) ∙ ap (λ (l : List (List ℕ)). list_at l e) may.undoes.recorded)
+      (λ e has. may.none e (sym (ap (λ (l : List LoadedEdge). has_number (numbers_in l) e) is) ∙ has))

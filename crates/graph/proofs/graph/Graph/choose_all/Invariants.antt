@@ -1,0 +1,13 @@
+use Rattle.std.proofs.Common.{◌≡◌, map, length}
+use Rattle.paths.specs.Told.{text_at}
+use Rattle.graph.specs.Told.{declared_by}
+use Rattle.graph.specs.Extended.{addition_of}
+use Rattle.graph.specs.Statements.{owners_of, AreChoices, IsBadBelow}
+use Rattle.graph.proofs.graph.Graph.choose_all.Given as goal
+
+abbrev pub invariant-loop-place : goal.invariant-loop-place
+invariant-loop-place l = record {
+  fits : length l.chosen ≡ length l.self.manifest.lines;
+  choices : AreChoices (owners_of (declared_by l.self).edges (text_at l.self.manifest.paths l.file) (map addition_of l.additions)) l.place l.chosen;
+  bad : IsBadBelow (owners_of (declared_by l.self).edges (text_at l.self.manifest.paths l.file) (map addition_of l.additions)) l.place l.unfit;
+}

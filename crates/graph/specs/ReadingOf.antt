@@ -1,0 +1,33 @@
+-- What an edge reads, by numbers and in the words of the edges that the numbers stand for.
+use Rattle.std.specs.Prelude.{◌≡◌, ◌<◌, ◌⊎◌, ◌↔◌, ℕ, suc, true, false, List, [], ◌∷◌, length, IsSome}
+use Rattle.model.specs.World.{View}
+use Rattle.model.specs.Graph.{has_number}
+use Rattle.model.specs.Reading.{IsRead}
+use Rattle.paths.specs.Told.{text_at}
+use Rattle.graph.specs.declared.graph.Graph.{Graph}
+use Rattle.graph.specs.declared.reading.Reading.{Reading}
+use Rattle.graph.specs.declared.reading.Reading.TheVariants.{Itself, Through}
+use Rattle.graph.specs.Held.{StandOnce}
+use Rattle.graph.specs.Links.{links_of}
+use Rattle.graph.specs.Alias.{counts_if_present}
+use Rattle.graph.specs.Told.{declared_by}
+
+-- the edges whose regular inputs are read
+abbrev pub edges_in : Reading → List ℕ
+edges_in (Itself e) = e ∷ []
+edges_in (Through es) = es.items
+
+-- in this view the path is a regular input of one of these edges, and counts
+pub record IsCountedIn (graph : Graph) (edges : List ℕ) (view : View) (p : List ℕ) : Type 0 where
+  pub edge : ℕ
+  pub listed : has_number edges edge ≡ true
+  pub path : ℕ
+  pub input : has_number ((links_of graph).regular edge) path ≡ true
+  pub text : text_at graph.manifest.paths path ≡ p
+  pub counts : (counts_if_present (links_of graph) path ≡ false) ⊎ IsSome (view p)
+
+-- just what the edge reads, in each view; each edge once
+pub record IsReadingOf (graph : Graph) (e : ℕ) (edges : List ℕ) : Type 0 where
+  pub within : (d : ℕ) → has_number edges d ≡ true → d < length graph.manifest.lines
+  pub once : StandOnce edges
+  pub read : (view : View) (p : List ℕ) → IsRead (declared_by graph).edges view (suc e) p ↔ IsCountedIn graph edges view p

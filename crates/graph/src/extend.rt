@@ -1,0 +1,59 @@
+//! What a loaded dyndep file says joins the graph.
+
+ghost use Rattle.std.specs.Prelude.{◌≡◌, ◌<◌, length, IfOk, IfErr, OnOk, OnErr};
+ghost use Rattle.graph.specs.Back.{Undoes};
+ghost use Rattle.graph.specs.Extended.{HasTaken, HasRefused};
+
+use crate::back::{Before, loaded_edges};
+use crate::fault::ExtendFault;
+use crate::graph::Graph;
+use crate::loaded::{Kept, load};
+use dyndep::Addition;
+use paths::PathId;
+use std::alloc::Global;
+use std::mem;
+
+impl Graph {
+    /// Gives each edge that names the file what its statement adds: outputs, inputs, and whether outputs may stay as they were.
+    /// The file is loaded then, and no edge names it any more (manual: "Dynamic Dependencies"). What is recorded stays. It takes
+    /// a time of the order of the whole graph.
+    ///
+    /// `Unfit` where the statements do not fit: it tells of the lowest edge that names the file and has no statement, else of the
+    /// first statement that is of no such edge, or of one that has a statement before. `MadeTwice` tells, where they fit, of
+    /// the first output in reading order that was made before it. Where it is refused, nothing is changed. A cycle that the file
+    /// closes is told by the cone; `take_back` undoes what was loaded.
+    pub fn extend(
+        &mut self,
+        alloc: Global,
+        additions: &[Addition],
+        file: PathId,
+    ) -> Result<Before, ExtendFault>
+        requires { file < length self.old.manifest.paths }
+        ensures loaded { OnOk result (HasTaken self.old self.new file additions.now) }
+        ensures before { IfOk result (λ before. Undoes self.old self.new file before) }
+        ensures fault { IfErr result (λ fault. HasRefused self.old file additions.now fault) }
+        ensures err { OnErr result (self.new ≡ self.old) }
+    {
+        let chosen = self.statements(alloc, additions, file)?;
+        let edges = loaded_edges(alloc, self.manifest.actions.as_slice(), &chosen)?;
+        let known = self.manifest.paths.len();
+        let kept = Kept {
+            recorded: &self.recorded,
+            users: &self.users,
+        };
+        match load(alloc, &mut self.manifest, kept, additions, &chosen) {
+            Ok(loaded) => Ok(Before {
+                lines: loaded.lines,
+                makers: mem::replace(&mut self.makers, loaded.makers),
+                users: mem::replace(&mut self.users, loaded.users),
+                edges,
+                file,
+                paths: known,
+            }),
+            Err(fault) => {
+                self.manifest.paths.truncate(known);
+                Err(fault)
+            }
+        }
+    }
+}

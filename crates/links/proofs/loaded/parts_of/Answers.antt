@@ -1,7 +1,0 @@
-use Rattle.std.proofs.Common.{length, sym, subst}
-use Rattle.links.specs.Statements.{IsPartsFault}
-use Rattle.links.proofs.Loading.{parts_fault}
-use Rattle.links.proofs.loaded.parts_of.Goals as goal
-
-pub returns-in-Err-clause-fault : goal.returns-in-Err-clause-fault
-returns-in-Err-clause-fault c = subst (IsPartsFault c.args.manifest.now) (sym c.extend_fault.ensures) (parts_fault c.args.manifest.now (length c.args.manifest.now.lines) c.in-Err.fault c.in-Err.ensures.fault)

@@ -1,5 +1,0 @@
-use Rattle.links.proofs.Undoing.{AreForgottenTo}
-use Rattle.links.proofs.recorded.Recorded.forget.Given as goal
-
-abbrev pub invariant-loop-loaded : goal.invariant-loop-loaded
-invariant-loop-loaded l = AreForgottenTo l.edges l.loaded-index l.fn.self l.self

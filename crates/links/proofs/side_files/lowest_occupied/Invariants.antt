@@ -1,6 +1,0 @@
-use Rattle.links.specs.Occupying.{AreFreeUpTo}
-use Rattle.paths.specs.Told.{graph_of}
-use Rattle.links.proofs.side_files.lowest_occupied.Given as goal
-
-abbrev pub invariant-loop-place : goal.invariant-loop-place
-invariant-loop-place l = AreFreeUpTo l.start (graph_of l.manifest).edges l.place

@@ -1,9 +1,0 @@
-use Rattle.std.proofs.Common.{◌≡◌, length}
-use Rattle.links.specs.Namings.{AreNamingsBelow}
-use Rattle.links.proofs.side_files.note_lines.Given as goal
-
-abbrev pub invariant-loop-place : goal.invariant-loop-place
-invariant-loop-place l = record {
-  fits : length l.namings ≡ length l.manifest.paths;
-  below : AreNamingsBelow l.manifest.lines l.namings l.place;
-}

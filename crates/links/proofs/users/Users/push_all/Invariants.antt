@@ -1,6 +1,0 @@
-use Rattle.std.proofs.Common.{◌≡◌, take}
-use Rattle.links.specs.Held.{pushed}
-use Rattle.links.proofs.users.Users.push_all.Given as goal
-
-abbrev pub invariant-loop-done : goal.invariant-loop-done
-invariant-loop-done l = l.self ≡ pushed l.fn.self (take l.done l.paths) l.edge

@@ -1,5 +1,0 @@
-use Rattle.links.specs.Rooms.{AreLaid}
-use Rattle.links.proofs.users.lay_rooms.Given as goal
-
-abbrev pub invariant-loop-count : goal.invariant-loop-count
-invariant-loop-count l = AreLaid l.count-index l.end l.rooms.items

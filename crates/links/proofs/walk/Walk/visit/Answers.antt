@@ -1,8 +1,0 @@
-use Rattle.links.specs.Links.{links_of}
-use Rattle.links.proofs.Walking.{needed_awaited}
-use Rattle.links.proofs.walk.Walk.visit.Goals as goal
-
-pub open-requires-clause-needed : goal.open-requires-clause-needed
-open-requires-clause-needed c =
-    let walk = c.args.self.now in
-    needed_awaited (links_of walk.graph.now) walk.requested.now walk.order.items walk.marks.items walk.left.items walk.stack.items c.args.edge c.args.maker c.requires.at.at c.requires.last c.requires.awaits
