@@ -3,12 +3,12 @@
 use crate::grown::grow;
 use crate::made_up::Source;
 use crate::texts::graph_of;
-use clean::{NoDepfiles, clean_build};
 use manifest::{Manifest, read};
 use model::{BuildGraph, Edge, Writer};
 use sim::{History, Sim, Toy};
 use std::alloc::{AllocError, Global};
 use text::{Bytes, Path};
+use witness::{NoDepfiles, clean_build};
 
 /// What the build file of a site declares, with what its dyndep files add, and what a clean build leaves.
 #[derive(Drop)]

@@ -101,7 +101,7 @@ fn push_reports(reports: &[Report], told: &mut Vec<u8>) -> io::Result<()> {
 }
 
 /// Tells which calls the list makes, one command at a time, and which files there are then, with their stamps. `met` is about such a
-/// history: `met/specs/Worlds.antt` has the same calls and files.
+/// history: `witness/specs/Worlds.antt` has the same calls and files.
 pub fn push_calls(alloc: Global, row: Row<'_>, told: &mut Vec<u8>) -> io::Result<()> {
     let moves = moves(alloc, row.moves)?;
     push_calls_of(alloc, row, &moves, told)

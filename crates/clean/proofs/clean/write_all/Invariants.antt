@@ -1,7 +1,0 @@
-use Rattle.std.proofs.Common.{◌≡◌, ℕ, List}
-use Rattle.model.specs.World.{view_of}
-use Rattle.clean.specs.Made.{overwritten}
-use Rattle.clean.proofs.clean.write_all.Given as goal
-
-abbrev pub invariant-loop-path : goal.invariant-loop-path
-invariant-loop-path l = (p : List ℕ) → view_of l.files p ≡ overwritten (view_of l.initial.files) l.yielded p

@@ -1,4 +1,0 @@
-pub mod Made
-pub mod Beyond
-pub mod Example
-pub mod Rows

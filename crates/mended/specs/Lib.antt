@@ -1,3 +1,0 @@
-pub mod Project
-pub mod Disk
-pub mod Rich
