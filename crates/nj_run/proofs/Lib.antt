@@ -1,3 +1,5 @@
+pub mod Values
+pub mod Words
 mod Passing
 mod Ends
 mod Shown

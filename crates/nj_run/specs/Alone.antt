@@ -8,7 +8,7 @@ use Rattle.builder.specs.declared.reading.Reading.{Reading}
 use Rattle.builder.specs.declared.report.Options.{Options}
 use Rattle.builder.specs.declared.report.Report.{Report}
 use Rattle.builder.specs.Build.{IsBuild, IsUnread, WasRead, limits_of}
-use Rattle.command_line.specs.Options.{Options as Asked}
+use Rattle.nj_run.specs.Options.{Options as Asked}
 use Rattle.nj_run.specs.Asked.{BuildsAsked}
 
 -- time went by, in which the site itself did nothing and was refused nothing

@@ -7,7 +7,7 @@ use Rattle.model.specs.declared.outcome.Outcome.{Outcome}
 use Rattle.model.specs.declared.fault.SiteFault.TheVariants.{Memory}
 use Rattle.model.specs.World.{World, View}
 use Rattle.status.specs.Pattern.{IsPatternOf}
-use Rattle.command_line.specs.Options.{Options as Asked}
+use Rattle.nj_run.specs.Options.{Options as Asked}
 use Rattle.builder.specs.declared.report.Options.{Options}
 use Rattle.builder.specs.declared.report.Report.{Report}
 use Rattle.builder.specs.declared.report.Report.TheVariants.{Fault}

@@ -5,7 +5,7 @@ use Rattle.clap.specs.declared.error.kind.ErrorKind.{ErrorKind}
 use Rattle.clap.specs.declared.error.kind.ErrorKind.TheVariants.{DisplayHelp, DisplayVersion, OutOfMemory}
 use Rattle.model.specs.Calls.{OnlyLooks}
 use Rattle.model.specs.World.{World}
-use Rattle.command_line.specs.Options.{AreAsked, Options, audits, nj}
+use Rattle.nj_run.specs.Options.{AreAsked, Options, audits, nj}
 use Rattle.builder.specs.declared.report.Report.{Report}
 use Rattle.builder.specs.declared.report.Report.TheVariants.{Success}
 use Rattle.host.specs.World.{any_outcome, fresh}

@@ -1,3 +1,5 @@
+pub mod Options
+pub mod Worked
 pub mod Alone
 pub mod Asked
 pub mod Ends

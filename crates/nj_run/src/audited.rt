@@ -1,7 +1,7 @@
 //! A run that audits: a build in which each command is traced, and what is told of that.
 
 ghost use Rattle.std.specs.Prelude.{◌≡◌, ◌≤◌, Bool, IfOk, IfSome, OnOk, Some, true, false, if◌then◌else◌};
-ghost use Rattle.command_line.specs.Options.{audits};
+ghost use Rattle.nj_run.specs.Options.{audits};
 ghost use Rattle.model.specs.World.{World};
 ghost use Rattle.host.specs.World.{any_outcome, fresh, world_of};
 ghost use Rattle.nj_run.specs.Alone.{BuildsAlone};
@@ -10,6 +10,7 @@ ghost use Rattle.nj_run.specs.Status.{status_of};
 ghost use Rattle.nj_run.specs.Texts.{Adds, no_tracer};
 ghost use Rattle.nj_run.specs.Traces.{IsTracePath};
 
+use crate::given::Options as Asked;
 use crate::looked::look;
 use crate::noted::Noted;
 use crate::program::{build_on, build_options, recall};
@@ -18,7 +19,6 @@ use crate::tracer::tracer;
 use crate::traces::named_trace;
 use auditor::Tally;
 use builder::{Report, read};
-use command_line::Options as Asked;
 use host::{Host, Trouble};
 use status::Pattern;
 use std::alloc::{AllocError, Global};

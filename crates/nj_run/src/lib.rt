@@ -4,6 +4,8 @@
 mod alone;
 mod anew;
 mod audited;
+mod command;
+mod given;
 mod looked;
 mod named;
 mod noted;
@@ -13,8 +15,12 @@ mod told;
 mod tracer;
 mod traces;
 mod whys;
+mod words_laws;
 
 pub use alone::{Alone, build_alone, explain_alone};
+pub use command::options;
+pub use given::Options;
 pub use noted::Noted;
 pub use program::{build_on, explain_on, run, run_watched};
 pub use whys::tell_why;
+pub use words_laws::worked_words;

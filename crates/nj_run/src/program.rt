@@ -4,7 +4,7 @@ ghost use Rattle.std.specs.Prelude.{◌≡◌, ◌≤◌, IfOk, true, false, map
 ghost use Rattle.clap.specs.Words.{takes};
 ghost use Rattle.model.specs.Calls.{OnlyLooks};
 ghost use Rattle.model.specs.World.{World, IsIdle};
-ghost use Rattle.command_line.specs.Options.{nj};
+ghost use Rattle.nj_run.specs.Options.{nj};
 ghost use Rattle.host.specs.World.{any_outcome, fresh};
 ghost use Rattle.nj_run.specs.Alone.{BuildsAlone};
 ghost use Rattle.nj_run.specs.Asked.{AreHandedOn, pattern_text};
@@ -12,10 +12,11 @@ ghost use Rattle.nj_run.specs.Ends.{Comes, Ends, EndsFor, EndsNoted, EndsWell};
 
 use crate::alone::{Alone, build_alone, explain_alone};
 use crate::audited::audit_asked;
+use crate::command::options;
+use crate::given::Options as Asked;
 use crate::noted::Noted;
 use crate::{told, whys};
 use builder::{Explained, Options, Report};
-use command_line::{Options as Asked, options};
 use host::{Host, Trouble};
 use site::SiteFault;
 use status::Pattern;

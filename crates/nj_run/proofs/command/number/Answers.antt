@@ -1,8 +1,8 @@
 use Rattle.std.specs.Str.Parse.{ParsesUnsigned, ExplainsUnsignedError, HasUnsignedDigitsIfOk}
 use Rattle.clap.specs.Words.{found_of, one_text}
 use Rattle.clap.proofs.WalkLemmas.{one_text-rows}
-use Rattle.command_line.proofs.Values.{number_is}
-use Rattle.command_line.proofs.command.number.Goals as goal
+use Rattle.nj_run.proofs.Values.{number_is}
+use Rattle.nj_run.proofs.command.number.Goals as goal
 
 pub returns : goal.returns
 returns c =

@@ -2,7 +2,7 @@
 use Rattle.std.specs.Prelude.{◌≡◌, true, false, List, [], ◌∷◌, Some, None, codes}
 use Rattle.clap.specs.Words.{Text, fault_of, takes}
 use Rattle.clap.specs.declared.error.kind.ErrorKind.TheVariants.{DisplayHelp, UnknownArgument, ValueValidation}
-use Rattle.command_line.specs.Options.{AreAsked, Options, nj}
+use Rattle.nj_run.specs.Options.{AreAsked, Options, nj}
 
 -- the words are taken, and ask for these options and no others
 pub record AskFor (words : List Text) (options : Options) : Type 0 where

@@ -1,6 +1,6 @@
 use Rattle.std.proofs.Common.{ap₂, ◌∙◌}
 use Rattle.clap.specs.Words.{with_rule}
-use Rattle.command_line.proofs.command.command.Goals as goal
+use Rattle.nj_run.proofs.command.command.Goals as goal
 
 pub returns : goal.returns
 returns c =

@@ -3,8 +3,8 @@ use Rattle.std.specs.Prelude.{unwrap_or}
 use Rattle.std.specs.Borrow.{Bor}
 use Rattle.clap.specs.Words.{found_of}
 use Rattle.clap.proofs.WalkLemmas.{first_value-rows, one_text-rows, raw_values-rows}
-use Rattle.command_line.proofs.Values.{flag_is, text_or, texts_or}
-use Rattle.command_line.proofs.command.given.Goals as goal
+use Rattle.nj_run.proofs.Values.{flag_is, text_or, texts_or}
+use Rattle.nj_run.proofs.command.given.Goals as goal
 
 pub returns : goal.returns
 returns c =

@@ -1,6 +1,6 @@
 //! What some words ask for, and why some are refused. This function does nothing: its contract is the law.
 
-ghost use Rattle.command_line.specs.Worked.{WorkedWords};
+ghost use Rattle.nj_run.specs.Worked.{WorkedWords};
 
 /// What some words ask for, and why some are refused.
 pub fn worked_words()

@@ -28,7 +28,7 @@ pub struct Options<'a> {
 impl<'a> Model for Options<'a> {
     ghost use Rattle.std.specs.Prelude.{map};
     ghost use Rattle.std.specs.Option.{option_map};
-    ghost use Rattle.command_line.specs.Options.{Options};
+    ghost use Rattle.nj_run.specs.Options.{Options};
 
     ghost Value = { Options };
 
@@ -37,7 +37,7 @@ impl<'a> Model for Options<'a> {
 
 impl<'a> Options<'a> {
     ghost use Rattle.std.specs.Prelude.{◌≡◌};
-    ghost use Rattle.command_line.specs.Options.{audits};
+    ghost use Rattle.nj_run.specs.Options.{audits};
 
     /// Whether an audit is asked for.
     pub fn audits(&self) -> bool

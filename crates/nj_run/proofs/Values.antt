@@ -8,7 +8,7 @@ use Rattle.clap.specs.declared.parser.matches.ArgMatches.{ArgMatches}
 use Rattle.clap.proofs.OnLiterals.{clap_on_literals}
 use Rattle.clap.specs.declared.error.Error.{Error}
 use Rattle.clap.specs.declared.error.kind.ErrorKind.TheVariants.{OutOfMemory}
-use Rattle.command_line.specs.Options.{AreAsked, AreGiven, IsFlag, IsNumber, Options, Writes, nj}
+use Rattle.nj_run.specs.Options.{AreAsked, AreGiven, IsFlag, IsNumber, Options, Writes, nj}
 
 read_number : {E : Type 0} (G : Text → Result ℕ E → Type 0) (text : Text) (default given : ℕ) (r : Option ℕ) → ((u : Text) (x : Result ℕ E) → G u x → ParsesUnsigned 32 10 u x)
     → given < 2 ^ 32 → Writes text given → ReadsOne G text r → unwrap_or r default ≡ given

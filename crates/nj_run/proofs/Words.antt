@@ -3,8 +3,8 @@ use Rattle.std.proofs.Common.{◌≡◌, ℕ, Bool, true, List, [], ◌∷◌, O
 use Rattle.clap.specs.Words.{fault_of, Text, matches_of, takes}
 use Rattle.clap.specs.declared.error.kind.ErrorKind.TheVariants.{DisplayHelp, UnknownArgument, ValueValidation}
 use Rattle.clap.proofs.OnLiterals.{clap_on_literals}
-use Rattle.command_line.specs.Options.{AreGiven, Options, Writes, nj}
-use Rattle.command_line.specs.Worked.{AskFor, no_words, many_words, many_options, eight_jobs, asks_why, an_audit, a_long_audit}
+use Rattle.nj_run.specs.Options.{AreGiven, Options, Writes, nj}
+use Rattle.nj_run.specs.Worked.{AskFor, no_words, many_words, many_options, eight_jobs, asks_why, an_audit, a_long_audit}
 
 abbrev options_of : Option Text → Text → ℕ → ℕ → Bool → Bool → Bool → Bool → List Text → Options
 options_of folder file jobs keep verbose why audit audit_all targets =

@@ -1,6 +1,6 @@
 use Rattle.std.proofs.Common.{map}
-use Rattle.command_line.proofs.Values.{asked, faultless, faulty, if_err, taken}
-use Rattle.command_line.proofs.command.options.Goals as goal
+use Rattle.nj_run.proofs.Values.{asked, faultless, faulty, if_err, taken}
+use Rattle.nj_run.proofs.command.options.Goals as goal
 
 pub returns-in_err-matches-clause-err : goal.returns-in_err-matches-clause-err
 returns-in_err-matches-clause-err g c =
