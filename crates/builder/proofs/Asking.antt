@@ -45,11 +45,11 @@ use Rattle.judge.specs.Stores.{IsStoreOf}
 use Rattle.judge.specs.UnderWay.{IsUnderWay}
 use Rattle.judge.proofs.Callers.{under_way}
 use Rattle.judge.proofs.Points.{HasQuiet, IsSpared, paths_for, points_alike}
-use Rattle.runner.specs.declared.state.State.{State}
-use Rattle.runner.specs.After.{ComesAfter}
-use Rattle.runner.specs.Course.{Course, is_quiet}
-use Rattle.runner.proofs.Keeping.{looks_carried, looks_quiet}
-use Rattle.runner.proofs.Quiet.{Grew, files_then, all_kept, quiet_parts, quiet_from}
+use Rattle.work.specs.declared.state.State.{State}
+use Rattle.work.specs.After.{ComesAfter}
+use Rattle.work.specs.Course.{Course, is_quiet}
+use Rattle.work.proofs.Keeping.{looks_carried, looks_quiet}
+use Rattle.work.proofs.Quiet.{Grew, files_then, all_kept, quiet_parts, quiet_from}
 use Rattle.builder.specs.Going.{grown_course, task_over, is_bound, StandsAt, IsUnstarted, HasAsked, HadAsked}
 use Rattle.builder.proofs.Points.{asked_later, had_asked_later}
 use Rattle.builder.proofs.Unedited.{bound_kept}

@@ -34,8 +34,8 @@ use Rattle.records.specs.Logging.{IsLogging}
 use Rattle.plan.specs.Flags.{has as has_flag}
 use Rattle.plan.specs.declared.plan.Plan.{Plan}
 use Rattle.plan.specs.Planned.{IsPlanned}
-use Rattle.runner.specs.declared.state.State.{State}
-use Rattle.runner.specs.Course.{Course, Suits, IsOn}
+use Rattle.work.specs.declared.state.State.{State}
+use Rattle.work.specs.Course.{Course, Suits, IsOn}
 use Rattle.builder.specs.declared.asked.Asked.{Asked as Request}
 use Rattle.builder.specs.Build.{asked_of}
 use Rattle.builder.specs.Going.{BeginsAt, grown_course}

@@ -10,15 +10,15 @@ use Rattle.theory.proofs.Lists.{same_rest}
 use Rattle.theory.specs.Ledger.{IsRefused}
 use Rattle.graph.specs.declared.cone.Cone.{Cone}
 use Rattle.graph.specs.declared.graph.Graph.{Graph}
-use Rattle.runner.specs.declared.cut.Cut.{Cut}
-use Rattle.runner.specs.declared.state.State.{State}
-use Rattle.runner.specs.After.{ComesAfter, LooksUnlessMore}
-use Rattle.runner.specs.Course.{Course, goes_on, IsSince, Suits, IsOn}
-use Rattle.runner.specs.Cut.{fault_of, IsLeft}
-use Rattle.runner.specs.Going.{IsGoing, IsFinished}
-use Rattle.runner.specs.Ran.{HasRun}
-use Rattle.runner.proofs.Onward.{since_goes}
-use Rattle.runner.proofs.Refused.{HasPhases, on_refused, phased_finished}
+use Rattle.work.specs.declared.cut.Cut.{Cut}
+use Rattle.work.specs.declared.state.State.{State}
+use Rattle.work.specs.After.{ComesAfter, LooksUnlessMore}
+use Rattle.work.specs.Course.{Course, goes_on, IsSince, Suits, IsOn}
+use Rattle.work.specs.Cut.{fault_of, IsLeft}
+use Rattle.work.specs.Going.{IsGoing, IsFinished}
+use Rattle.work.specs.Ran.{HasRun}
+use Rattle.work.proofs.Onward.{since_goes}
+use Rattle.work.proofs.Refused.{HasPhases, on_refused, phased_finished}
 use Rattle.builder.specs.declared.report.Refusal.{Refusal}
 use Rattle.builder.specs.declared.report.Refusal.TheVariants.{File, MadeTwice, NoDyndepInput, Occupied, NoDyndep, BadVersion, BadStatement, Unfit, UnknownTarget, Cycle, Missing}
 use Rattle.builder.specs.Going.{grown_course, ended_course, task_over, StandsAt, HadAsked, IsRefusedBy, IsRefusedAt, HasStopped, WasCut}

@@ -8,13 +8,13 @@ use Rattle.model.specs.SingleBuild as answer
 use Rattle.theory.specs.Seen.{IsSeen, Unrefused, StartsUnrefused}
 use Rattle.graph.specs.declared.cone.Cone.{Cone}
 use Rattle.graph.specs.declared.graph.Graph.{Graph}
-use Rattle.runner.specs.declared.cut.Cut.{Cut}
-use Rattle.runner.specs.declared.state.State.{State}
-use Rattle.runner.specs.After.{ComesAfter, LooksUnlessMore}
-use Rattle.runner.specs.Course.{Course, goes_on, Suits, IsOn}
-use Rattle.runner.specs.Cut.{fault_of, IsLeft}
-use Rattle.runner.specs.Going.{IsGoing, IsFinished}
-use Rattle.runner.specs.Ran.{HasRun}
+use Rattle.work.specs.declared.cut.Cut.{Cut}
+use Rattle.work.specs.declared.state.State.{State}
+use Rattle.work.specs.After.{ComesAfter, LooksUnlessMore}
+use Rattle.work.specs.Course.{Course, goes_on, Suits, IsOn}
+use Rattle.work.specs.Cut.{fault_of, IsLeft}
+use Rattle.work.specs.Going.{IsGoing, IsFinished}
+use Rattle.work.specs.Ran.{HasRun}
 use Rattle.builder.specs.declared.report.Refusal.{Refusal}
 use Rattle.builder.specs.declared.stop.Stop.{Stop}
 use Rattle.builder.specs.declared.stop.Stop.TheVariants as stop

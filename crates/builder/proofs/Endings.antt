@@ -26,10 +26,10 @@ use Rattle.graph.specs.Told.{declared_by}
 use Rattle.theory.specs.Ledger.{IsCutOff, LoadedThen}
 use Rattle.theory.proofs.Ledger.{cut_off}
 use Rattle.theory.proofs.PhasesGoOn.{HoldsAll, with_text, no_text, holds_all, holds_it, held_later, loads_with}
-use Rattle.runner.specs.declared.summary.Summary.{Summary}
-use Rattle.runner.specs.declared.summary.Summary.TheVariants.{Well, Failed as SomeFailed}
-use Rattle.runner.specs.Course.{Course}
-use Rattle.runner.specs.Cut.{fault_of}
+use Rattle.work.specs.declared.summary.Summary.{Summary}
+use Rattle.work.specs.declared.summary.Summary.TheVariants.{Well, Failed as SomeFailed}
+use Rattle.work.specs.Course.{Course}
+use Rattle.work.specs.Cut.{fault_of}
 use Rattle.builder.specs.declared.report.Missing.{Missing as Lacking}
 use Rattle.builder.specs.declared.report.Refusal.{Refusal}
 use Rattle.builder.specs.declared.report.Refusal.TheVariants.{File, MadeTwice, NoDyndepInput, Occupied, NoDyndep, BadVersion, BadStatement, Unfit, UnknownTarget, Cycle, Missing}
@@ -38,7 +38,7 @@ use Rattle.builder.specs.declared.report.Report.TheVariants.{Success, Failed, Re
 use Rattle.builder.specs.declared.stop.Stop.{Stop}
 use Rattle.builder.specs.declared.stop.Stop.TheVariants as stop
 use Rattle.builder.specs.Build.{AreGraph, Says, Builds, missing_answer, asked_of}
-use Rattle.runner.specs.declared.state.State.{State}
+use Rattle.work.specs.declared.state.State.{State}
 use Rattle.builder.specs.Reported.{IsReportOf, IsReported}
 use Rattle.builder.specs.Going.{BeginsAt, task_over, IsHeldLoad, IsLacking, IsMissingAfter, IfFault, HasDone, HasStopped, WasCut, HasEndedSo, stop_answer}
 use Rattle.builder.specs.Loads.{IsRefusedFile, RefusesFile}

@@ -10,11 +10,11 @@ use Rattle.model.specs.SingleBuild.{PassesNoFault}
 use Rattle.model.specs.SingleBuild as answer
 use Rattle.theory.specs.Seen.{IsSeen, Unrefused, StartsUnrefused}
 use Rattle.theory.proofs.SiteCalls.{unrefused_then, seen_since}
-use Rattle.runner.specs.declared.cut.Cut.{Cut}
-use Rattle.runner.specs.declared.cut.Cut.TheVariants.{Waiting, Other}
-use Rattle.runner.specs.Cut.{fault_of, IsLeft}
-use Rattle.runner.specs.Cutting.{IsMet, TakesIn}
-use Rattle.runner.proofs.Cutting.{starts_then, starts_cut, passes_whole}
+use Rattle.work.specs.declared.cut.Cut.{Cut}
+use Rattle.work.specs.declared.cut.Cut.TheVariants.{Waiting, Other}
+use Rattle.work.specs.Cut.{fault_of, IsLeft}
+use Rattle.work.specs.Cutting.{IsMet, TakesIn}
+use Rattle.work.proofs.Cutting.{starts_then, starts_cut, passes_whole}
 use Rattle.builder.specs.declared.stop.Stop.{Stop}
 use Rattle.builder.specs.declared.stop.Stop.TheVariants as stop
 use Rattle.builder.specs.Going.{GoesWell, IsFaultedThere, IsFaulted, IsStopOf, IfFault, stop_answer}

@@ -29,7 +29,7 @@ use Rattle.graph.specs.Statements.{is_place}
 use Rattle.graph.specs.Told.{declared_by, recorded_by, AreSameInputs}
 use Rattle.plan.specs.Extended.{MayGoOn}
 use Rattle.plan.proofs.Loaded.{file_within, namer_within}
-use Rattle.runner.specs.declared.state.State.{State}
+use Rattle.work.specs.declared.state.State.{State}
 use Rattle.builder.specs.declared.report.Refusal.{Refusal}
 use Rattle.builder.specs.Joined.{MayJoin, HasJoinedFile, IsCircle, IsUnjoined}
 use Rattle.builder.specs.Recorded.{AreToJoin, HasJoinedOf}

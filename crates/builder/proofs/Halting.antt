@@ -26,17 +26,17 @@ use Rattle.judge.specs.Looking.{HasLooked}
 use Rattle.plan.specs.declared.plan.Plan.{Plan}
 use Rattle.plan.specs.Planned.{IsPlanned}
 use Rattle.records.specs.Laws.{LogStays}
-use Rattle.display.specs.Shown.{Showing}
-use Rattle.runner.specs.declared.cut.Cut.{Cut}
-use Rattle.runner.specs.declared.state.State.{State}
-use Rattle.runner.specs.declared.summary.Summary.{Summary}
-use Rattle.runner.specs.After.{ComesAfter, LooksUnlessMore}
-use Rattle.runner.specs.Course.{Course, goes_on, IsOn}
-use Rattle.runner.specs.Cut.{fault_of, IsLeft}
-use Rattle.runner.specs.Going.{IsAtLoad, IsInHand}
-use Rattle.runner.specs.Ran.{HasRun}
-use Rattle.runner.proofs.After.{after_looks, none_between}
-use Rattle.runner.proofs.Noticed.{with_looks, on_looked}
+use Rattle.work.specs.Shown.{Showing}
+use Rattle.work.specs.declared.cut.Cut.{Cut}
+use Rattle.work.specs.declared.state.State.{State}
+use Rattle.work.specs.declared.summary.Summary.{Summary}
+use Rattle.work.specs.After.{ComesAfter, LooksUnlessMore}
+use Rattle.work.specs.Course.{Course, goes_on, IsOn}
+use Rattle.work.specs.Cut.{fault_of, IsLeft}
+use Rattle.work.specs.Going.{IsAtLoad, IsInHand}
+use Rattle.work.specs.Ran.{HasRun}
+use Rattle.work.proofs.After.{after_looks, none_between}
+use Rattle.work.proofs.Noticed.{with_looks, on_looked}
 use Rattle.builder.specs.Going.{grown_course, task_over, is_bound, IsUnstarted, StandsAt, HasAsked, HadAsked, IsAtNextLoad, IsCutThere, HasDone, WasCut}
 use Rattle.builder.proofs.Asking.{asked_on, asked_in}
 use Rattle.builder.proofs.Unedited.{bound_kept}

@@ -10,10 +10,10 @@ use Rattle.theory.specs.Seen.{Unrefused}
 use Rattle.graph.specs.declared.cone.Cone.{Cone}
 use Rattle.graph.specs.declared.graph.Graph.{Graph}
 use Rattle.graph.specs.Told.{declared_by}
-use Rattle.runner.specs.declared.state.State.{State}
-use Rattle.runner.specs.Course.{Course}
-use Rattle.runner.specs.Cutting.{IsMet}
-use Rattle.runner.specs.Going.{IsCut}
+use Rattle.work.specs.declared.state.State.{State}
+use Rattle.work.specs.Course.{Course}
+use Rattle.work.specs.Cutting.{IsMet}
+use Rattle.work.specs.Going.{IsCut}
 use Rattle.builder.specs.declared.report.Refusal.{Refusal}
 use Rattle.builder.specs.declared.stop.Stop.{Stop}
 use Rattle.builder.specs.declared.stop.Stop.TheVariants as stop

@@ -57,13 +57,13 @@ use Rattle.records.specs.declared.logs.Logs.{Logs}
 use Rattle.records.specs.Known.{AreKnown}
 use Rattle.records.specs.Laws.{LogStays}
 use Rattle.records.specs.Logging.{IsLogging}
-use Rattle.runner.specs.declared.state.State.{State}
-use Rattle.runner.specs.Course.{Course, edges_of, goes_on, IsOn, is_quiet}
-use Rattle.runner.specs.Going.{IsInHand}
-use Rattle.runner.proofs.Keeping.{looks_quiet, on_looks}
-use Rattle.runner.proofs.Loaded.{HasMore, HasRoomFor, loaded_course, on_loaded, suits_loaded}
-use Rattle.runner.proofs.Quiet.{quiet_from}
-use Rattle.runner.proofs.Settled.{settled_rests}
+use Rattle.work.specs.declared.state.State.{State}
+use Rattle.work.specs.Course.{Course, edges_of, goes_on, IsOn, is_quiet}
+use Rattle.work.specs.Going.{IsInHand}
+use Rattle.work.proofs.Keeping.{looks_quiet, on_looks}
+use Rattle.work.proofs.Loaded.{HasMore, HasRoomFor, loaded_course, on_loaded, suits_loaded}
+use Rattle.work.proofs.Quiet.{quiet_from}
+use Rattle.work.proofs.Settled.{settled_rests}
 use Rattle.builder.specs.declared.report.Refusal.{Refusal}
 use Rattle.builder.specs.declared.report.Refusal.TheVariants.{File as BuildFile, MadeTwice, NoDyndepInput, Occupied, NoDyndep, BadVersion, BadStatement, Unfit, UnknownTarget, Cycle, Missing}
 use Rattle.builder.specs.Going.{grown_course, task_over, is_bound, IsUnstarted, StandsAt, HasAsked, BeginsAt, IsLoadNext, IsHeldLoad, IsRefusedBy, HasBegun, IsStopped, IsCutThere, files_left}

@@ -32,8 +32,8 @@ use Rattle.theory.proofs.AsRead.{read_nothing}
 use Rattle.theory.proofs.JudgedAtExit.{taken_nothing}
 use Rattle.theory.proofs.Ledger.{beside_looks}
 use Rattle.theory.proofs.Ticking.{ticked_nothing}
-use Rattle.runner.specs.Course.{Course}
-use Rattle.runner.specs.Removing.{AreRemoved}
+use Rattle.work.specs.Course.{Course}
+use Rattle.work.specs.Removing.{AreRemoved}
 use Rattle.builder.specs.declared.report.Report.{Report}
 use Rattle.builder.specs.declared.report.Report.TheVariants.{Fault}
 use Rattle.builder.specs.Build.{RemovesFiles, LeavesAlone}

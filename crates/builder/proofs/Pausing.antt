@@ -6,15 +6,15 @@ use Rattle.model.specs.Phases.{Phase}
 use Rattle.theory.proofs.SiteCalls.{unrefused_none}
 use Rattle.graph.specs.declared.cone.Cone.{Cone}
 use Rattle.graph.specs.declared.graph.Graph.{Graph}
-use Rattle.runner.specs.declared.cut.Cut.{Cut}
-use Rattle.runner.specs.declared.state.State.{State}
-use Rattle.runner.specs.declared.summary.Pause.{Pause}
-use Rattle.runner.specs.declared.summary.Pause.TheVariants.{Load, Ended}
-use Rattle.runner.specs.After.{ComesAfter, LooksUnlessMore}
-use Rattle.runner.specs.Course.{Course, goes_on, Suits, IsOn}
-use Rattle.runner.specs.Cut.{fault_of, IsLeft}
-use Rattle.runner.specs.Going.{IsGoing}
-use Rattle.runner.specs.Ran.{HasPaused}
+use Rattle.work.specs.declared.cut.Cut.{Cut}
+use Rattle.work.specs.declared.state.State.{State}
+use Rattle.work.specs.declared.summary.Pause.{Pause}
+use Rattle.work.specs.declared.summary.Pause.TheVariants.{Load, Ended}
+use Rattle.work.specs.After.{ComesAfter, LooksUnlessMore}
+use Rattle.work.specs.Course.{Course, goes_on, Suits, IsOn}
+use Rattle.work.specs.Cut.{fault_of, IsLeft}
+use Rattle.work.specs.Going.{IsGoing}
+use Rattle.work.specs.Ran.{HasPaused}
 use Rattle.builder.specs.Going.{grown_course, HasSourcesAt, GoesWell, HasPausedSo, WasCut}
 use Rattle.builder.proofs.Halting.{load_at, done_at, cut_at}
 

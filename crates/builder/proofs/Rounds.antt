@@ -7,11 +7,11 @@ use Rattle.model.specs.Phases.{Phase}
 use Rattle.graph.specs.declared.cone.Cone.{Cone}
 use Rattle.graph.specs.declared.graph.Graph.{Graph}
 use Rattle.graph.specs.Told.{declared_by}
-use Rattle.runner.specs.declared.state.State.{State}
-use Rattle.runner.specs.declared.summary.Pause.{Pause}
-use Rattle.runner.specs.declared.summary.Pause.TheVariants.{Load, Ended}
-use Rattle.runner.specs.declared.summary.Summary.{Summary}
-use Rattle.runner.specs.Course.{Course}
+use Rattle.work.specs.declared.state.State.{State}
+use Rattle.work.specs.declared.summary.Pause.{Pause}
+use Rattle.work.specs.declared.summary.Pause.TheVariants.{Load, Ended}
+use Rattle.work.specs.declared.summary.Summary.{Summary}
+use Rattle.work.specs.Course.{Course}
 use Rattle.builder.specs.declared.stop.Stop.{Stop}
 use Rattle.builder.specs.Going.{BeginsAt, IsAtNextLoad, HasDone, HasHalted, HasPausedSo}
 

@@ -31,8 +31,8 @@ use Rattle.theory.proofs.Ledger.{run_of, judged_of, judged_at_of, frame_of, met_
 use Rattle.theory.proofs.Over.{no_logs_are_faithful}
 use Rattle.theory.proofs.PhasesGoOn.{no_text}
 use Rattle.theory.proofs.LogLawsStated.{clean_with_loads}
-use Rattle.runner.specs.Going.{IsInHand}
-use Rattle.runner.specs.Removing.{AreRemoved}
+use Rattle.work.specs.Going.{IsInHand}
+use Rattle.work.specs.Removing.{AreRemoved}
 use Rattle.builder.specs.declared.report.Report.{Report}
 use Rattle.builder.specs.declared.report.Report.TheVariants.{Success, Failed, Fault}
 use Rattle.builder.specs.Loads.{RefusesFile}

@@ -22,15 +22,15 @@ use Rattle.plan.specs.declared.step.Step.TheVariants.{Load}
 use Rattle.plan.specs.Planned.{IsOffered, IsDueNext}
 use Rattle.records.specs.declared.records.Records.{Records}
 use Rattle.records.specs.Laws.{LogStays}
-use Rattle.display.specs.Shown.{Showing}
-use Rattle.runner.specs.declared.cut.Cut.{Cut}
-use Rattle.runner.specs.declared.state.State.{State}
-use Rattle.runner.specs.After.{ComesAfter}
-use Rattle.runner.specs.Going.{IsCut}
-use Rattle.runner.specs.Course.{Course}
-use Rattle.runner.specs.Cut.{fault_of, IsLeft}
-use Rattle.runner.proofs.After.{after_looks}
-use Rattle.runner.proofs.Noticed.{with_looks}
+use Rattle.work.specs.Shown.{Showing}
+use Rattle.work.specs.declared.cut.Cut.{Cut}
+use Rattle.work.specs.declared.state.State.{State}
+use Rattle.work.specs.After.{ComesAfter}
+use Rattle.work.specs.Going.{IsCut}
+use Rattle.work.specs.Course.{Course}
+use Rattle.work.specs.Cut.{fault_of, IsLeft}
+use Rattle.work.proofs.After.{after_looks}
+use Rattle.work.proofs.Noticed.{with_looks}
 use Rattle.builder.specs.declared.report.Refusal.{Refusal}
 use Rattle.builder.specs.declared.stop.Stop.{Stop}
 use Rattle.builder.specs.declared.stop.Stop.TheVariants as stop

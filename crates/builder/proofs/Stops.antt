@@ -8,12 +8,12 @@ use Rattle.model.specs.Schedule.{Step as Done}
 use Rattle.graph.specs.declared.cone.Cone.{Cone}
 use Rattle.graph.specs.declared.graph.Graph.{Graph}
 use Rattle.theory.specs.Ledger.{IsCutOff}
-use Rattle.runner.specs.declared.cut.Cut.{Cut}
-use Rattle.runner.specs.declared.state.State.{State}
-use Rattle.runner.specs.After.{ComesAfter}
-use Rattle.runner.specs.Course.{Course}
-use Rattle.runner.specs.Cut.{fault_of, IsLeft}
-use Rattle.runner.specs.Cutting.{IsMet, TakesIn}
+use Rattle.work.specs.declared.cut.Cut.{Cut}
+use Rattle.work.specs.declared.state.State.{State}
+use Rattle.work.specs.After.{ComesAfter}
+use Rattle.work.specs.Course.{Course}
+use Rattle.work.specs.Cut.{fault_of, IsLeft}
+use Rattle.work.specs.Cutting.{IsMet, TakesIn}
 use Rattle.theory.specs.Seen.{IsSeen}
 use Rattle.builder.specs.declared.report.Refusal.{Refusal}
 use Rattle.builder.specs.declared.stop.Stop.{Stop}

@@ -10,7 +10,7 @@ use Rattle.model.specs.Premises.{LogsAreLeft, OnlyFreeIsEdited, IsNoEdit}
 use Rattle.theory.proofs.Looks.{edits_before, untouched}
 use Rattle.theory.proofs.Starting.{since}
 use Rattle.judge.specs.Seen.{AreKept}
-use Rattle.runner.proofs.Quiet.{all_kept}
+use Rattle.work.proofs.Quiet.{all_kept}
 use Rattle.builder.specs.Going.{is_bound}
 
 -- the logs, up to each point before

@@ -37,7 +37,7 @@ use Rattle.graph.specs.declared.fault.GraphFault.TheVariants as fault_of
 use Rattle.graph.specs.Linked.{IsFaultOf}
 use Rattle.graph.specs.Targets.{IsFirstUnknown}
 use Rattle.theory.specs.Alone.{AreLeftAlone}
-use Rattle.runner.specs.Removing.{AreRemoved}
+use Rattle.work.specs.Removing.{AreRemoved}
 use Rattle.manifest.specs.Answer.{IsGraph}
 
 -- the limits of these options

@@ -16,8 +16,8 @@ use Rattle.records.specs.declared.records.Records.{Records}
 use Rattle.judge.specs.Lacks.{HasDue}
 use Rattle.reasons.specs.declared.told.DueCommand.{DueCommand}
 use Rattle.reasons.specs.Why.{HasTold}
-use Rattle.runner.specs.declared.state.State.{State}
-use Rattle.runner.specs.Course.{Course}
+use Rattle.work.specs.declared.state.State.{State}
+use Rattle.work.specs.Course.{Course}
 use Rattle.builder.specs.declared.asked.Asked.{Asked as Request}
 use Rattle.builder.specs.declared.explained.Explanation.{Explanation}
 use Rattle.builder.specs.Build.{asked_of}

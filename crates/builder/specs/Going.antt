@@ -25,17 +25,17 @@ use Rattle.theory.specs.Ledger.{IsPhased}
 use Rattle.plan.specs.declared.plan.Plan.{Plan}
 use Rattle.plan.specs.Planned.{IsPlanned, AreTaken}
 use Rattle.judge.specs.Seen.{AreSeenOf}
-use Rattle.runner.specs.declared.cut.Cut.{Cut}
-use Rattle.runner.specs.declared.state.State.{State}
-use Rattle.runner.specs.declared.summary.Pause.{Pause}
-use Rattle.runner.specs.declared.summary.Pause.TheVariants as pause
-use Rattle.runner.specs.declared.summary.Summary.{Summary}
-use Rattle.runner.specs.After.{ComesAfter}
-use Rattle.runner.specs.Course.{Course, goes_on, Suits, IsOn}
-use Rattle.runner.specs.Cut.{fault_of, IsLeft}
-use Rattle.runner.specs.Cutting.{IsMet}
-use Rattle.runner.specs.Going.{IsCut, IsFinished}
-use Rattle.runner.specs.Ran.{HasRun}
+use Rattle.work.specs.declared.cut.Cut.{Cut}
+use Rattle.work.specs.declared.state.State.{State}
+use Rattle.work.specs.declared.summary.Pause.{Pause}
+use Rattle.work.specs.declared.summary.Pause.TheVariants as pause
+use Rattle.work.specs.declared.summary.Summary.{Summary}
+use Rattle.work.specs.After.{ComesAfter}
+use Rattle.work.specs.Course.{Course, goes_on, Suits, IsOn}
+use Rattle.work.specs.Cut.{fault_of, IsLeft}
+use Rattle.work.specs.Cutting.{IsMet}
+use Rattle.work.specs.Going.{IsCut, IsFinished}
+use Rattle.work.specs.Ran.{HasRun}
 use Rattle.builder.specs.declared.report.Missing.{Missing as Lacking}
 use Rattle.builder.specs.declared.report.Refusal.{Refusal}
 use Rattle.builder.specs.declared.report.Refusal.TheVariants.{File, MadeTwice, NoDyndepInput, Occupied, NoDyndep, BadVersion, BadStatement, Unfit, UnknownTarget, Cycle, Missing}

@@ -26,7 +26,7 @@ use Rattle.records.specs.Known.{AreKnown}
 use Rattle.plan.specs.declared.plan.Plan.{Plan}
 use Rattle.plan.specs.Planned.{IsPlanOver}
 use Rattle.plan.specs.Extended.{GoesOn}
-use Rattle.runner.specs.declared.state.State.{State}
+use Rattle.work.specs.declared.state.State.{State}
 use Rattle.builder.specs.declared.report.Refusal.{Refusal}
 use Rattle.builder.specs.declared.report.Refusal.TheVariants.{File, MadeTwice, NoDyndepInput, Occupied, NoDyndep, BadVersion, BadStatement, Unfit, UnknownTarget, Cycle, Missing}
 use Rattle.builder.specs.declared.stop.Stop.{Stop}

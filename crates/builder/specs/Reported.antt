@@ -11,9 +11,9 @@ use Rattle.graph.specs.declared.cone.Cone.{Cone}
 use Rattle.graph.specs.declared.graph.Graph.{Graph}
 use Rattle.judge.specs.declared.looks.Look.TheVariants.{Unasked}
 use Rattle.records.specs.declared.records.Records.{Records}
-use Rattle.runner.specs.declared.state.State.{State}
-use Rattle.runner.specs.declared.summary.Summary.{Summary}
-use Rattle.runner.specs.Course.{Course}
+use Rattle.work.specs.declared.state.State.{State}
+use Rattle.work.specs.declared.summary.Summary.{Summary}
+use Rattle.work.specs.Course.{Course}
 use Rattle.builder.specs.declared.asked.Limits.{Limits}
 use Rattle.builder.specs.declared.report.Report.{Report}
 use Rattle.builder.specs.declared.report.Report.TheVariants.{Fault}

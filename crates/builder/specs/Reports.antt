@@ -32,9 +32,9 @@ use Rattle.model.specs.declared.record.DepsRecord.{DepsRecord}
 use Rattle.plan.specs.declared.plan.Plan.{Plan}
 use Rattle.plan.specs.Planned.{IsPlanned}
 use Rattle.plan.specs.Flags.{has}
-use Rattle.runner.specs.declared.summary.Summary.{Summary}
-use Rattle.runner.specs.declared.summary.Summary.TheVariants.{Well, Failed as SomeFailed}
-use Rattle.runner.specs.Course.{Course, edges_of}
+use Rattle.work.specs.declared.summary.Summary.{Summary}
+use Rattle.work.specs.declared.summary.Summary.TheVariants.{Well, Failed as SomeFailed}
+use Rattle.work.specs.Course.{Course, edges_of}
 use Rattle.builder.specs.declared.asked.Asked.{Asked as Request}
 use Rattle.builder.specs.declared.asked.Limits.{Limits}
 use Rattle.builder.specs.declared.report.Refusal.{Refusal}

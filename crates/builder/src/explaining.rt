@@ -12,8 +12,8 @@ ghost use Rattle.graph.specs.Told.{declared_by};
 ghost use Rattle.judge.specs.Looking.{HasLooked};
 ghost use Rattle.manifest.specs.Answer.{IsGraph};
 ghost use Rattle.paths.specs.Told.{graph_of, text_at};
-ghost use Rattle.runner.specs.Course.{Course};
-ghost use Rattle.runner.specs.Going.{AreSet};
+ghost use Rattle.work.specs.Course.{Course};
+ghost use Rattle.work.specs.Going.{AreSet};
 ghost use Rattle.builder.specs.Explained.{AreSaid, IsSaid, SaysDue, TellsDue, Explains, ExplainsBuild};
 ghost use Rattle.builder.specs.Going.{BeginsAt};
 ghost use Rattle.builder.specs.Reports.{HasRead, IsLinked};
@@ -38,10 +38,10 @@ use model::{Act, Reason, SiteFault};
 use paths::{Action, EdgeId, PathId};
 use reasons::{DueCommand, due_commands};
 use records::{Records, log_begins};
-use runner::State;
 use site::Site;
 use std::alloc::{AllocError, Global};
 use text::{Path, Text};
+use work::State;
 
 /// Why commands are due that [`crate::build`] would start, by what the build files, the logs and the files say now. It takes the same
 /// stages up to the first start, and refuses what that refuses by then, with the same report: dyndep files that no edge makes are loaded.

@@ -12,10 +12,10 @@ ghost use Rattle.graph.specs.Links.{links_of};
 ghost use Rattle.graph.specs.Told.{declared_by};
 ghost use Rattle.plan.specs.declared.step.Step.TheVariants as step;
 ghost use Rattle.plan.specs.Planned.{IsOffered, IsDueNext};
-ghost use Rattle.runner.specs.declared.state.State.{State as StateOf};
-ghost use Rattle.runner.specs.Course.{Course};
-ghost use Rattle.runner.specs.Going.{IsCut, AreSet};
-ghost use Rattle.runner.specs.Ran.{AreEdgesOf, IsPauseOf};
+ghost use Rattle.work.specs.declared.state.State.{State as StateOf};
+ghost use Rattle.work.specs.Course.{Course};
+ghost use Rattle.work.specs.Going.{IsCut, AreSet};
+ghost use Rattle.work.specs.Ran.{AreEdgesOf, IsPauseOf};
 ghost use Rattle.builder.specs.Going.{BeginsAt, IsAtNextLoad, HasSourcesAt, IsRefusedAt, HasBegun, HasDone, NoSourceIsDue, GoesWell, IsStopThere, IsStopOf, StoppedThere, HasHalted, HasPausedSo, HasEndedSo, IfRefused, IfFault, files_left, stop_answer};
 
 use crate::commands::unstarted_commands;
@@ -26,9 +26,9 @@ use graph::{Cone, Graph};
 use paths::PathId;
 use plan::{Plan, Step};
 use records::log_stays;
-use runner::{Pause, Setting, State, Summary, finish, give_up, run_plan};
 use site::Site;
 use std::alloc::Global;
+use work::{Pause, Setting, State, Summary, finish, give_up, run_plan};
 
 /// Runs the plan until nothing is left to do, and loads the dyndep files that become known (manual: "Dynamic Dependencies").
 ///

@@ -18,9 +18,9 @@ ghost use Rattle.graph.specs.Targets.{IsConeOfNumbers, IsNoConeAgain};
 ghost use Rattle.graph.specs.Told.{declared_by, recorded_by, AreSameInputs};
 ghost use Rattle.records.specs.Known.{IsOf, IsOfDeps, AreKnown};
 ghost use Rattle.plan.specs.Extended.{MayGoOn, GoesOn};
-ghost use Rattle.runner.specs.Course.{Course};
-ghost use Rattle.runner.specs.Cutting.{IsMet};
-ghost use Rattle.runner.specs.Going.{AreSet};
+ghost use Rattle.work.specs.Course.{Course};
+ghost use Rattle.work.specs.Cutting.{IsMet};
+ghost use Rattle.work.specs.Going.{AreSet};
 ghost use Rattle.builder.specs.Going.{StandsAt, HasAsked, IsLoadNext, HasBegun, IsStopped, IsCutThere, IfRefused, IfFault, files_left};
 ghost use Rattle.builder.specs.Joined.{WasHeld, IsUnread, stop_of, IsMemory, IsUnfitBy, IsCircle, IsUnjoined, MayJoin, GoesOnWith, IsLeftWith, HasRoomIn, StayKnown, IsAsBefore};
 ghost use Rattle.builder.specs.Loads.{IsSaying};
@@ -36,10 +36,10 @@ use model::SiteFault;
 use paths::PathId;
 use plan::{loads_go_on, task_of};
 use records::{Records, log_stays};
-use runner::State;
 use site::Site;
 use std::alloc::{AllocError, Global};
 use text::{Items, Path};
+use work::State;
 
 /// Loads the dyndep file, which is to be loaded next: what it says joins the graph, with the recorded inputs of the edges that name
 /// it, and the run goes on over that. `cone` becomes the cone of the same targets over it. Commands may run meanwhile.

@@ -16,12 +16,12 @@ ghost use Rattle.graph.specs.Occupying.{AreApart};
 ghost use Rattle.graph.specs.Told.{declared_by, recorded_by};
 ghost use Rattle.manifest.specs.Answer.{IsGraph};
 ghost use Rattle.paths.specs.Told.{graph_of, text_at};
-ghost use Rattle.runner.specs.Course.{Course};
-ghost use Rattle.runner.specs.Ran.{AreEdgesOf};
+ghost use Rattle.work.specs.Course.{Course};
+ghost use Rattle.work.specs.Ran.{AreEdgesOf};
 ghost use Rattle.builder.specs.Build.{limits_of, Builds, IsBuild};
 ghost use Rattle.builder.specs.Parts.{BuildsAsked, BuildsGraph, BuildsReading, IsReportOfNoGraph};
 ghost use Rattle.model.specs.Phases.{Phase};
-ghost use Rattle.runner.specs.Going.{AreSet};
+ghost use Rattle.work.specs.Going.{AreSet};
 ghost use Rattle.builder.specs.Going.{BeginsAt};
 ghost use Rattle.builder.specs.Reported.{IsFresh, IsReported};
 ghost use Rattle.builder.specs.Reports.{report_in, IsLinked, HasRead, IsConeRecorded, SaysNoCone, SaysFault, ShowsFault, IsPlanFor, SaysEnd};
@@ -34,7 +34,6 @@ use crate::reading::{Reading, read};
 use crate::recorded::join_recorded;
 use crate::report::{Options, Refusal, Report};
 use depfile::has_reading;
-use display::Display;
 use dyndep_law::has_reading as has_dyndeps;
 use graph::{Cone, ConeFault, Graph, lists_stand};
 use judge::Looks;
@@ -42,10 +41,10 @@ use log_text::has_format;
 use paths::Manifest;
 use plan::{Plan, task_of};
 use records::{Records, log_begins};
-use runner::{State, Summary};
 use site::Site;
 use std::alloc::{AllocError, Global};
 use text::Text;
+use work::{Display, State, Summary};
 
 /// Builds the targets, or the default ones where none is given (manual: "Default target statements").
 ///

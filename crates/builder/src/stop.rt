@@ -2,8 +2,8 @@
 
 use crate::report::{Refusal, Report};
 use model::SiteFault;
-use runner::Cut;
 use std::alloc::{AllocError, AllocFailed};
+use work::Cut;
 
 /// Why a build stops.
 #[derive(Debug, Drop)]
@@ -27,7 +27,7 @@ impl From<SiteFault> for Stop {
 
 impl From<Cut> for Stop {
     ghost use Rattle.std.specs.Prelude.{◌≡◌};
-    ghost use Rattle.runner.specs.Cut.{fault_of};
+    ghost use Rattle.work.specs.Cut.{fault_of};
     ghost use Rattle.builder.specs.declared.stop.Stop.TheVariants.{Fault};
 
     ghost from_gives = { λ cut stop. stop ≡ Fault (fault_of cut) };

@@ -2,8 +2,8 @@ use Rattle.std.proofs.Common.{List}
 use Rattle.model.specs.declared.graph.Edge.{Edge}
 use Rattle.model.specs.Phases.{Phase}
 use Rattle.graph.specs.Told.{declared_by}
-use Rattle.runner.specs.Course.{Course}
-use Rattle.runner.specs.Going.{AreSet}
+use Rattle.work.specs.Course.{Course}
+use Rattle.work.specs.Going.{AreSet}
 use Rattle.builder.specs.Going.{BeginsAt, GoesWell, files_left}
 use Rattle.builder.proofs.going.run_and_load.Given as goal
 

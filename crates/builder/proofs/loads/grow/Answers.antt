@@ -1,7 +1,7 @@
 use Rattle.std.proofs.Common.{inr, sym, subst}
 use Rattle.plan.specs.declared.plan.Plan.{Plan}
 use Rattle.plan.specs.Extended.{GoesOn}
-use Rattle.runner.proofs.Results.{on_err}
+use Rattle.work.proofs.Results.{on_err}
 use Rattle.builder.proofs.loads.grow.Goals as goal
 
 pub returns-in_err-grow-2-clause-left : goal.returns-in_err-grow-2-clause-left

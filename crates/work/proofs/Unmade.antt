@@ -1,0 +1,27 @@
+-- What no command makes is known as it was when a command has ended.
+use Rattle.std.proofs.Common.{◌≡◌, ℕ, suc, Bool, true, false, not, Some, refl, sym, ◌∙◌, ap}
+use Rattle.std.proofs.lemmas.Bool.{false≢true, false_from_ne_true}
+use Rattle.model.specs.World.{World}
+use Rattle.model.specs.Graph.{has_number}
+use Rattle.graph.specs.declared.graph.Graph.{Graph}
+use Rattle.graph.specs.Links.{links_of}
+use Rattle.judge.specs.Seen.{is_asked}
+use Rattle.judge.specs.Lasting.{has_command, is_made, KeepsUnmade}
+use Rattle.work.specs.declared.state.State.{State}
+use Rattle.work.specs.Going.{HasEnded}
+
+-- what the edge of a command makes, a command makes
+made_by : (graph : Graph) (e p : ℕ) → (links_of graph).phony e ≡ false → has_number ((links_of graph).outputs e) p ≡ true → is_made (links_of graph) p ≡ true
+made_by graph e p command output = ap (has_command (links_of graph)) (graph.making.all p e output) ∙ ap not command
+
+no_output : (graph : Graph) (e p : ℕ) → (links_of graph).phony e ≡ false → is_made (links_of graph) p ≡ false → has_number ((links_of graph).outputs e) p ≡ false
+no_output graph e p command free = false_from_ne_true (has_number ((links_of graph).outputs e) p) (λ output. false≢true (sym free ∙ made_by graph e p command output))
+
+pub ended_keeps : (tells : Bool) (graph : Graph) (e : ℕ) (ok : Bool) (was now : World) (old new : State) → (links_of graph).phony e ≡ false → HasEnded tells graph e ok was now old new
+    → KeepsUnmade graph old.plan.changed.items old.looks.seen.items new.plan.changed.items new.looks.seen.items
+ended_keeps tells graph e ok was now old new command ended = record {
+  looks = λ p free asked.
+      let others = ended.forgets.others p (no_output graph e p command free) in
+      ended.looked.stays p (ap is_asked others ∙ asked) ∙ others;
+  flags = λ p free. ended.unchanged p (no_output graph e p command free);
+}

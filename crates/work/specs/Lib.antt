@@ -1,0 +1,12 @@
+pub mod Shown
+pub mod Cut
+pub mod Removing
+pub mod Restat
+pub mod Course
+pub mod Going
+pub mod Starting
+pub mod Ran
+pub mod Cutting
+pub mod Telling
+pub mod After
+pub mod Unmade

@@ -1,0 +1,115 @@
+//! What becomes of the outputs of a command with `restat` (manual: "Rule variables", `restat`).
+
+ghost use Rattle.std.specs.Prelude.{◌≡◌, ◌<◌, not, ℕ, IfOk, OnOk, List, true, false, suc, length, slice_index, slice_index_or};
+ghost use Rattle.model.specs.Calls.{OnlyLooks, HasCause};
+ghost use Rattle.model.specs.Graph.{edge_at, has_number, IsCommand};
+ghost use Rattle.plan.specs.Flags.{has};
+ghost use Rattle.graph.specs.Links.{links_of};
+ghost use Rattle.graph.specs.Told.{declared_by};
+ghost use Rattle.judge.specs.declared.looks.Look.TheVariants.{Unasked};
+ghost use Rattle.judge.specs.Looking.{HasLooked};
+ghost use Rattle.judge.specs.Seen.{look_at, is_asked};
+ghost use Rattle.work.specs.Restat.{is_same_look, AreChangesOf, LooksAnew};
+
+use crate::setting::Setting;
+use graph::{Graph, lists_stand};
+use judge::{Look, Looks};
+use model::SiteFault;
+use paths::{Action, EdgeId, PathId};
+use site::Site;
+use std::alloc::{AllocError, Global};
+
+/// Whether the outputs of the edge count as changed only where their stamps differ.
+pub fn has_restat(graph: &Graph, edge: EdgeId) -> bool
+    requires { IsCommand (declared_by graph.now).edges (suc edge) }
+    ensures { result ≡ (edge_at (declared_by graph.now).edges (suc edge)).restat }
+{
+    match graph.manifest.action(edge) {
+        Action::Alias => unreachable!(),
+        Action::Command(command) => command.restat,
+    }
+}
+
+/// Asks for the outputs of an edge with `restat`: with what is seen now their stamps are compared when its command has ended.
+pub fn ask_before<S: Site>(
+    site: &mut S,
+    setting: Setting<'_>,
+    looks: &mut Looks,
+    edge: EdgeId,
+) -> Result<(), SiteFault>
+    requires running { (S.world site.old).stopped ≡ false }
+    requires fits { length looks.old.seen.items ≡ length setting.graph.now.manifest.paths }
+    requires within { edge < length setting.graph.now.manifest.lines }
+    requires command { IsCommand (declared_by setting.graph.now).edges (suc edge) }
+    ensures looked { HasLooked S.tells setting.entry.graph.now (S.world site.old) (S.world site.new) looks.old looks.new }
+    ensures cause { HasCause (S.world site.old) (S.world site.new) result }
+    ensures asked { OnOk result ((edge_at (declared_by setting.entry.graph.now).edges (suc edge)).restat ≡ true → (p : ℕ) → has_number ((links_of setting.entry.graph.now).outputs edge) p ≡ true → is_asked (look_at looks.new.seen.items p) ≡ true) }
+{
+    if !has_restat(setting.graph, edge) {
+        return Ok(());
+    }
+    lists_stand(setting.graph);
+    looks.ask(site, setting.graph, setting.graph.outputs(edge))
+}
+
+/// Looks anew at the outputs of the edge, and says of each whether its stamp differs from what was seen before. One that was
+/// absent, or is, counts as changed.
+pub fn changes<S: Site>(
+    site: &mut S,
+    setting: Setting<'_>,
+    looks: &mut Looks,
+    edge: EdgeId,
+) -> Result<Vec<bool>, SiteFault>
+    requires running { (S.world site.old).stopped ≡ false }
+    requires fits { length looks.old.seen.items ≡ length setting.graph.now.manifest.paths }
+    requires within { edge < length setting.graph.now.manifest.lines }
+    ensures looks { OnlyLooks S.tells (S.world site.old) (S.world site.new) }
+    ensures cause { HasCause (S.world site.old) (S.world site.new) result }
+    ensures anew { OnOk result (LooksAnew S.tells setting.entry.graph.now edge (S.world site.old) (S.world site.new) looks.old looks.new) }
+    ensures changes { IfOk result (λ flags. AreChangesOf looks.old.seen.items looks.new.seen.items ((links_of setting.entry.graph.now).outputs edge) flags.items) }
+{
+    lists_stand(setting.graph);
+    let outputs = setting.graph.outputs(edge);
+    let before = looks_of(setting.alloc, looks, outputs)?;
+    looks.forget(outputs);
+    looks.ask(site, setting.graph, outputs)?;
+    Ok(flags_of(setting.alloc, looks, outputs, before.as_slice())?)
+}
+
+/// What was seen of these paths.
+fn looks_of(alloc: Global, looks: &Looks, paths: &[PathId]) -> Result<Vec<Look>, AllocError>
+    ensures { IfOk result (λ seen. (length seen.items ≡ length paths.now) × ((k : ℕ) → k < length paths.now → slice_index_or seen.items k Unasked ≡ look_at looks.now.seen.items (slice_index paths.now k))) }
+{
+    let mut seen = Vec::with_capacity(alloc, paths.len())?;
+    for path in paths {
+        seen.push(looks.look(*path))?;
+    }
+    Ok(seen)
+}
+
+/// Whether what is seen of each of these paths differs from what was seen before.
+fn flags_of(
+    alloc: Global,
+    looks: &Looks,
+    paths: &[PathId],
+    before: &[Look],
+) -> Result<Vec<bool>, AllocError>
+    requires { length before.now ≡ length paths.now }
+    ensures { IfOk result (λ flags. (length flags.items ≡ length paths.now) × ((k : ℕ) → k < length paths.now → has flags.items k ≡ not (is_same_look (slice_index_or before.now k Unasked) (look_at looks.now.seen.items (slice_index paths.now k))))) }
+{
+    let mut flags = Vec::with_capacity(alloc, paths.len())?;
+    for place in 0..paths.len() {
+        flags.push(!is_same_look(before[place], looks.look(paths[place])))?;
+    }
+    Ok(flags)
+}
+
+/// Whether both show a file, of one stamp.
+fn is_same_look(before: Look, after: Look) -> bool
+    ensures { result ≡ is_same_look before after }
+{
+    match (before, after) {
+        (Look::Stamp(before), Look::Stamp(after)) => before == after,
+        _ => false,
+    }
+}

@@ -1,0 +1,155 @@
+//! Starting the command of an edge.
+
+ghost use Rattle.std.specs.Prelude.{◌≡◌, ℕ, suc, ◌<◌, Some, None, length, slice_set, true, false, OnOk, OnErr};
+ghost use Rattle.model.specs.World.{World};
+ghost use Rattle.model.specs.Schedule.{Started};
+ghost use Rattle.model.specs.Calls.{OnlyLooks, HasCause};
+ghost use Rattle.model.specs.Graph.{edge_at, IsCommand};
+ghost use Rattle.theory.specs.Seen.{StartsUnrefused};
+ghost use Rattle.graph.specs.Told.{declared_by};
+ghost use Rattle.plan.specs.declared.step.Standing.{Standing};
+ghost use Rattle.plan.specs.declared.step.Step.TheVariants as step;
+ghost use Rattle.plan.specs.Planned.{TakesStep, IsOffered};
+ghost use Rattle.work.specs.After.{ComesAfter};
+ghost use Rattle.work.specs.Course.{Course, Suits, IsOn};
+ghost use Rattle.work.specs.Going.{IsGoing, IsSaid, IsCut, work_left};
+ghost use Rattle.work.specs.Starting.{IsBegun};
+
+use crate::counts::progress;
+use crate::folders::{make_folder, make_output_folders};
+use crate::reported::remove_old_depfile;
+use crate::response::write_response;
+use crate::setting::Setting;
+use crate::state::State;
+use crate::terminal::has_terminal;
+use graph::Graph;
+use model::{Act, SiteFault};
+use paths::{Action, Command, EdgeId};
+use plan::Plan;
+use records::log_stays;
+use site::Site;
+
+/// Starts the command of an edge: makes the folders that it writes into, shows what is shown at a start, says in the log that it
+/// is begun, removes its old depfile, writes its response file, takes a stamp, and starts it.
+///
+/// Where that fails, the plan has the edge as running if its command was started all the same.
+pub fn start_edge<S: Site>(
+    site: &mut S,
+    setting: Setting<'_>,
+    state: &mut State<'_>,
+    edge: EdgeId,
+) -> Result<(), SiteFault>
+    requires running { (S.world site.old).stopped ≡ false }
+    requires going { (going : IsGoing S.tells setting.tick.now setting.graph.now state.old (S.world site.old)) × IsSaid going.course setting.graph.now going.on.steps (step.Start edge) }
+    requires offered { IsOffered state.old.plan (step.Start edge) }
+    ensures cause { HasCause (S.world site.old) (S.world site.new) result }
+    ensures starts { StartsUnrefused (S.world site.old) (S.world site.new) }
+    ensures grows { ComesAfter S.tells (S.world site.old) (S.world site.new) }
+    ensures some { OnOk result ((S.world site.new).events ≡ (S.world site.old).events → ⊥) }
+    ensures nearer { OnOk result (work_left state.new.plan.standings.items < work_left state.old.plan.standings.items) }
+    ensures set { state.new.set ≡ state.old.set }
+    ensures looks { state.new.looks ≡ state.old.looks }
+    ensures changed { state.new.plan.changed ≡ state.old.plan.changed }
+    ensures on { OnOk result ((course : Course) → Suits course setting.entry.tick.now setting.entry.graph.now → (on : IsOn S.tells course setting.entry.graph.now None state.old (S.world site.old)) → IsSaid course setting.entry.graph.now on.steps (step.Start edge) → IsOn S.tells course setting.entry.graph.now None state.new (S.world site.new)) }
+    ensures cut { OnErr result ((course : Course) → Suits course setting.entry.tick.now setting.entry.graph.now → (on : IsOn S.tells course setting.entry.graph.now None state.old (S.world site.old)) → IsSaid course setting.entry.graph.now on.steps (step.Start edge) → IsCut S.tells course setting.entry.graph.now state.new.plan (S.world site.new)) }
+{
+    log_stays();
+    make_folders(site, setting, edge)?;
+    state
+        .display
+        .start(site, setting.graph, edge, progress(&state.plan))?;
+    state
+        .records
+        .begin(setting.alloc, site, setting.graph, edge)?;
+    launch(site, setting, state, edge)
+}
+
+/// Makes the folder of the logs, and those of what the edge makes, of its depfile and of its response file.
+fn make_folders<S: Site>(site: &mut S, setting: Setting<'_>, edge: EdgeId) -> Result<(), SiteFault>
+    requires running { (S.world site.old).stopped ≡ false }
+    requires within { edge < length setting.graph.now.manifest.lines }
+    requires command { IsCommand (declared_by setting.graph.now).edges (suc edge) }
+    ensures looks { OnlyLooks S.tells (S.world site.old) (S.world site.new) }
+    ensures cause { HasCause (S.world site.old) (S.world site.new) result }
+{
+    make_folder(site, setting.tick)?;
+    make_output_folders(site, setting.graph, edge)?;
+    let act = act(setting.graph, edge);
+    make_folder(site, act.depfile.as_str())?;
+    make_folder(site, act.response_path.as_str())
+}
+
+/// Starts the command of an edge that is begun.
+fn launch<S: Site>(
+    site: &mut S,
+    setting: Setting<'_>,
+    state: &mut State<'_>,
+    edge: EdgeId,
+) -> Result<(), SiteFault>
+    requires running { (S.world site.old).stopped ≡ false }
+    requires begun { (course : Course) × Suits course setting.tick.now setting.graph.now × IsBegun S.tells course setting.graph.now (suc edge) state.old (S.world site.old) }
+    requires offered { IsOffered state.old.plan (step.Start edge) }
+    ensures cause { HasCause (S.world site.old) (S.world site.new) result }
+    ensures starts { StartsUnrefused (S.world site.old) (S.world site.new) }
+    ensures grows { ComesAfter S.tells (S.world site.old) (S.world site.new) }
+    ensures some { OnOk result ((S.world site.new).events ≡ (S.world site.old).events → ⊥) }
+    ensures nearer { OnOk result (work_left state.new.plan.standings.items < work_left state.old.plan.standings.items) }
+    ensures set { state.new.set ≡ state.old.set }
+    ensures looks { state.new.looks ≡ state.old.looks }
+    ensures changed { state.new.plan.changed ≡ state.old.plan.changed }
+    ensures on { OnOk result ((course : Course) → Suits course setting.entry.tick.now setting.entry.graph.now → IsBegun S.tells course setting.entry.graph.now (suc edge) state.old (S.world site.old) → IsOn S.tells course setting.entry.graph.now None state.new (S.world site.new)) }
+    ensures cut { OnErr result ((course : Course) → Suits course setting.entry.tick.now setting.entry.graph.now → IsBegun S.tells course setting.entry.graph.now (suc edge) state.old (S.world site.old) → IsCut S.tells course setting.entry.graph.now state.new.plan (S.world site.new)) }
+{
+    log_stays();
+    let act = act(setting.graph, edge);
+    remove_old_depfile(site, act)?;
+    write_response(site, act)?;
+    let stamp = site.tick(setting.tick)?;
+    note_stamp(&mut state.starts, edge, stamp);
+    let known = site.events().len();
+    let result = site.start(edge.job(), act, has_terminal(setting.graph, edge));
+    let is_started = site.events().len() > known;
+    note_start(&mut state.plan, edge, is_started);
+    result
+}
+
+/// What the command of an edge does.
+pub fn act(graph: &Graph, edge: EdgeId) -> &Act
+    requires { IsCommand (declared_by graph.now).edges (suc edge) }
+    ensures { result.now ≡ (edge_at (declared_by graph.now).edges (suc edge)).act }
+{
+    &command(graph, edge).act
+}
+
+/// The command of an edge.
+pub fn command(graph: &Graph, edge: EdgeId) -> &Command
+    requires { IsCommand (declared_by graph.now).edges (suc edge) }
+    ensures act { result.now.act ≡ (edge_at (declared_by graph.now).edges (suc edge)).act }
+    ensures deps { result.now.deps ≡ (edge_at (declared_by graph.now).edges (suc edge)).deps }
+{
+    match graph.manifest.action(edge) {
+        Action::Alias => unreachable!(),
+        Action::Command(command) => command,
+    }
+}
+
+/// Notes the stamp of a start.
+fn note_stamp(starts: &mut [u64], edge: EdgeId, stamp: u64)
+    requires { edge < length starts.old }
+    ensures { starts.new ≡ slice_set starts.old edge stamp }
+{
+    starts[edge.index()] = stamp;
+}
+
+/// Tells the plan that a command was started, where it was.
+fn note_start(plan: &mut Plan, edge: EdgeId, is_started: bool)
+    requires { IsOffered plan.old (step.Start edge) }
+    ensures stands { is_started ≡ true → plan.new.standings.items ≡ slice_set plan.old.standings.items edge Standing.Running }
+    ensures flags { plan.new.changed ≡ plan.old.changed }
+    ensures still { is_started ≡ false → plan.new ≡ plan.old }
+    ensures planned { is_started ≡ true → (graph : Graph) → TakesStep graph plan.old plan.new (Started (suc edge)) }
+{
+    if is_started {
+        plan.started(edge);
+    }
+}
