@@ -38,16 +38,16 @@ use Rattle.work.specs.declared.state.State.{State}
 use Rattle.work.specs.Course.{Course, Suits, IsOn}
 use Rattle.builder.specs.declared.asked.Asked.{Asked as Request}
 use Rattle.builder.specs.Build.{asked_of}
-use Rattle.builder.specs.Going.{BeginsAt, grown_course}
-use Rattle.builder.specs.Loads.{ReadsDyndeps}
-use Rattle.builder.specs.Recorded.{IsRecordedBy}
+use Rattle.work.specs.Standing.{BeginsAt, grown_course}
+use Rattle.work.specs.Loads.{ReadsDyndeps}
+use Rattle.work.specs.Recorded.{IsRecordedBy}
 use Rattle.builder.specs.Reports.{HasRead, IsConeRecorded, IsPlanFor}
 use Rattle.builder.proofs.Looking.{IsFoundAt, course_of}
 use Rattle.builder.proofs.Builds.{any_own, own_in, none_kept, looked_nothing, idle_after}
 use Rattle.builder.proofs.Entry.{AreUnasked, none_asked, all_there}
 use Rattle.builder.proofs.Folders.{logs_apart, tick_is_no_build_log, tick_is_no_deps_log}
 use Rattle.builder.proofs.Formed.{have_outputs}
-use Rattle.builder.proofs.Unedited.{left_before}
+use Rattle.work.proofs.Unedited.{left_before}
 
 -- A run of what was asked for may begin now: no command ran at the entry, since which there was only looked; where files are kept, the
 -- records that were read are those of the entry.

@@ -30,14 +30,15 @@ use Rattle.graph.specs.Linked.{IsFaultOf}
 use Rattle.graph.specs.Targets.{IsFirstUnknown, IsNoCone}
 use Rattle.graph.specs.Told.{declared_by}
 use Rattle.builder.specs.declared.asked.Limits.{Limits}
-use Rattle.builder.specs.declared.report.Refusal.{Refusal}
-use Rattle.builder.specs.declared.report.Refusal.TheVariants as refusal
-use Rattle.builder.specs.declared.report.Report.{Report}
-use Rattle.builder.specs.declared.report.Report.TheVariants.{Success, Failed, Refused, Fault}
+use Rattle.work.specs.declared.report.Refusal.{Refusal}
+use Rattle.work.specs.declared.report.Refusal.TheVariants as refusal
+use Rattle.work.specs.declared.report.Report.{Report}
+use Rattle.work.specs.declared.report.Report.TheVariants.{Success, Failed, Refused, Fault}
 use Rattle.builder.specs.Build.{asked_of, AreGraph, AreGraphs, Says, NamesFault, Builds}
-use Rattle.builder.specs.Reports.{ungraphed, ShowsFault, SaysNoCone}
-use Rattle.builder.specs.Recorded.{IsRecordedBy}
-use Rattle.builder.specs.Loads.{RefusesFile}
+use Rattle.builder.specs.Reports.{ShowsFault, SaysNoCone}
+use Rattle.work.specs.Ends.{ungraphed}
+use Rattle.work.specs.Recorded.{IsRecordedBy}
+use Rattle.work.specs.Loads.{RefusesFile}
 use Rattle.builder.proofs.Looking.{Built, IsFoundAt, none_loaded, passes_looking, built_looking, built_fault}
 
 path_has : (ps : List (List ℕ)) (k : ℕ) → k < length ps → has ps (text_at ps k) ≡ true

@@ -30,27 +30,28 @@ use Rattle.work.specs.declared.summary.Summary.{Summary}
 use Rattle.work.specs.declared.summary.Summary.TheVariants.{Well, Failed as SomeFailed}
 use Rattle.work.specs.Course.{Course}
 use Rattle.work.specs.Cut.{fault_of}
-use Rattle.builder.specs.declared.report.Missing.{Missing as Lacking}
-use Rattle.builder.specs.declared.report.Refusal.{Refusal}
-use Rattle.builder.specs.declared.report.Refusal.TheVariants.{File, MadeTwice, NoDyndepInput, Occupied, NoDyndep, BadVersion, BadStatement, Unfit, UnknownTarget, Cycle, Missing}
-use Rattle.builder.specs.declared.report.Report.{Report}
-use Rattle.builder.specs.declared.report.Report.TheVariants.{Success, Failed, Refused, Fault}
-use Rattle.builder.specs.declared.stop.Stop.{Stop}
-use Rattle.builder.specs.declared.stop.Stop.TheVariants as stop
+use Rattle.work.specs.declared.report.Missing.{Missing as Lacking}
+use Rattle.work.specs.declared.report.Refusal.{Refusal}
+use Rattle.work.specs.declared.report.Refusal.TheVariants.{File, MadeTwice, NoDyndepInput, Occupied, NoDyndep, BadVersion, BadStatement, Unfit, UnknownTarget, Cycle, Missing}
+use Rattle.work.specs.declared.report.Report.{Report}
+use Rattle.work.specs.declared.report.Report.TheVariants.{Success, Failed, Refused, Fault}
+use Rattle.work.specs.declared.stop.Stop.{Stop}
+use Rattle.work.specs.declared.stop.Stop.TheVariants as stop
 use Rattle.builder.specs.Build.{AreGraph, Says, Builds, missing_answer, asked_of}
 use Rattle.work.specs.declared.state.State.{State}
 use Rattle.builder.specs.Reported.{IsReportOf, IsReported}
-use Rattle.builder.specs.Going.{BeginsAt, task_over, IsHeldLoad, IsLacking, IsMissingAfter, IfFault, HasDone, HasStopped, WasCut, HasEndedSo, stop_answer}
-use Rattle.builder.specs.Loads.{IsRefusedFile, RefusesFile}
+use Rattle.work.specs.Standing.{BeginsAt, task_over, IsHeldLoad, IsLacking, IsMissingAfter, IfFault, HasDone, HasStopped, WasCut, HasEndedSo, stop_answer}
+use Rattle.work.specs.Loads.{IsRefusedFile, RefusesFile}
 use Rattle.builder.specs.declared.asked.Asked.{Asked as Request}
-use Rattle.builder.specs.Reports.{first_output_of, IsMissingFor, HasRead, IsConeRecorded, SaysEnd, report_of}
+use Rattle.builder.specs.Reports.{HasRead, IsConeRecorded, SaysEnd}
+use Rattle.work.specs.Ends.{first_output_of, IsMissingFor, report_of}
 use Rattle.builder.proofs.Beginning.{found_later}
 use Rattle.builder.proofs.Builds.{any_own, names_inputs, builds_over}
-use Rattle.builder.proofs.Faults.{idle_left}
+use Rattle.work.proofs.Faults.{idle_left}
 use Rattle.builder.proofs.Opening.{cause_since}
 use Rattle.builder.proofs.Looking.{Built, IsFoundAt, course_of, passes_any, passes_after}
 use Rattle.builder.proofs.Running.{holds_still, held, held_so, right_so, built_ended, built_cut, built_failed, built_well, was_in_order}
-use Rattle.builder.proofs.Slices.{map_suc}
+use Rattle.work.proofs.CountedSlices.{map_suc}
 
 -- ---- other files that are held
 

@@ -34,10 +34,10 @@ use Rattle.theory.proofs.Ledger.{beside_looks}
 use Rattle.theory.proofs.Ticking.{ticked_nothing}
 use Rattle.work.specs.Course.{Course}
 use Rattle.work.specs.Removing.{AreRemoved}
-use Rattle.builder.specs.declared.report.Report.{Report}
-use Rattle.builder.specs.declared.report.Report.TheVariants.{Fault}
+use Rattle.work.specs.declared.report.Report.{Report}
+use Rattle.work.specs.declared.report.Report.TheVariants.{Fault}
 use Rattle.builder.specs.Build.{RemovesFiles, LeavesAlone}
-use Rattle.builder.specs.Loads.{RefusesFile}
+use Rattle.work.specs.Loads.{RefusesFile}
 
 none_before : (before after : List Done) (step : Done) → [] ≡ before ++ step ∷ after → ⊥
 none_before [] after step is = cc

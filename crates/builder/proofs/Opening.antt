@@ -30,17 +30,17 @@ use Rattle.records.specs.Laws.{LogBegins, WereRead}
 use Rattle.records.specs.Logging.{IsLogging}
 use Rattle.records.proofs.Told.{records_told}
 use Rattle.builder.specs.declared.asked.Asked.{Asked as Request}
-use Rattle.builder.specs.declared.stop.Stop.{Stop}
-use Rattle.builder.specs.declared.stop.Stop.TheVariants as stop
+use Rattle.work.specs.declared.stop.Stop.{Stop}
+use Rattle.work.specs.declared.stop.Stop.TheVariants as stop
 use Rattle.builder.specs.Build.{asked_of}
-use Rattle.builder.specs.Going.{IfFault}
-use Rattle.builder.specs.Loads.{ReadsDyndeps}
-use Rattle.builder.specs.Recorded.{HasJoined}
+use Rattle.work.specs.Standing.{IfFault}
+use Rattle.work.specs.Loads.{ReadsDyndeps}
+use Rattle.work.specs.Recorded.{HasJoined}
 use Rattle.builder.specs.Reports.{HasRead}
 use Rattle.builder.proofs.Builds.{looked_more}
 use Rattle.builder.proofs.Looking.{IsFoundAt, course_of}
 use Rattle.builder.proofs.Folders.{logs_apart}
-use Rattle.builder.proofs.Unedited.{left_before}
+use Rattle.work.proofs.Unedited.{left_before}
 
 -- a fault has its cause since the entry, as no call was refused before
 pub cause_since : (entry old new : World) (stop : Stop) → old.failures ≡ entry.failures → IfFault stop (IsSeen old new) → IfFault stop (IsSeen entry new)

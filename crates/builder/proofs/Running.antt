@@ -33,11 +33,11 @@ use Rattle.theory.proofs.PhasesGoOn.{no_text}
 use Rattle.theory.proofs.LogLawsStated.{clean_with_loads}
 use Rattle.work.specs.Going.{IsInHand}
 use Rattle.work.specs.Removing.{AreRemoved}
-use Rattle.builder.specs.declared.report.Report.{Report}
-use Rattle.builder.specs.declared.report.Report.TheVariants.{Success, Failed, Fault}
-use Rattle.builder.specs.Loads.{RefusesFile}
+use Rattle.work.specs.declared.report.Report.{Report}
+use Rattle.work.specs.declared.report.Report.TheVariants.{Success, Failed, Fault}
+use Rattle.work.specs.Loads.{RefusesFile}
 use Rattle.builder.proofs.Looking.{Built, built_by, IsFoundAt}
-use Rattle.builder.proofs.Slices.{suc_has}
+use Rattle.work.proofs.CountedSlices.{suc_has}
 
 -- where nothing was missing when phases began, and the last one, nothing was when they and a last one that has steps began
 in_phases : (own : OwnFiles) (task : Task) (store : Store) (old new : List Moment) (before : List Done) (phases : List Phase) (last : List Done) → WasNothingMissing own task store old new before phases → WasNothingMissingIn own task store old new before phases last

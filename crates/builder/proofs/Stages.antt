@@ -24,17 +24,18 @@ use Rattle.manifest.specs.declared.fault.ReadError.TheVariants as error
 use Rattle.builder.specs.declared.asked.Limits.{Limits}
 use Rattle.builder.specs.declared.asked.Asked.{Asked}
 use Rattle.builder.specs.declared.reading.Reading.{Reading}
-use Rattle.builder.specs.declared.report.Options.{Options}
-use Rattle.builder.specs.declared.report.Report.{Report}
+use Rattle.work.specs.declared.report.Options.{Options}
+use Rattle.work.specs.declared.report.Report.{Report}
 use Rattle.graph.specs.declared.fault.GraphFault.{GraphFault}
 use Rattle.graph.specs.Linked.{IsFaultOf}
 use Rattle.paths.specs.declared.manifest.Manifest.{Manifest}
 use Rattle.paths.specs.Told.{graph_of}
 use Rattle.builder.specs.Asked.{AreTargets, IsFolder}
-use Rattle.builder.specs.Build.{Builds, BuildsFor, IsBuild, IsUnread, WasRead, limits_of, unread}
-use Rattle.builder.specs.Loads.{ReadsDyndeps}
+use Rattle.builder.specs.Build.{Builds, BuildsFor, IsBuild, IsUnread, WasRead, limits_of}
+use Rattle.work.specs.Ends.{unread, ungraphed}
+use Rattle.work.specs.Loads.{ReadsDyndeps}
 use Rattle.builder.specs.Parts.{IsReportOfNoGraph}
-use Rattle.builder.specs.Reports.{report_in, ungraphed}
+use Rattle.builder.specs.Reports.{report_in}
 use Rattle.builder.proofs.Builds.{looked_nothing, idle_after, any_own, own_in, builds_grow, builds_ungraphed}
 
 -- the report of an exit by `?`

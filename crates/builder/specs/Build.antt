@@ -22,23 +22,24 @@ use Rattle.model.specs.SingleBuild as answer
 use Rattle.manifest.specs.Answer.{ReadsFile, site_part}
 use Rattle.manifest.specs.declared.fault.ReadError.{ReadError}
 use Rattle.manifest.specs.declared.fault.ReadError.TheVariants as read
-use Rattle.builder.specs.declared.report.Refusal.TheVariants.{File, MadeTwice, NoDyndepInput, Occupied, NoDyndep, BadVersion, BadStatement, Unfit, UnknownTarget, Cycle, Missing}
-use Rattle.builder.specs.declared.report.Report.{Report}
-use Rattle.builder.specs.declared.report.Options.{Options}
+use Rattle.work.specs.declared.report.Refusal.TheVariants.{File, MadeTwice, NoDyndepInput, Occupied, NoDyndep, BadVersion, BadStatement, Unfit, UnknownTarget, Cycle, Missing}
+use Rattle.work.specs.declared.report.Report.{Report}
+use Rattle.work.specs.declared.report.Options.{Options}
 use Rattle.builder.specs.declared.asked.Asked.{Asked as Request}
 use Rattle.builder.specs.declared.asked.Limits.{Limits}
 use Rattle.builder.specs.declared.reading.Reading.{Reading}
-use Rattle.builder.specs.declared.report.Report.TheVariants.{Success, Failed, Refused, Fault}
+use Rattle.work.specs.declared.report.Report.TheVariants.{Success, Failed, Refused, Fault}
 use Rattle.theory.specs.Seen.{Looked}
 use Rattle.builder.specs.Asked.{AreTargets, IsFolder}
 use Rattle.paths.specs.Told.{graph_of, text_at}
-use Rattle.builder.specs.Loads.{ReadsDyndeps, RefusesFile}
+use Rattle.work.specs.Loads.{ReadsDyndeps, RefusesFile}
 use Rattle.graph.specs.declared.fault.GraphFault.TheVariants as fault_of
 use Rattle.graph.specs.Linked.{IsFaultOf}
 use Rattle.graph.specs.Targets.{IsFirstUnknown}
 use Rattle.theory.specs.Alone.{AreLeftAlone}
 use Rattle.work.specs.Removing.{AreRemoved}
 use Rattle.manifest.specs.Answer.{IsGraph}
+use Rattle.work.specs.Ends.{unread}
 
 -- the limits of these options
 abbrev pub limits_of : Options → Limits
@@ -136,12 +137,6 @@ abbrev pub BuildsFor : Bool → BuildGraph → Request → List Edge → World �
 BuildsFor tells graph asked grown old new report =
     (B : Behaviour) (format : LogFormat) (own : OwnFiles) (entry : World) → IsReading B.depfile → ReadsDyndeps B.dyndep → ReadsLogs format → IsOwnIn own asked.folder → IsIdle entry.events → Looked tells entry old
     → Builds tells B format own graph asked.folder asked.limits asked.given.now asked.targets grown entry new report
-
--- the report of a build whose files were not read
-abbrev pub unread : ReadError → Report
-unread read.Memory = Fault Memory
-unread (read.Site fault) = Fault fault
-unread (read.Refused fault) = Refused (File fault)
 
 -- the files were not read, or there was no memory for what was asked: the site was only looked at, and the report is of the
 -- reader's error, or of such a one

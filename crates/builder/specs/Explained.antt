@@ -21,8 +21,8 @@ use Rattle.work.specs.Course.{Course}
 use Rattle.builder.specs.declared.asked.Asked.{Asked as Request}
 use Rattle.builder.specs.declared.explained.Explanation.{Explanation}
 use Rattle.builder.specs.Build.{asked_of}
-use Rattle.builder.specs.Going.{BeginsAt}
-use Rattle.builder.specs.Reports.{first_output_of}
+use Rattle.work.specs.Standing.{BeginsAt}
+use Rattle.work.specs.Ends.{first_output_of}
 
 -- this is said of the command, in texts
 pub record IsSaid (graph : Graph) (command : DueCommand) (said : Explanation) : Type 0 where

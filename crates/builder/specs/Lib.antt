@@ -1,12 +1,6 @@
 pub mod Asked
 pub mod Build
-pub mod Commands
-pub mod Loads
-pub mod Joined
 pub mod Parts
-pub mod Going
-pub mod Recorded
 pub mod Reports
-pub mod Sources
 pub mod Reported
 pub mod Explained

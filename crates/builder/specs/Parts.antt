@@ -13,7 +13,7 @@ use Rattle.graph.specs.Told.{declared_by}
 use Rattle.builder.specs.declared.asked.Asked.{Asked}
 use Rattle.builder.specs.declared.asked.Limits.{Limits}
 use Rattle.builder.specs.declared.reading.Reading.{Reading}
-use Rattle.builder.specs.declared.report.Report.{Report}
+use Rattle.work.specs.declared.report.Report.{Report}
 use Rattle.builder.specs.Build.{Builds, BuildsFor}
 use Rattle.builder.specs.Reports.{report_in}
 

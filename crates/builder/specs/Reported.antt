@@ -15,11 +15,12 @@ use Rattle.work.specs.declared.state.State.{State}
 use Rattle.work.specs.declared.summary.Summary.{Summary}
 use Rattle.work.specs.Course.{Course}
 use Rattle.builder.specs.declared.asked.Limits.{Limits}
-use Rattle.builder.specs.declared.report.Report.{Report}
-use Rattle.builder.specs.declared.report.Report.TheVariants.{Fault}
-use Rattle.builder.specs.declared.stop.Stop.{Stop}
-use Rattle.builder.specs.Going.{BeginsAt, HasEndedSo, IfFault, stop_answer}
-use Rattle.builder.specs.Reports.{IsPlanFor, SaysEnd, report_of}
+use Rattle.work.specs.declared.report.Report.{Report}
+use Rattle.work.specs.declared.report.Report.TheVariants.{Fault}
+use Rattle.work.specs.declared.stop.Stop.{Stop}
+use Rattle.work.specs.Standing.{BeginsAt, HasEndedSo, IfFault, stop_answer}
+use Rattle.builder.specs.Reports.{IsPlanFor, SaysEnd}
+use Rattle.work.specs.Ends.{report_of}
 
 -- in this state of a run nothing was judged, seen or started yet; it has these records
 pub record IsFresh (graph : Graph) (cone : Cone) (limits : Limits) (records : Records) (state : State) : Type 0 where

@@ -37,21 +37,17 @@ use Rattle.work.specs.declared.summary.Summary.TheVariants.{Well, Failed as Some
 use Rattle.work.specs.Course.{Course, edges_of}
 use Rattle.builder.specs.declared.asked.Asked.{Asked as Request}
 use Rattle.builder.specs.declared.asked.Limits.{Limits}
-use Rattle.builder.specs.declared.report.Refusal.{Refusal}
-use Rattle.builder.specs.declared.report.Refusal.TheVariants.{MadeTwice, NoDyndepInput, Occupied, UnknownTarget, Cycle}
-use Rattle.builder.specs.declared.stop.Stop.{Stop}
-use Rattle.builder.specs.declared.stop.Stop.TheVariants as stop
-use Rattle.builder.specs.declared.report.Report.{Report}
-use Rattle.builder.specs.declared.report.Report.TheVariants.{Success, Failed, Refused, Fault}
+use Rattle.work.specs.declared.report.Refusal.{Refusal}
+use Rattle.work.specs.declared.report.Refusal.TheVariants.{MadeTwice, NoDyndepInput, Occupied, UnknownTarget, Cycle}
+use Rattle.work.specs.declared.stop.Stop.{Stop}
+use Rattle.work.specs.declared.stop.Stop.TheVariants as stop
+use Rattle.work.specs.declared.report.Report.{Report}
+use Rattle.work.specs.declared.report.Report.TheVariants.{Success, Failed, Refused, Fault}
 use Rattle.builder.specs.Build.{asked_of}
 use Rattle.depfile.specs.Depfile.{IsReading}
-use Rattle.builder.specs.Recorded.{IsRecordedBy}
-use Rattle.builder.specs.Loads.{ReadsDyndeps}
-
--- the report of what has stopped a build
-abbrev pub report_of : Stop → Report
-report_of (stop.Refused refusal) = Refused refusal
-report_of (stop.Fault fault) = Fault fault
+use Rattle.work.specs.Recorded.{IsRecordedBy, IsUnrecorded}
+use Rattle.work.specs.Loads.{ReadsDyndeps}
+use Rattle.work.specs.Ends.{first_output_of}
 
 -- a stage that ends the build gives its report as an error
 abbrev pub report_in : Result Report Report → Report
@@ -59,21 +55,6 @@ report_in (Ok report) = report
 report_in (Err report) = report
 
 -- ---- before the graph
-
--- the first output of this edge
-abbrev pub first_output_of : Manifest → ℕ → List ℕ
-first_output_of manifest e = first_output (edge_at (graph_of manifest).edges (suc e))
-
--- the report of edges that are no graph
-abbrev pub ungraphed : GraphFault → Report
-ungraphed graph.Memory = Fault Memory
-ungraphed (graph.MadeTwice path) = Refused (MadeTwice path)
-ungraphed (graph.NoDyndepInput path) = Refused (NoDyndepInput path)
-ungraphed (graph.Occupied occupied) = Refused (Occupied occupied)
-
--- no edge has a recorded input
-abbrev pub IsUnrecorded : Graph → Type 0
-IsUnrecorded graph = (i : ℕ) → recorded_by graph i ≡ []
 
 -- the edges make a graph, and nothing is recorded of them yet
 pub record IsLinked (graph : Graph) : Type 0 where
@@ -106,12 +87,6 @@ SaysNoCone graph given targets report =
     (report ≡ Fault Memory) ⊎ ((refusal : Refusal) × (report ≡ Refused refusal) × IsConeRefused graph given targets refusal)
 
 -- ---- missing sources
-
--- why the path is named after these steps: it is one of those that are requested, or an input of the edge with this first output
-abbrev pub IsMissingFor : List Edge → Store → List Step → List (List ℕ) → List Moment → List ℕ → Option (List ℕ) → Type 0
-IsMissingFor edges store before requested files path None = IsFirstMissing edges files requested path
-IsMissingFor edges store before requested files path (Some output) =
-    (i : ℕ) × (output ≡ first_output (edge_at edges i)) × IsMissingInput edges store before files requested i path
 
 -- a call was refused, or there was no memory
 pub record SaysFault (old new : World) (report : Report) : Type 0 where

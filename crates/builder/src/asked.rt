@@ -4,10 +4,10 @@ ghost use Rattle.std.specs.Prelude.{◌≡◌, IfOk};
 ghost use Rattle.builder.specs.Asked.{IsPathOf, AreTargets, IsFolder};
 ghost use Rattle.builder.specs.Build.{limits_of};
 
-use crate::report::Options;
 use lexer::{ReadFault, canonical};
 use std::alloc::{AllocError, Global};
 use text::{Items, Path, Text};
+use work::Options;
 
 /// How many commands may run at once, and after how many failed ones nothing more is started; 0 is no limit.
 #[derive(Clone, Copy, Debug)]

@@ -15,20 +15,13 @@ ghost use Rattle.paths.specs.Told.{graph_of, text_at};
 ghost use Rattle.work.specs.Course.{Course};
 ghost use Rattle.work.specs.Going.{AreSet};
 ghost use Rattle.builder.specs.Explained.{AreSaid, IsSaid, SaysDue, TellsDue, Explains, ExplainsBuild};
-ghost use Rattle.builder.specs.Going.{BeginsAt};
+ghost use Rattle.work.specs.Standing.{BeginsAt};
 ghost use Rattle.builder.specs.Reports.{HasRead, IsLinked};
 
 use crate::asked::Asked;
 use crate::explained::{Acts, Explained, Explanation};
-use crate::going::source_to_load;
-use crate::loads::load;
-use crate::names::{first_output, path_text};
 use crate::one_build::{cone_of, read_records, state_of};
 use crate::reading::{Reading, read};
-use crate::recorded::join_recorded;
-use crate::report::{Options, Report};
-use crate::sources::check_sources;
-use crate::stop::Stop;
 use depfile::has_reading;
 use dyndep_law::has_reading as has_dyndeps;
 use graph::{Cone, Graph};
@@ -41,7 +34,10 @@ use records::{Records, log_begins};
 use site::Site;
 use std::alloc::{AllocError, Global};
 use text::{Path, Text};
-use work::State;
+use work::{
+    Options, Report, State, Stop, check_sources, first_output, join_recorded, load, path_text,
+    source_to_load,
+};
 
 /// Why commands are due that [`crate::build`] would start, by what the build files, the logs and the files say now. It takes the same
 /// stages up to the first start, and refuses what that refuses by then, with the same report: dyndep files that no edge makes are loaded.

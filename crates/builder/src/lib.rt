@@ -2,23 +2,15 @@
 #![tactic(auto)]
 
 mod asked;
-mod commands;
 mod explained;
 mod explaining;
-mod going;
-mod loads;
-mod names;
 mod one_build;
 mod own_files;
 mod reading;
-mod recorded;
-mod report;
-mod sources;
-mod stop;
 
 pub use asked::{Asked, Limits, own_folder};
 pub use explained::{Acts, Explained, Explanation};
 pub use explaining::{explain, explain_read};
 pub use one_build::{build, build_graph_read, build_read, link};
 pub use reading::{Reading, read};
-pub use report::{Missing, Options, Refusal, Report, Unfit};
+pub use work::{Missing, Options, Refusal, Report, Unfit};

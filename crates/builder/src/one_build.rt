@@ -22,17 +22,13 @@ ghost use Rattle.builder.specs.Build.{limits_of, Builds, IsBuild};
 ghost use Rattle.builder.specs.Parts.{BuildsAsked, BuildsGraph, BuildsReading, IsReportOfNoGraph};
 ghost use Rattle.model.specs.Phases.{Phase};
 ghost use Rattle.work.specs.Going.{AreSet};
-ghost use Rattle.builder.specs.Going.{BeginsAt};
+ghost use Rattle.work.specs.Standing.{BeginsAt};
 ghost use Rattle.builder.specs.Reported.{IsFresh, IsReported};
 ghost use Rattle.builder.specs.Reports.{report_in, IsLinked, HasRead, IsConeRecorded, SaysNoCone, SaysFault, ShowsFault, IsPlanFor, SaysEnd};
 
 use crate::asked::{Asked, Limits};
-use crate::going::run_graph;
-use crate::names::{first_outputs, path_texts};
 use crate::own_files::{DEPS_LOG, LOG, TICK, own_path};
 use crate::reading::{Reading, read};
-use crate::recorded::join_recorded;
-use crate::report::{Options, Refusal, Report};
 use depfile::has_reading;
 use dyndep_law::has_reading as has_dyndeps;
 use graph::{Cone, ConeFault, Graph, lists_stand};
@@ -44,7 +40,10 @@ use records::{Records, log_begins};
 use site::Site;
 use std::alloc::{AllocError, Global};
 use text::Text;
-use work::{Display, State, Summary};
+use work::{
+    Display, Options, Refusal, Report, State, Summary, first_outputs, join_recorded, path_texts,
+    run_graph,
+};
 
 /// Builds the targets, or the default ones where none is given (manual: "Default target statements").
 ///

@@ -4,11 +4,11 @@ ghost use Rattle.std.specs.Prelude.{◌≡◌, IfOk, IfErr};
 ghost use Rattle.builder.specs.Build.{IsUnread, WasRead};
 
 use crate::asked::Asked;
-use crate::report::{Options, Report};
 use paths::Manifest;
 use site::Texts;
 use std::alloc::Global;
 use text::Text;
+use work::{Options, Report};
 
 /// What was read of build files, and what is asked of it.
 #[derive(Drop)]

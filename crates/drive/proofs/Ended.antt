@@ -18,7 +18,7 @@ use Rattle.theory.specs.Histories.{HasHeadline}
 use Rattle.theory.proofs.Edits.{edit_keeps, restarted_idle}
 use Rattle.theory.proofs.Over.{histories_are_as_claimed, histories_grow}
 use Rattle.builder.specs.declared.asked.Limits.{Limits}
-use Rattle.builder.specs.declared.report.Report.{Report}
+use Rattle.work.specs.declared.report.Report.{Report}
 use Rattle.drive.specs.Driven.{words_in, WasDriven, EditLeavesOutputs, IsUnrefused, IsCutInEdit}
 use Rattle.drive.specs.Moves.{IsGone}
 

@@ -13,7 +13,7 @@ use Rattle.theory.specs.Histories.{HasHeadline}
 use Rattle.theory.proofs.Over.{histories_grow}
 use Rattle.theory.proofs.Driving.{no_restart, ends_any, some_moves, carries_on, carries_one, restarts_on, asks_last}
 use Rattle.builder.specs.declared.asked.Limits.{Limits}
-use Rattle.builder.specs.declared.report.Report.{Report}
+use Rattle.work.specs.declared.report.Report.{Report}
 use Rattle.drive.specs.Driven.{words_in, builds_in, words_of, ReportEach, HasFiles}
 use Rattle.drive.specs.Moves.{IsVisited, IsGone}
 use Rattle.drive.proofs.Saying.{reported_on}

@@ -10,7 +10,7 @@ use Rattle.model.specs.Driven.{StartsAgain, IsCutNext}
 use Rattle.model.specs.Premises.{HaveEnded}
 use Rattle.model.specs.World.{World, View, IsIdle}
 use Rattle.builder.specs.declared.asked.Limits.{Limits}
-use Rattle.builder.specs.declared.report.Report.{Report}
+use Rattle.work.specs.declared.report.Report.{Report}
 use Rattle.drive.specs.Driven.{behaving, Drives, StopsShort, IsUnrefused}
 use Rattle.drive.specs.Moves.{builds_among, IsCarried, AreDone}
 use Rattle.drive.proofs.Going.{goes_on, gone_at_first}

@@ -28,10 +28,11 @@ use Rattle.graph.specs.Extended.{addition_of}
 use Rattle.manifest.specs.Answer.{site_part}
 use Rattle.manifest.specs.declared.fault.ReadError.{ReadError}
 use Rattle.manifest.specs.declared.fault.ReadError.TheVariants as read
-use Rattle.builder.specs.Build.{Says, Builds, IsUnread, IsBuilt, IsBuild, RemovesFiles, LeavesAlone, asked_of, unread}
-use Rattle.builder.specs.Loads.{ReadsDyndeps}
+use Rattle.builder.specs.Build.{Says, Builds, IsUnread, IsBuilt, IsBuild, RemovesFiles, LeavesAlone, asked_of}
+use Rattle.work.specs.Ends.{unread}
+use Rattle.work.specs.Loads.{ReadsDyndeps}
 use Rattle.builder.specs.declared.asked.Limits.{Limits}
-use Rattle.builder.specs.declared.report.Report.{Report}
+use Rattle.work.specs.declared.report.Report.{Report}
 use Rattle.drive.specs.Driven.{unread_answer, behaving, HasCauseOf}
 use Rattle.drive.specs.Moves.{reports_fault, IsEdited, IsReported, IsVisited, IsDone, IsCarried}
 use Rattle.drive.proofs.Saying.{said_once, fault_same}

@@ -26,9 +26,9 @@ use Rattle.manifest.specs.declared.fault.ReadError.{ReadError}
 use Rattle.manifest.specs.declared.fault.ReadError.TheVariants as read
 use Rattle.builder.specs.Asked.{AreTargets, IsFolder}
 use Rattle.builder.specs.Build.{Says, NamesFault, IsUnread, ReadsFirst, RemovesFiles, LeavesAlone, asked_of}
-use Rattle.builder.specs.Loads.{ReadsDyndeps, RefusesFile}
+use Rattle.work.specs.Loads.{ReadsDyndeps, RefusesFile}
 use Rattle.builder.specs.declared.asked.Limits.{Limits}
-use Rattle.builder.specs.declared.report.Report.{Report}
+use Rattle.work.specs.declared.report.Report.{Report}
 
 -- ---- what a build reads
 

@@ -18,10 +18,10 @@ use Rattle.log_text.specs.DepsFormat.{ReadsLogs}
 use Rattle.depfile.specs.Depfile.{IsReading}
 use Rattle.theory.specs.Histories.{HasHeadline}
 use Rattle.builder.specs.Build.{IsBuild}
-use Rattle.builder.specs.Loads.{ReadsDyndeps}
+use Rattle.work.specs.Loads.{ReadsDyndeps}
 use Rattle.builder.specs.declared.asked.Limits.{Limits}
-use Rattle.builder.specs.declared.report.Report.{Report}
-use Rattle.builder.specs.declared.report.Report.TheVariants.{Success, Failed, Refused, Fault}
+use Rattle.work.specs.declared.report.Report.{Report}
+use Rattle.work.specs.declared.report.Report.TheVariants.{Success, Failed, Refused, Fault}
 use Rattle.drive.specs.Driven.{words_in, words_of, builds_in, ReportEach, HasFiles, behaving}
 
 -- the report is a fault

@@ -6,8 +6,8 @@ use Rattle.clap.specs.declared.error.Error.{Error}
 use Rattle.clap.specs.declared.error.kind.ErrorKind.TheVariants.{OutOfMemory}
 use Rattle.nj_run.specs.Options.{AreAsked, Options, audits, nj}
 use Rattle.model.specs.World.{World}
-use Rattle.builder.specs.declared.report.Report.{Report}
-use Rattle.builder.specs.declared.report.Report.TheVariants.{Success, Failed, Refused, Fault}
+use Rattle.work.specs.declared.report.Report.{Report}
+use Rattle.work.specs.declared.report.Report.TheVariants.{Success, Failed, Refused, Fault}
 use Rattle.host.specs.World.{any_outcome, fresh}
 use Rattle.nj_run.specs.Alone.{BuildsAlone}
 use Rattle.nj_run.specs.Status.{status_of}

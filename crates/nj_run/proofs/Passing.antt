@@ -22,11 +22,11 @@ use Rattle.graph.specs.Extended.{addition_of}
 use Rattle.paths.specs.Told.{graph_of}
 use Rattle.builder.specs.declared.asked.Limits.{Limits}
 use Rattle.builder.specs.declared.reading.Reading.{Reading}
-use Rattle.builder.specs.declared.report.Options.{Options}
-use Rattle.builder.specs.declared.report.Report.{Report}
+use Rattle.work.specs.declared.report.Options.{Options}
+use Rattle.work.specs.declared.report.Report.{Report}
 use Rattle.builder.specs.Asked.{AreTargets}
 use Rattle.builder.specs.Build.{Builds, BuildsFor, IsBuild, WasRead, limits_of}
-use Rattle.builder.specs.Loads.{ReadsDyndeps}
+use Rattle.work.specs.Loads.{ReadsDyndeps}
 use Rattle.nj_run.specs.Alone.{IsBuiltAlone, Passes, WasReadAlone, WasUnreadAlone}
 
 pub passes_none : (tells : Bool) (w : World) → Passes tells w w

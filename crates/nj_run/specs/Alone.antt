@@ -5,8 +5,8 @@ use Rattle.model.specs.declared.outcome.Outcome.{Outcome}
 use Rattle.model.specs.World.{World, View}
 use Rattle.model.specs.Calls.{OnlyLooks}
 use Rattle.builder.specs.declared.reading.Reading.{Reading}
-use Rattle.builder.specs.declared.report.Options.{Options}
-use Rattle.builder.specs.declared.report.Report.{Report}
+use Rattle.work.specs.declared.report.Options.{Options}
+use Rattle.work.specs.declared.report.Report.{Report}
 use Rattle.builder.specs.Build.{IsBuild, IsUnread, WasRead, limits_of}
 use Rattle.nj_run.specs.Options.{Options as Asked}
 use Rattle.nj_run.specs.Asked.{BuildsAsked}

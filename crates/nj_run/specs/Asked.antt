@@ -8,9 +8,9 @@ use Rattle.model.specs.declared.fault.SiteFault.TheVariants.{Memory}
 use Rattle.model.specs.World.{World, View}
 use Rattle.status.specs.Pattern.{IsPatternOf}
 use Rattle.nj_run.specs.Options.{Options as Asked}
-use Rattle.builder.specs.declared.report.Options.{Options}
-use Rattle.builder.specs.declared.report.Report.{Report}
-use Rattle.builder.specs.declared.report.Report.TheVariants.{Fault}
+use Rattle.work.specs.declared.report.Options.{Options}
+use Rattle.work.specs.declared.report.Report.{Report}
+use Rattle.work.specs.declared.report.Report.TheVariants.{Fault}
 use Rattle.builder.specs.declared.asked.Limits.{Limits}
 use Rattle.builder.specs.Build.{IsBuild}
 

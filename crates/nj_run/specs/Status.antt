@@ -1,7 +1,7 @@
 -- The status with which the program ends.
 use Rattle.std.specs.Prelude.{ℕ}
-use Rattle.builder.specs.declared.report.Report.{Report}
-use Rattle.builder.specs.declared.report.Report.TheVariants.{Success, Failed, Refused, Fault}
+use Rattle.work.specs.declared.report.Report.{Report}
+use Rattle.work.specs.declared.report.Report.TheVariants.{Success, Failed, Refused, Fault}
 
 -- the status after a build
 abbrev pub status_of : Report → ℕ

@@ -2,8 +2,8 @@
 use Rattle.std.specs.Prelude.{ℕ, Bool, List, [], ◌∷◌, ◌++◌, Option, Some, None, length, codes, decimal, ◌==◌, if◌then◌else◌, ⊤}
 use Rattle.std.specs.Io.KnownBytes.{Appends}
 use Rattle.model.specs.declared.fault.SiteFault.TheVariants.{Memory, Device, Stopped}
-use Rattle.builder.specs.declared.report.Report.{Report}
-use Rattle.builder.specs.declared.report.Report.TheVariants.{Success, Failed, Refused, Fault}
+use Rattle.work.specs.declared.report.Report.{Report}
+use Rattle.work.specs.declared.report.Report.TheVariants.{Success, Failed, Refused, Fault}
 
 abbrev pub line : List ℕ → List ℕ
 line text = text ++ 10 ∷ []

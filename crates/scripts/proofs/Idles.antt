@@ -10,15 +10,15 @@ use Rattle.model.specs.Graph.{Addition}
 use Rattle.model.specs.Records.{OwnFiles, IsOwnIn, file_in, build_log_name, deps_log_name}
 use Rattle.model.specs.SingleBuild.{Answer, is_fault}
 use Rattle.builder.specs.declared.asked.Limits.{Limits}
-use Rattle.builder.specs.declared.report.Refusal.TheVariants.{File, MadeTwice, NoDyndepInput, Occupied, NoDyndep, BadVersion, BadStatement, Unfit, UnknownTarget, Cycle, Missing}
-use Rattle.builder.specs.declared.report.Report.{Report}
-use Rattle.builder.specs.declared.report.Report.TheVariants.{Success, Failed, Refused, Fault}
+use Rattle.work.specs.declared.report.Refusal.TheVariants.{File, MadeTwice, NoDyndepInput, Occupied, NoDyndep, BadVersion, BadStatement, Unfit, UnknownTarget, Cycle, Missing}
+use Rattle.work.specs.declared.report.Report.{Report}
+use Rattle.work.specs.declared.report.Report.TheVariants.{Success, Failed, Refused, Fault}
 use Rattle.log_text.specs.DepsFormat.{HasFormat}
 use Rattle.depfile.specs.Depfile.{HasReading}
 use Rattle.dyndep_law.specs.Readings.{HasReading as HasDyndeps}
 use Rattle.graph.specs.Extended.{addition_of}
 use Rattle.builder.specs.Build.{missing_answer, Says, IsBuild}
-use Rattle.builder.specs.Loads.{ReadsDyndeps}
+use Rattle.work.specs.Loads.{ReadsDyndeps}
 use Rattle.scripts.specs.Script.{GoesOn}
 
 abbrev is_trouble : Report → Bool

@@ -6,9 +6,9 @@ use Rattle.sim.specs.declared.sim.Sim.{Sim}
 use Rattle.sim.specs.declared.toy.Toy.{Toy}
 use Rattle.sim.specs.Toy.{toy_outcome}
 use Rattle.sim.specs.World.{world_of}
-use Rattle.builder.specs.declared.report.Options.{Options}
-use Rattle.builder.specs.declared.report.Report.{Report}
-use Rattle.builder.specs.declared.report.Report.TheVariants.{Success, Failed, Refused, Fault}
+use Rattle.work.specs.declared.report.Options.{Options}
+use Rattle.work.specs.declared.report.Report.{Report}
+use Rattle.work.specs.declared.report.Report.TheVariants.{Success, Failed, Refused, Fault}
 use Rattle.builder.specs.Build.{IsBuild, limits_of}
 
 -- after a fault the site is started again, and after any other answer it stays as the build left it

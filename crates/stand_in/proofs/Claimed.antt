@@ -15,11 +15,12 @@ use Rattle.model.specs.World.{View, World, runs}
 use Rattle.theory.proofs.Edits.{nothing_keeps, others_keep, restarted_idle}
 use Rattle.manifest.specs.declared.fault.ReadError.{ReadError}
 use Rattle.manifest.specs.declared.fault.ReadError.TheVariants as read
-use Rattle.builder.specs.Build.{IsBuilt, IsUnread, Says, limits_of, unread}
+use Rattle.builder.specs.Build.{IsBuilt, IsUnread, Says, limits_of}
+use Rattle.work.specs.Ends.{unread}
 use Rattle.builder.specs.declared.asked.Limits.{Limits}
-use Rattle.builder.specs.declared.report.Options.{Options}
-use Rattle.builder.specs.declared.report.Report.{Report}
-use Rattle.builder.specs.declared.report.Report.TheVariants.{Success}
+use Rattle.work.specs.declared.report.Options.{Options}
+use Rattle.work.specs.declared.report.Report.{Report}
+use Rattle.work.specs.declared.report.Report.TheVariants.{Success}
 use Rattle.stand_in.specs.Laws.{AreFaithful, IsBetween, IsBuiltAsClaimed, KeepsFirst, KeepsPrepared, KeepsRecordsEither, KeepsRecordsIn, RunsAreAsClaimed, Way, asked_in, behaviour_in, builds_in}
 use Rattle.stand_in.specs.Moves.{IsPrepared, MayBeBuiltFirst, WasBuiltFirst}
 

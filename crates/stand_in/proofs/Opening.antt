@@ -22,10 +22,11 @@ use Rattle.manifest.specs.declared.fault.ReadError.TheVariants as read
 use Rattle.manifest.specs.Answer.{IsGraph, ReadsFile, site_part}
 use Rattle.tools.specs.declared.declared.Declared.{Declared}
 use Rattle.builder.specs.Asked.{AreTargets, IsFolder}
-use Rattle.builder.specs.Build.{Builds, unread}
+use Rattle.builder.specs.Build.{Builds}
+use Rattle.work.specs.Ends.{unread}
 use Rattle.builder.specs.Parts.{IsReportOfNoGraph}
-use Rattle.builder.specs.declared.report.Report.{Report}
-use Rattle.builder.specs.declared.report.Report.TheVariants.{Fault}
+use Rattle.work.specs.declared.report.Report.{Report}
+use Rattle.work.specs.declared.report.Report.TheVariants.{Fault}
 use Rattle.stand_in.specs.Moves.{WasReadHere, WasUnreadAlone, WasUnreadHere}
 
 -- what the site has part in, whatever was read

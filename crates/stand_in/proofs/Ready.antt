@@ -24,11 +24,11 @@ use Rattle.tools.specs.Joined.{KeepsEdges}
 use Rattle.tools.specs.declared.declared.Declared.{Declared}
 use Rattle.builder.specs.Asked.{AreTargets, IsFolder}
 use Rattle.builder.specs.Build.{Builds, BuildsFor, IsBuild, limits_of}
-use Rattle.builder.specs.Loads.{ReadsDyndeps}
+use Rattle.work.specs.Loads.{ReadsDyndeps}
 use Rattle.builder.specs.declared.asked.Asked.{Asked as Request}
 use Rattle.builder.specs.declared.asked.Limits.{Limits}
-use Rattle.builder.specs.declared.report.Options.{Options}
-use Rattle.builder.specs.declared.report.Report.{Report}
+use Rattle.work.specs.declared.report.Options.{Options}
+use Rattle.work.specs.declared.report.Report.{Report}
 use Rattle.stand_in.specs.Moves.{IsEndOf, IsReady, WasReadHere}
 use Rattle.stand_in.specs.declared.build.Outcome.TheVariants.{Built}
 use Rattle.stand_in.proofs.Stages.{built_end, looked_nothing, looked_then}

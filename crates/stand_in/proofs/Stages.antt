@@ -14,9 +14,9 @@ use Rattle.theory.proofs.Looks.{looks_nothing, looks_then}
 use Rattle.manifest.specs.declared.fault.ReadError.TheVariants as read
 use Rattle.tools.specs.declared.declared.Declared.{Declared}
 use Rattle.builder.specs.Build.{IsBuild, limits_of}
-use Rattle.builder.specs.declared.report.Options.{Options}
-use Rattle.builder.specs.declared.report.Report.{Report}
-use Rattle.builder.specs.declared.report.Report.TheVariants.{Fault, Success}
+use Rattle.work.specs.declared.report.Options.{Options}
+use Rattle.work.specs.declared.report.Report.{Report}
+use Rattle.work.specs.declared.report.Report.TheVariants.{Fault, Success}
 use Rattle.nj_run.specs.Alone.{Passes}
 use Rattle.stand_in.specs.Moves.{EndsFirst, FailedAt, IsEndOf, IsNext, IsOneBuild, IsPrepared, IsReady, MayBeBuiltFirst, WasReadAlone, WasReadHere, WasUnreadAlone, WasUnreadHere, end_in, outcome_in}
 use Rattle.stand_in.specs.declared.build.Ended.{Ended}

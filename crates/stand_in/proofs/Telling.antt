@@ -4,7 +4,7 @@ use Rattle.model.specs.declared.fault.SiteFault.{SiteFault}
 use Rattle.model.specs.Calls.{OnlyLooks}
 use Rattle.model.specs.World.{IsIdle, World}
 use Rattle.tools.specs.declared.declared.Declared.{Declared}
-use Rattle.builder.specs.declared.report.Report.{Report}
+use Rattle.work.specs.declared.report.Report.{Report}
 use Rattle.theory.proofs.Looks.{looks_nothing, looks_then}
 use Rattle.stand_in.specs.Moves.{OnlyAsks, WasReadAlone, WasReadHere}
 use Rattle.stand_in.proofs.Stages.{idle_then}

@@ -10,9 +10,9 @@ use Rattle.theory.proofs.Looks.{looks_nothing}
 use Rattle.tools.specs.declared.declared.Declared.{Declared}
 use Rattle.tools.specs.declared.fault.Fault.{Fault as Refusal}
 use Rattle.tools.specs.declared.fault.Fault.TheVariants as no_memory
-use Rattle.builder.specs.declared.report.Options.{Options}
-use Rattle.builder.specs.declared.report.Report.{Report}
-use Rattle.builder.specs.declared.report.Report.TheVariants.{Fault, Success}
+use Rattle.work.specs.declared.report.Options.{Options}
+use Rattle.work.specs.declared.report.Report.{Report}
+use Rattle.work.specs.declared.report.Report.TheVariants.{Fault, Success}
 use Rattle.stand_in.specs.Moves.{FailedAt, IsEndOf, IsNext, IsPrepared, MayBeBuiltFirst, OnlyAsks, WasReadAlone, end_in}
 use Rattle.stand_in.specs.declared.build.Ended.{Ended}
 use Rattle.stand_in.specs.declared.build.Next.{Next}

@@ -14,10 +14,10 @@ use Rattle.model.specs.World.{View, World, view_of}
 use Rattle.log_text.specs.DepsFormat.{ReadsLogs}
 use Rattle.depfile.specs.Depfile.{IsReading}
 use Rattle.builder.specs.Build.{Builds, IsBuild, IsBuilt, asked_of, limits_of}
-use Rattle.builder.specs.Loads.{ReadsDyndeps}
+use Rattle.work.specs.Loads.{ReadsDyndeps}
 use Rattle.builder.specs.declared.asked.Limits.{Limits}
-use Rattle.builder.specs.declared.report.Options.{Options}
-use Rattle.builder.specs.declared.report.Report.{Report}
+use Rattle.work.specs.declared.report.Options.{Options}
+use Rattle.work.specs.declared.report.Report.{Report}
 use Rattle.stand_in.specs.Moves.{IsPrepared, MayBeBuiltFirst}
 
 -- the program's own files, and how logs, depfiles and dyndep files are read

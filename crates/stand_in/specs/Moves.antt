@@ -11,9 +11,9 @@ use Rattle.graph.specs.Told.{declared_by}
 use Rattle.tools.specs.declared.declared.Declared.{Declared}
 use Rattle.builder.specs.declared.asked.Limits.{Limits}
 use Rattle.builder.specs.Reports.{IsLinked}
-use Rattle.builder.specs.declared.report.Options.{Options}
-use Rattle.builder.specs.declared.report.Report.{Report}
-use Rattle.builder.specs.declared.report.Report.TheVariants.{Success}
+use Rattle.work.specs.declared.report.Options.{Options}
+use Rattle.work.specs.declared.report.Report.{Report}
+use Rattle.work.specs.declared.report.Report.TheVariants.{Success}
 use Rattle.builder.specs.Build.{IsBuild, limits_of}
 use Rattle.stand_in.specs.declared.build.Ended.{Ended}
 use Rattle.stand_in.specs.declared.build.Next.{Next}

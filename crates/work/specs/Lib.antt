@@ -10,3 +10,10 @@ pub mod Cutting
 pub mod Telling
 pub mod After
 pub mod Unmade
+pub mod Commands
+pub mod Loads
+pub mod Joined
+pub mod Standing
+pub mod Recorded
+pub mod Sources
+pub mod Ends

@@ -1,7 +1,7 @@
 use Rattle.std.proofs.Common.{◌∙◌, List, Bool, length, ap, subst}
 use Rattle.theory.proofs.Looks.{looks_then}
 use Rattle.builder.specs.Explained.{SaysDue}
-use Rattle.builder.proofs.Asking.{order_within, same_edges}
+use Rattle.work.proofs.Asking.{order_within, same_edges}
 use Rattle.builder.proofs.explaining.explain_run.Goals as goal
 
 pub check_sources-requires-clause-fits : goal.check_sources-requires-clause-fits

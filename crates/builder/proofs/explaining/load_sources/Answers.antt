@@ -1,6 +1,6 @@
 use Rattle.std.proofs.Common.{[], ◌∷◌, ◌++◌}
 use Rattle.theory.proofs.Looks.{looks_nothing, looks_then}
-use Rattle.builder.proofs.Stopping.{source_next}
+use Rattle.work.proofs.Stopping.{source_next}
 use Rattle.builder.proofs.explaining.load_sources.Goals as goal
 
 pub sources-init : goal.sources-init

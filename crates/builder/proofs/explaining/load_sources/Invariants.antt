@@ -4,7 +4,7 @@ use Rattle.model.specs.Calls.{OnlyLooks}
 use Rattle.model.specs.Phases.{Phase}
 use Rattle.graph.specs.Told.{declared_by}
 use Rattle.work.specs.Course.{Course}
-use Rattle.builder.specs.Going.{BeginsAt, files_left}
+use Rattle.work.specs.Standing.{BeginsAt, files_left}
 use Rattle.builder.proofs.explaining.load_sources.Given as goal
 
 abbrev pub invariant-sources : goal.invariant-sources

@@ -1,7 +1,7 @@
 use Rattle.std.proofs.Common.{[], refl, sym, ◌∙◌, ap, subst}
 use Rattle.model.specs.Records.{file_in, tick_name}
 use Rattle.graph.specs.Told.{declared_by}
-use Rattle.builder.specs.declared.report.Report.{Report}
+use Rattle.work.specs.declared.report.Report.{Report}
 use Rattle.builder.specs.Build.{Builds, asked_of}
 use Rattle.builder.specs.Reports.{report_in, SaysNoCone}
 use Rattle.builder.proofs.Beginning.{begins_this, begins_here}

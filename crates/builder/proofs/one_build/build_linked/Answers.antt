@@ -9,7 +9,7 @@ use Rattle.theory.proofs.SiteCalls.{cause_then}
 use Rattle.theory.proofs.Looks.{looks_then}
 use Rattle.graph.specs.Told.{declared_by}
 use Rattle.manifest.specs.Answer.{IsGraph}
-use Rattle.builder.specs.declared.report.Report.{Report}
+use Rattle.work.specs.declared.report.Report.{Report}
 use Rattle.builder.specs.Build.{Builds, asked_of}
 use Rattle.builder.specs.Reports.{report_in}
 use Rattle.builder.proofs.Looking.{course_of}

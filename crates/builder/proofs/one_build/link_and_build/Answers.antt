@@ -4,7 +4,7 @@ use Rattle.model.specs.Graph.{IsMadeOnce}
 use Rattle.model.specs.SingleBuild.{NamesOther}
 use Rattle.manifest.specs.Answer.{IsGraph}
 use Rattle.paths.specs.Told.{graph_of}
-use Rattle.builder.specs.declared.report.Report.{Report}
+use Rattle.work.specs.declared.report.Report.{Report}
 use Rattle.builder.specs.Build.{Builds, BuildsFor}
 use Rattle.builder.specs.Parts.{IsReportOfNoGraph}
 use Rattle.builder.specs.Reports.{report_in}

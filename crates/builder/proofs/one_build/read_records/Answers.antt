@@ -1,4 +1,4 @@
-use Rattle.builder.proofs.Joining.{known_at_first}
+use Rattle.work.proofs.Joining.{known_at_first}
 use Rattle.builder.proofs.one_build.read_records.Goals as goal
 
 pub returns-clause-read : goal.returns-clause-read

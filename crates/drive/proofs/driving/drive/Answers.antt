@@ -1,7 +1,7 @@
 use Rattle.std.proofs.Common.{◌≡◌, inl, List, [], refl, sym, subst, length, take, take_all, drop, vec_capacity, ◌+◌, arith}
 use Rattle.model.specs.declared.moves.Move.{Move}
 use Rattle.builder.specs.Build.{limits_of}
-use Rattle.builder.specs.declared.report.Report.{Report}
+use Rattle.work.specs.declared.report.Report.{Report}
 use Rattle.drive.specs.Driven.{StopsShort}
 use Rattle.drive.specs.Moves.{AreDone}
 use Rattle.drive.proofs.Loop.{done_at_first, carried_on, idle_again, all_done, short_at, take_more, split_at, room_at_first, room_for_one, room_behind}

@@ -1,6 +1,6 @@
 use Rattle.std.proofs.Common.{ℕ, List, subst}
 use Rattle.model.specs.declared.fault.SiteFault.TheVariants.{Memory}
-use Rattle.builder.specs.declared.report.Report.TheVariants.{Fault}
+use Rattle.work.specs.declared.report.Report.TheVariants.{Fault}
 use Rattle.theory.proofs.Looks.{looks_nothing}
 use Rattle.stand_in.specs.Moves.{WasReadHere, WasUnreadHere}
 use Rattle.stand_in.proofs.Stages.{idle_then, looked_nothing, memory_end, outcome_by, prepared_at, prepared_then, unread_here_end}

@@ -1,6 +1,6 @@
 use Rattle.std.proofs.Common.{ℕ, Bool, true, false, Option, None, Some, Result, Ok, Err, IsSome, ◌≡◌, refl, sym, ap, ◌∙◌}
 use Rattle.model.specs.declared.fault.SiteFault.TheVariants.{Memory}
-use Rattle.builder.specs.declared.report.Report.TheVariants.{Fault, Success}
+use Rattle.work.specs.declared.report.Report.TheVariants.{Fault, Success}
 use Rattle.stand_in.proofs.Stages.{alone_looks, end_by, memory_end, prepared_at, ready_at}
 use Rattle.stand_in.proofs.Turning.{end_as, next_anew, next_build, next_end}
 use Rattle.stand_in.proofs.build.build_declared.Goals as goal

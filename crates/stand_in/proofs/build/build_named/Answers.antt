@@ -1,5 +1,5 @@
 use Rattle.model.specs.declared.fault.SiteFault.TheVariants.{Memory}
-use Rattle.builder.specs.declared.report.Report.TheVariants.{Fault}
+use Rattle.work.specs.declared.report.Report.TheVariants.{Fault}
 use Rattle.stand_in.proofs.Ready.{ready_built}
 use Rattle.stand_in.proofs.Stages.{memory_end, outcome_by, prepared_then}
 use Rattle.stand_in.proofs.build.build_named.Goals as goal

@@ -1,6 +1,6 @@
 use Rattle.std.proofs.Common.{ℕ, Bool, true, false, Option, None, Some, Result, Ok, Err, IsSome, ◌≡◌, refl, sym, ap, ◌∙◌}
 use Rattle.model.specs.declared.fault.SiteFault.TheVariants.{Memory}
-use Rattle.builder.specs.declared.report.Report.TheVariants.{Fault, Success}
+use Rattle.work.specs.declared.report.Report.TheVariants.{Fault, Success}
 use Rattle.stand_in.proofs.Stages.{idle_then, next_by}
 use Rattle.stand_in.proofs.Turning.{none_ran, turn_failed, turned}
 use Rattle.stand_in.proofs.build.turn_generators.Goals as goal

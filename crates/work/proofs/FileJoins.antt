@@ -1,0 +1,228 @@
+-- What a dyndep file says joins a graph: what follows for recorded inputs, targets, records and the plan, and how it is taken back.
+use Rattle.std.proofs.Common.{◌≡◌, ◌⊎◌, inl, inr, ℕ, zero, suc, ◌<◌, ◌≤◌, cond, bytes_eq, Bool, true, false, List, [], ◌∷◌, ◌++◌, length, get_or, Option, Some, None, is_some, refl, sym, ◌∙◌, ap, subst, append_assoc, arith}
+use Rattle.std.specs.List.{All}
+use Rattle.std.specs.Option.{option_map}
+use Rattle.std.proofs.lemmas.Bool.{cases_Bool, false≢true, eqb-true, eq-eqb, or_left}
+use Rattle.std.proofs.lemmas.List.{length-append}
+use Rattle.std.proofs.lemmas.Option.{slice_get-get_or}
+use Rattle.model.specs.declared.graph.BuildGraph.{BuildGraph}
+use Rattle.model.specs.declared.graph.Edge.{Edge}
+use Rattle.model.specs.declared.graph.Pool.{Pool}
+use Rattle.model.specs.Graph.{has, has_number, edge_at, targets_of, IsMadeOnce, Addition}
+use Rattle.model.specs.Phases.{IsGrownBy}
+use Rattle.model.specs.Records.{Store, recorded_of, recorded_inputs}
+use Rattle.model.specs.SingleBuild.{Asked, asked_with, declared_graph}
+use Rattle.theory.proofs.Lists.{same_some, some_none, bytes_same}
+use Rattle.paths.specs.declared.manifest.Action.{Action}
+use Rattle.paths.specs.declared.manifest.Action.TheVariants.{Alias, Command}
+use Rattle.paths.specs.Commands.{no_action}
+use Rattle.paths.specs.Lists.{line_at}
+use Rattle.paths.specs.Told.{text_at, texts_at, edge_of}
+use Rattle.graph.specs.declared.back.Before.{Before}
+use Rattle.graph.specs.declared.cone.Cone.{Cone}
+use Rattle.graph.specs.declared.graph.Graph.{Graph}
+use Rattle.graph.specs.Back.{Undoes, MayBeTakenBack}
+use Rattle.graph.specs.Extended.{HasLoaded, dyndep_at}
+use Rattle.graph.specs.Held.{list_at, dyndep_of}
+use Rattle.graph.specs.LoadedEdges.{numbers_in}
+use Rattle.graph.specs.Statements.{is_place}
+use Rattle.graph.specs.Told.{declared_by, recorded_by, AreSameInputs}
+use Rattle.plan.specs.Extended.{MayGoOn}
+use Rattle.plan.proofs.Loaded.{file_within, namer_within}
+use Rattle.work.specs.declared.state.State.{State}
+use Rattle.work.specs.declared.report.Refusal.{Refusal}
+use Rattle.work.specs.Joined.{MayJoin, HasJoinedFile, IsCircle, IsUnjoined}
+use Rattle.work.specs.Recorded.{AreToJoin, HasJoinedOf}
+use Rattle.work.proofs.Joining.{recorded_kept, nothing_of}
+use Rattle.work.proofs.Telling.{edge_is}
+
+-- ---- the dyndep file of an edge
+
+dyndep_is : (graph : Graph) (e : ℕ) → (edge_at (declared_by graph).edges (suc e)).dyndep ≡ option_map (text_at graph.manifest.paths) (dyndep_at graph e)
+dyndep_is graph e = ap (λ (x : Edge). x.dyndep) (edge_is graph.manifest e) ∙ by_action (get_or graph.manifest.actions e no_action)
+  where
+    by_action : (a : Action) → (edge_of graph.manifest.paths (line_at graph.manifest.lines e) a).dyndep ≡ option_map (text_at graph.manifest.paths) (dyndep_of a)
+    by_action Alias = refl
+    by_action (Command command) = refl
+
+names_it : (graph : Graph) (e file : ℕ) → is_place (dyndep_at graph e) file ≡ true → (edge_at (declared_by graph).edges (suc e)).dyndep ≡ Some (text_at graph.manifest.paths file)
+names_it graph e file is = dyndep_is graph e ∙ by_dyndep (dyndep_at graph e) is
+  where
+    by_dyndep : (d : Option ℕ) → is_place d file ≡ true → option_map (text_at graph.manifest.paths) d ≡ Some (text_at graph.manifest.paths file)
+    by_dyndep None is = absurd (false≢true is)
+    by_dyndep (Some p) is = ap (λ (n : ℕ). Some (text_at graph.manifest.paths n)) (eqb-true p file is)
+
+names_other : (graph : Graph) (e file : ℕ) → file < length graph.manifest.paths → is_place (dyndep_at graph e) file ≡ false → (edge_at (declared_by graph).edges (suc e)).dyndep ≡ Some (text_at graph.manifest.paths file) → ⊥
+names_other graph e file within other is = by_dyndep (dyndep_at graph e) refl
+  where
+    by_dyndep : (d : Option ℕ) → dyndep_at graph e ≡ d → ⊥
+    by_dyndep None none = some_none (text_at graph.manifest.paths file) (sym is ∙ (dyndep_is graph e ∙ ap (option_map (text_at graph.manifest.paths)) none))
+    by_dyndep (Some p) some = false≢true (sym other ∙ (ap (λ (d : Option ℕ). is_place d file) some ∙ eq-eqb p file number))
+      where
+        same : text_at graph.manifest.paths p ≡ text_at graph.manifest.paths file
+        same = same_some (text_at graph.manifest.paths p) (text_at graph.manifest.paths file) (sym (dyndep_is graph e ∙ ap (option_map (text_at graph.manifest.paths)) some) ∙ is)
+
+        number : p ≡ file
+        number = graph.apart p file (text_at graph.manifest.paths p) (slice_get-get_or graph.manifest.paths p [] (file_within graph e p some))
+            (slice_get-get_or graph.manifest.paths file [] within ∙ ap (λ (t : List ℕ). Some t) (sym {A = List ℕ} same))
+
+-- an edge with a file that is not loaded has no recorded inputs in use
+pub none_unloaded : (phony : Bool) (d : Option (List ℕ)) (f : List ℕ) (rest : List (List ℕ)) (p : List ℕ) → d ≡ Some f → has (cond phony [] (cond (is_some d) [] rest)) p ≡ true → ⊥
+none_unloaded true d f rest p is there = false≢true there
+none_unloaded false d f rest p is there = false≢true (sym (ap (λ (o : Option (List ℕ)). has (cond (is_some o) [] rest) p) is) ∙ there)
+
+nothing_in : (xs : List (List ℕ)) → ((q : List ℕ) → has xs q ≡ true → ⊥) → xs ≡ []
+nothing_in [] none = refl
+nothing_in (x ∷ xs) none = absurd (none x (here x xs))
+  where
+    here : (x : List ℕ) (xs : List (List ℕ)) → has (x ∷ xs) x ≡ true
+    here x xs = or_left (bytes_eq x x) (has xs x) (bytes_same x)
+
+-- ---- lists in front
+
+pub text_front : (paths more : List (List ℕ)) (p : ℕ) → p < length paths → text_at (paths ++ more) p ≡ text_at paths p
+text_front [] more p lt = absurd (omega (arith, lt))
+text_front (x ∷ paths) more zero lt = refl
+text_front (x ∷ paths) more (suc p) lt = text_front paths more p (omega (arith, lt))
+
+pub texts_front : (paths more : List (List ℕ)) (numbers : List ℕ) → All (λ p. p < length paths) numbers → texts_at (paths ++ more) numbers ≡ texts_at paths numbers
+texts_front paths more [] within = refl
+texts_front paths more (n ∷ numbers) within =
+    ap (λ (t : List ℕ). t ∷ texts_at (paths ++ more) numbers) (text_front paths more n (within 0 n (omega arith)))
+    ∙ ap (λ (l : List (List ℕ)). text_at paths n ∷ l) (texts_front paths more numbers (λ k d lt. within (suc k) d (omega (arith, lt))))
+
+pub same_graph : (b : BuildGraph) (pools : List Pool) (defaults : List (List ℕ)) (builddir : List ℕ) → pools ≡ b.pools → defaults ≡ b.defaults → builddir ≡ b.builddir
+    → record { edges = b.edges; pools = pools; defaults = defaults; builddir = builddir } ≡ b
+same_graph b pools defaults builddir one two three =
+    ap (λ (x : List Pool). record { edges = b.edges; pools = x; defaults = defaults; builddir = builddir }) one
+    ∙ (ap (λ (x : List (List ℕ)). record { edges = b.edges; pools = b.pools; defaults = x; builddir = builddir }) two
+    ∙ ap (λ (x : List ℕ). record { edges = b.edges; pools = b.pools; defaults = b.defaults; builddir = x }) three)
+
+-- ---- the file joins
+
+module _ {asked : Asked} {store : Store} {graph : Graph} {cone : Cone} {state : State} {file : ℕ} (may : MayJoin asked store graph cone state file) where
+  abbrev path : List ℕ
+  path = text_at graph.manifest.paths file
+
+  abbrev old : List Edge
+  old = (declared_by graph).edges
+
+  was_recorded : (i : ℕ) (p : List ℕ) → has (recorded_inputs store old i) p ≡ has (recorded_by graph i) p
+  was_recorded i p = ap (λ (b : BuildGraph). has (recorded_inputs store b.edges i) p) (sym {A = BuildGraph} may.same) ∙ may.recorded i p
+
+  none_recorded : (e : ℕ) → is_place (dyndep_at graph e) file ≡ true → (p : List ℕ) → has (recorded_by graph (suc e)) p ≡ true → ⊥
+  none_recorded e names p there =
+      none_unloaded (edge_at old (suc e)).phony (edge_at old (suc e)).dyndep path (recorded_of store (edge_at old (suc e))) p (names_it graph e file names) (was_recorded (suc e) p ∙ there)
+
+  module _ {before : Before} {loaded : Graph} {additions : List Addition} (undoes : Undoes graph loaded file before) (has_it : HasLoaded graph loaded path additions) where
+    abbrev numbers : List ℕ
+    numbers = numbers_in before.edges.items
+
+    -- the edges of the file are edges, and nothing is recorded of them
+    pub numbers_within : (e : ℕ) → has_number numbers e ≡ true → e < length loaded.manifest.lines
+    numbers_within e there = by_dyndep (dyndep_at graph e) refl (sym (undoes.edges e) ∙ there)
+      where
+        by_dyndep : (d : Option ℕ) → dyndep_at graph e ≡ d → is_place d file ≡ true → e < length loaded.manifest.lines
+        by_dyndep None none is = absurd (false≢true is)
+        by_dyndep (Some p) some is = subst (λ (n : ℕ). e < n) (sym {A = ℕ} has_it.lines) (namer_within graph e p some)
+
+    pub to_join : AreToJoin numbers loaded store.records store.deps
+    to_join e there p is = absurd (none_recorded e (sym (undoes.edges e) ∙ there) p (ap (λ (l : List (List ℕ)). has l p) (sym (has_it.recorded (suc e))) ∙ is))
+
+    module _ {grown : Graph} (joined : HasJoinedOf numbers loaded grown store.records store.deps) where
+      abbrev next : List Edge
+      next = (declared_by grown).edges
+
+      by_place : (e : ℕ) (p : List ℕ) → (has_number numbers e ≡ true) ⊎ (has_number numbers e ≡ false) → has (recorded_inputs store next (suc e)) p ≡ has (recorded_by grown (suc e)) p
+      by_place e p (inl there) = sym (joined.joined e there p)
+      by_place e p (inr absent) =
+          ap (λ (b : BuildGraph). has (recorded_inputs store b.edges (suc e)) p) joined.grown.declared
+          ∙ (ap (λ (x : Edge). has (cond x.phony [] (cond (is_some x.dyndep) [] (recorded_of store x))) p) (has_it.grown.others (suc e) (names_other graph e file may.within (sym (undoes.edges e) ∙ absent)))
+          ∙ (was_recorded (suc e) p
+          ∙ ap (λ (l : List (List ℕ)). has l p) (sym (recorded_kept loaded grown joined.grown e (joined.others e absent) ∙ has_it.recorded (suc e)))))
+
+      -- the recorded inputs of the graph are those in use
+      pub recorded_now : AreSameInputs (recorded_inputs store next) (recorded_by grown)
+      recorded_now zero p = refl
+      recorded_now (suc e) p = by_place e p (cases_Bool (has_number numbers e))
+
+      pub joined_file : HasJoinedFile store graph grown path additions
+      joined_file = record { loaded = loaded; has = has_it; more = joined.grown; recorded = recorded_now }
+
+      -- ---- what was asked, over the edges as they are now
+
+      abbrev pub asked_now : Asked
+      asked_now = asked_with asked next
+
+      same_manifest : (declared_by grown).pools ≡ (declared_by graph).pools
+      same_manifest = ap (λ (b : BuildGraph). b.pools) joined.grown.declared ∙ has_it.pools
+
+      same_defaults : (declared_by grown).defaults ≡ (declared_by graph).defaults
+      same_defaults = ap (λ (b : BuildGraph). b.defaults) joined.grown.declared ∙ has_it.defaults
+
+      same_builddir : (declared_by grown).builddir ≡ (declared_by graph).builddir
+      same_builddir = ap (λ (b : BuildGraph). b.builddir) joined.grown.declared ∙ has_it.builddir
+
+      pub asked_same : asked_now.graph ≡ declared_by grown
+      asked_same = same_graph (declared_by grown) asked.graph.pools asked.graph.defaults asked.graph.builddir
+          (ap (λ (b : BuildGraph). b.pools) may.same ∙ sym same_manifest) (ap (λ (b : BuildGraph). b.defaults) may.same ∙ sym same_defaults) (ap (λ (b : BuildGraph). b.builddir) may.same ∙ sym same_builddir)
+
+      paths_are : grown.manifest.paths ≡ graph.manifest.paths ++ (has_it.added ++ joined.grown.more)
+      paths_are = joined.grown.paths ∙ (ap (λ (l : List (List ℕ)). l ++ joined.grown.more) has_it.paths ∙ append_assoc graph.manifest.paths has_it.added joined.grown.more)
+
+      pub longer : length graph.manifest.paths ≤ length grown.manifest.paths
+      longer = let sum = ap length paths_are ∙ length-append graph.manifest.paths (has_it.added ++ joined.grown.more) in omega (arith, sum)
+
+      pub targets_within : All (λ p. p < length grown.manifest.paths) cone.targets.items
+      targets_within k d lt = let was = may.targets k d lt in omega (arith, was, longer)
+
+      pub targets_are : targets_of (declared_graph asked_now) asked_now.targets ≡ texts_at grown.manifest.paths cone.targets.items
+      targets_are =
+          sym may.numbers
+          ∙ sym (ap (λ (l : List (List ℕ)). texts_at l cone.targets.items) paths_are ∙ texts_front graph.manifest.paths (has_it.added ++ joined.grown.more) cone.targets.items may.targets)
+
+      -- edges need one another in a circle
+      pub circle_by : (refusal : Refusal) → IsCircle asked_now store refusal → IsUnjoined asked store path additions refusal
+      circle_by refusal circle = inr (record { next = next; grown = grown_by_it; once = once_now; circle = circle })
+        where
+          grown_by_it : IsGrownBy path additions asked.graph.edges next
+          grown_by_it = subst (λ (b : BuildGraph). IsGrownBy path additions b.edges next) (sym {A = BuildGraph} may.same)
+              (subst (λ (b : BuildGraph). IsGrownBy path additions old b.edges) (sym {A = BuildGraph} joined.grown.declared) has_it.grown)
+
+          once_now : IsMadeOnce next
+          once_now = subst (λ (b : BuildGraph). IsMadeOnce b.edges) (sym {A = BuildGraph} joined.grown.declared) has_it.once
+
+      -- ---- the plan, what was seen, and the records
+
+      pub may_go_on : MayGoOn loaded state.plan → MayGoOn grown state.plan
+      may_go_on goes = record {
+        before = goes.before;
+        over = goes.over;
+        some = goes.some;
+        edges = ap length joined.grown.lines ∙ goes.edges;
+        paths = let sum = ap length joined.grown.paths ∙ length-append loaded.manifest.paths joined.grown.more in let was = goes.paths in omega (arith, sum, was);
+        pools = ap (λ (b : BuildGraph). b.pools) joined.grown.declared ∙ goes.pools;
+        pool = λ i. ap (λ (b : BuildGraph). (edge_at b.edges i).pool) joined.grown.declared ∙ goes.pool i;
+      }
+
+      pub seen_fits : length state.looks.seen.items ≤ length grown.manifest.paths
+      seen_fits = let was = may.seen in omega (arith, was, longer)
+
+      -- ---- taken back
+
+      pub may_take_back : MayBeTakenBack graph loaded grown before
+      may_take_back = record {
+        file = file;
+        undoes = undoes;
+        gained = record {
+          paths = record { added = joined.grown.more; grows = joined.grown.paths };
+          named = joined.grown.named;
+          actions = joined.grown.actions;
+          pools = ap (λ (b : BuildGraph). b.pools) joined.grown.declared;
+          defaults = joined.grown.defaults;
+          builddir = ap (λ (b : BuildGraph). b.builddir) joined.grown.declared;
+          lines = joined.grown.lines;
+          others = joined.others;
+        };
+        none = λ e there. nothing_of graph.manifest.paths (list_at graph.recorded e) (nothing_in (recorded_by graph (suc e)) (none_recorded e (sym (undoes.edges e) ∙ there)));
+      }

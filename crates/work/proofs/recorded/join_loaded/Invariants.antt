@@ -1,0 +1,14 @@
+use Rattle.std.proofs.Common.{List, take}
+use Rattle.model.specs.declared.record.Record.{Record}
+use Rattle.model.specs.declared.record.DepsRecord.{DepsRecord}
+use Rattle.graph.specs.LoadedEdges.{numbers_in}
+use Rattle.records.specs.Known.{AreKnown}
+use Rattle.work.specs.Recorded.{HasMorePaths, AreNumbered, AreToJoin, HasJoinedOf, texts_of}
+use Rattle.work.proofs.recorded.join_loaded.Given as goal
+
+abbrev pub invariant-loop-loaded : goal.invariant-loop-loaded
+invariant-loop-loaded l = record {
+  grown : HasMorePaths l.fn.graph l.graph;
+  numbered : AreNumbered l.graph (texts_of l.records) l.numbers.items;
+  joined : (rs : List Record) (ds : List DepsRecord) → AreKnown l.fn.graph rs ds l.records → AreToJoin (numbers_in l.edges) l.fn.graph rs ds → HasJoinedOf (numbers_in (take l.loaded-index l.edges)) l.fn.graph l.graph rs ds;
+}

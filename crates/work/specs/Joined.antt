@@ -1,0 +1,163 @@
+-- What a graph and its run become when what a dyndep file says joins them, and why it does not.
+use Rattle.std.specs.Prelude.{◌≡◌, ◌⊎◌, ◌<◌, ℕ, Bool, IsTrue, List, length, Option, None, All, Err}
+use Rattle.model.specs.declared.fault.SiteFault.TheVariants.{Memory}
+use Rattle.model.specs.declared.graph.Edge.{Edge}
+use Rattle.model.specs.declared.record.Record.{Record}
+use Rattle.model.specs.declared.record.DepsRecord.{DepsRecord}
+use Rattle.model.specs.World.{World, view_of}
+use Rattle.model.specs.Calls.{Sees}
+use Rattle.model.specs.Graph.{Addition, targets_of, IsMadeOnce}
+use Rattle.model.specs.Phases.{IsGrownBy}
+use Rattle.model.specs.Records.{Store, recorded_inputs}
+use Rattle.model.specs.SingleBuild.{Asked, IsShownCycle, asked_with, declared_graph}
+use Rattle.dyndep.specs.declared.fault.DynFault.TheVariants as said
+use Rattle.dyndep.specs.declared.fault.ReadError.{ReadError}
+use Rattle.dyndep.specs.declared.fault.ReadError.TheVariants as unread
+use Rattle.plan.specs.Flags.{has}
+use Rattle.paths.specs.Told.{texts_at}
+use Rattle.graph.specs.declared.cone.Cone.{Cone}
+use Rattle.graph.specs.declared.graph.Graph.{Graph}
+use Rattle.graph.specs.Extended.{HasLoaded, IsUnfit, IsRemadeBy}
+use Rattle.graph.specs.Targets.{IsConeOfNumbers}
+use Rattle.graph.specs.Told.{declared_by, recorded_by, AreSameInputs}
+use Rattle.judge.specs.Seen.{look_at}
+use Rattle.records.specs.declared.records.Records.{Records}
+use Rattle.records.specs.Known.{AreKnown}
+use Rattle.plan.specs.declared.plan.Plan.{Plan}
+use Rattle.plan.specs.Planned.{IsPlanOver}
+use Rattle.plan.specs.Extended.{GoesOn}
+use Rattle.work.specs.declared.state.State.{State}
+use Rattle.work.specs.declared.report.Refusal.{Refusal}
+use Rattle.work.specs.declared.report.Refusal.TheVariants.{File, MadeTwice, NoDyndepInput, Occupied, NoDyndep, BadVersion, BadStatement, Unfit, UnknownTarget, Cycle, Missing}
+use Rattle.work.specs.declared.stop.Stop.{Stop}
+use Rattle.work.specs.declared.stop.Stop.TheVariants as stop
+use Rattle.work.specs.Standing.{IfFault}
+use Rattle.work.specs.Loads.{IsSaying}
+use Rattle.work.specs.Recorded.{HasMorePaths}
+
+-- ---- what was read
+
+-- at some moment of a call the path held this, and it is so
+pub record WasHeld (tells : Bool) (path : List ℕ) (So : Option (List ℕ) → Type 0) (old new : World) : Type 0 where
+  pub held : Option (List ℕ)
+  pub so : So held
+  pub seen : IsTrue tells → Sees (λ history. view_of history path) held old.history new.history
+
+-- the dyndep file at the path is absent, or holds what cannot be read
+abbrev pub IsUnread : Bool → List ℕ → World → World → Refusal → Type 0
+IsUnread tells path old new (File fault) = ⊥
+IsUnread tells path old new (MadeTwice other) = ⊥
+IsUnread tells path old new (NoDyndepInput other) = ⊥
+IsUnread tells path old new (Occupied occupied) = ⊥
+IsUnread tells path old new (NoDyndep file) = (file ≡ path) × WasHeld tells path (λ held. held ≡ None) old new
+IsUnread tells path old new (BadVersion file) = (file ≡ path) × WasHeld tells path (IsSaying (Err said.BadVersion)) old new
+IsUnread tells path old new (BadStatement file) = (file ≡ path) × WasHeld tells path (IsSaying (Err said.BadStatement)) old new
+IsUnread tells path old new (Unfit unfit) = ⊥
+IsUnread tells path old new (UnknownTarget target) = ⊥
+IsUnread tells path old new (Cycle paths) = ⊥
+IsUnread tells path old new (Missing missing) = ⊥
+
+-- what ends a build whose dyndep file at the path was not read
+abbrev pub stop_of : List ℕ → ReadError → Stop
+stop_of path unread.Memory = stop.Fault Memory
+stop_of path (unread.Fault said.BadVersion) = stop.Refused (BadVersion path)
+stop_of path (unread.Fault said.BadStatement) = stop.Refused (BadStatement path)
+
+-- a fault is want of memory
+abbrev pub IsMemory : Stop → Type 0
+IsMemory stop = IfFault stop (λ fault. fault ≡ Memory)
+
+-- ---- why it does not join
+
+-- the file does not fit these edges, or makes a path anew
+abbrev pub IsUnfitBy : List Edge → List ℕ → List Addition → Refusal → Type 0
+IsUnfitBy edges file additions (File fault) = ⊥
+IsUnfitBy edges file additions (MadeTwice path) = IsRemadeBy edges file additions path
+IsUnfitBy edges file additions (NoDyndepInput other) = ⊥
+IsUnfitBy edges file additions (Occupied occupied) = ⊥
+IsUnfitBy edges file additions (NoDyndep other) = ⊥
+IsUnfitBy edges file additions (BadVersion other) = ⊥
+IsUnfitBy edges file additions (BadStatement other) = ⊥
+IsUnfitBy edges file additions (Unfit unfit) = (unfit.file ≡ file) × IsUnfit edges file additions unfit.output
+IsUnfitBy edges file additions (UnknownTarget target) = ⊥
+IsUnfitBy edges file additions (Cycle paths) = ⊥
+IsUnfitBy edges file additions (Missing missing) = ⊥
+
+-- edges need one another in a circle
+abbrev pub IsCircle : Asked → Store → Refusal → Type 0
+IsCircle asked store (File fault) = ⊥
+IsCircle asked store (MadeTwice path) = ⊥
+IsCircle asked store (NoDyndepInput other) = ⊥
+IsCircle asked store (Occupied occupied) = ⊥
+IsCircle asked store (NoDyndep other) = ⊥
+IsCircle asked store (BadVersion other) = ⊥
+IsCircle asked store (BadStatement other) = ⊥
+IsCircle asked store (Unfit unfit) = ⊥
+IsCircle asked store (UnknownTarget target) = ⊥
+IsCircle asked store (Cycle paths) = IsShownCycle asked store paths
+IsCircle asked store (Missing missing) = ⊥
+
+-- the edges have what the file says, and need one another in a circle by it
+pub record IsCircleBy (asked : Asked) (store : Store) (file : List ℕ) (additions : List Addition) (refusal : Refusal) : Type 0 where
+  pub next : List Edge
+  pub grown : IsGrownBy file additions asked.graph.edges next
+  pub once : IsMadeOnce next
+  pub circle : IsCircle (asked_with asked next) store refusal
+
+abbrev pub IsUnjoined : Asked → Store → List ℕ → List Addition → Refusal → Type 0
+IsUnjoined asked store file additions refusal = IsUnfitBy asked.graph.edges file additions refusal ⊎ IsCircleBy asked store file additions refusal
+
+-- ---- what joins
+
+-- What was asked is done over this graph, with the recorded inputs that are in use; this is its cone, and the plan and what was seen
+-- have room for its paths; this file is to be loaded.
+pub record MayJoin (asked : Asked) (store : Store) (graph : Graph) (cone : Cone) (state : State) (file : ℕ) : Type 0 where
+  pub same : asked.graph ≡ declared_by graph
+  pub recorded : AreSameInputs (recorded_inputs store asked.graph.edges) (recorded_by graph)
+  pub known : AreKnown graph store.records store.deps state.records
+  pub over : IsPlanOver graph state.plan
+  pub some : 0 < length state.plan.loads.items
+  pub within : file < length graph.manifest.paths
+  pub seen : length state.looks.seen.items ≡ length graph.manifest.paths
+  pub targets : All (λ p. p < length graph.manifest.paths) cone.targets.items
+  pub numbers : texts_at graph.manifest.paths cone.targets.items ≡ targets_of (declared_graph asked) asked.targets
+
+-- the graph got what the file says, and the recorded inputs that are in use then
+pub record HasJoinedFile (store : Store) (graph grown : Graph) (file : List ℕ) (additions : List Addition) : Type 0 where
+  pub loaded : Graph
+  pub has : HasLoaded graph loaded file additions
+  pub more : HasMorePaths loaded grown
+  pub recorded : AreSameInputs (recorded_inputs store (declared_by grown).edges) (recorded_by grown)
+
+-- and the plan goes on over the cone of the same targets
+pub record GoesOnWith (store : Store) (graph grown : Graph) (targets : List ℕ) (cone : Cone) (old new : Plan) (file : List ℕ) (additions : List Addition) : Type 0 where
+  pub joined : HasJoinedFile store graph grown file additions
+  pub cone_of : IsConeOfNumbers grown (recorded_inputs store (declared_by grown).edges) targets cone
+  pub planned : GoesOn grown cone old new
+
+-- a fault leaves the plan as it was, or so
+abbrev pub IsLeftWith : Graph → Graph → Cone → State → State → ℕ → List ℕ → List Addition → Type 0
+IsLeftWith graph grown cone old new file path additions =
+    (new.plan ≡ old.plan)
+    ⊎ ((asked : Asked) (store : Store) → MayJoin asked store graph cone old file → (then : Cone) × GoesOnWith store graph grown cone.targets.items then old.plan new.plan path additions)
+
+-- the state has room for the paths of the graph, and what it knew stays
+pub record HasRoomIn (graph : Graph) (old new : State) : Type 0 where
+  pub fits : length new.looks.seen.items ≡ length graph.manifest.paths
+  pub looks : (p : ℕ) → look_at new.looks.seen.items p ≡ look_at old.looks.seen.items p
+  pub changed : (p : ℕ) → has new.plan.changed.items p ≡ has old.plan.changed.items p
+  pub starts : new.starts.items ≡ old.starts.items
+  pub failed : new.failed.items ≡ old.failed.items
+
+-- what was known of the one graph is known of the other
+abbrev pub StayKnown : Graph → Graph → Records → Records → Type 0
+StayKnown graph grown old new = (rs : List Record) (ds : List DepsRecord) → AreKnown graph rs ds old → AreKnown grown rs ds new
+
+-- of the state nothing is changed but how the records are kept
+pub record IsAsBefore (old new : State) : Type 0 where
+  pub plan : new.plan ≡ old.plan
+  pub looks : new.looks ≡ old.looks
+  pub logs : new.records.logs ≡ old.records.logs
+  pub starts : new.starts.items ≡ old.starts.items
+  pub failed : new.failed.items ≡ old.failed.items
+  pub set : new.set ≡ old.set

@@ -1,0 +1,29 @@
+//! How many commands are to be started.
+
+ghost use Rattle.std.specs.Prelude.{◌≡◌, length, vec_len};
+ghost use Rattle.work.specs.Commands.{is_unstarted, count_unstarted};
+
+use graph::Graph;
+use plan::{Plan, Standing};
+
+/// How many of the edges that are due have a command that was not started.
+pub fn unstarted_commands(graph: &Graph, plan: &Plan, due: &[bool]) -> usize
+    requires fits { length due.now ≡ length graph.now.manifest.lines }
+    requires plan { vec_len plan.now.standings ≡ length graph.now.manifest.lines }
+    ensures { result ≡ count_unstarted plan.now.standings.items due.now }
+{
+    let mut count = 0;
+    for (place, is_due) in due.iter().enumerate() {
+        if *is_due && is_unstarted(plan.standing(graph.manifest.edge(place))) {
+            count += 1;
+        }
+    }
+    count
+}
+
+/// Whether a command that stands so may still be started.
+fn is_unstarted(standing: Standing) -> bool
+    ensures { result ≡ is_unstarted standing }
+{
+    matches!(standing, Standing::Unjudged | Standing::OutOfDate)
+}

@@ -1,0 +1,270 @@
+//! Loading dyndep files (manual: "Dynamic Dependencies").
+
+ghost use Rattle.std.specs.Prelude.{◌≡◌, ◌<◌, ◌≤◌, ◌++◌, ◌⊎◌, List, ℕ, true, false, All, map, length, vec_len, IfOk, IfErr, OnOk, OnErr, Ok, Err};
+ghost use Rattle.model.specs.declared.graph.Edge.{Edge};
+ghost use Rattle.model.specs.declared.record.Record.{Record};
+ghost use Rattle.model.specs.declared.record.DepsRecord.{DepsRecord};
+ghost use Rattle.model.specs.Graph.{Addition as Added, has_number, targets_of};
+ghost use Rattle.model.specs.Records.{Store, recorded_inputs};
+ghost use Rattle.model.specs.SingleBuild.{Asked, declared_graph};
+ghost use Rattle.model.specs.Phases.{Phase};
+ghost use Rattle.model.specs.Calls.{OnlyLooks, is_stop};
+ghost use Rattle.theory.specs.Seen.{Unrefused};
+ghost use Rattle.paths.specs.Told.{text_at, texts_at};
+ghost use Rattle.graph.specs.Back.{Undoes};
+ghost use Rattle.graph.specs.Extended.{HasLoaded, IsRefusedLoad, addition_of};
+ghost use Rattle.graph.specs.LoadedEdges.{numbers_in};
+ghost use Rattle.graph.specs.Targets.{IsConeOfNumbers, IsNoConeAgain};
+ghost use Rattle.graph.specs.Told.{declared_by, recorded_by, AreSameInputs};
+ghost use Rattle.records.specs.Known.{IsOf, IsOfDeps, AreKnown};
+ghost use Rattle.plan.specs.Extended.{MayGoOn, GoesOn};
+ghost use Rattle.work.specs.Course.{Course};
+ghost use Rattle.work.specs.Cutting.{IsMet};
+ghost use Rattle.work.specs.Going.{AreSet};
+ghost use Rattle.work.specs.Standing.{StandsAt, HasAsked, IsLoadNext, HasBegun, IsStopped, IsCutThere, IfRefused, IfFault, files_left};
+ghost use Rattle.work.specs.Joined.{WasHeld, IsUnread, stop_of, IsMemory, IsUnfitBy, IsCircle, IsUnjoined, MayJoin, GoesOnWith, IsLeftWith, HasRoomIn, StayKnown, IsAsBefore};
+ghost use Rattle.work.specs.Loads.{IsSaying};
+ghost use Rattle.work.specs.Recorded.{AreToJoin, HasJoinedOf};
+
+use crate::names::{path_text, path_texts};
+use crate::recorded::join_loaded;
+use crate::report::{Refusal, Unfit};
+use crate::state::State;
+use crate::stop::Stop;
+use dyndep::{Addition, DynFault, ReadError, one_answer, parse};
+use graph::{Before, Cone, ConeFault, ExtendFault, Graph, lists_stand};
+use model::SiteFault;
+use paths::PathId;
+use plan::{loads_go_on, task_of};
+use records::{Records, log_stays};
+use site::Site;
+use std::alloc::{AllocError, Global};
+use text::{Items, Path};
+
+/// Loads the dyndep file, which is to be loaded next: what it says joins the graph, with the recorded inputs of the edges that name
+/// it, and the run goes on over that. `cone` becomes the cone of the same targets over it. Commands may run meanwhile.
+///
+/// Where it is refused, or what it adds is, the graph, its cone and the plan are as before. After a fault the plan is, or it is that of
+/// the graph with what the file adds.
+pub fn load<S: Site>(
+    alloc: Global,
+    site: &mut S,
+    graph: &mut Graph,
+    cone: &mut Cone,
+    state: &mut State<'_>,
+    file: PathId,
+) -> Result<(), Stop>
+    requires running { (S.world site.old).stopped ≡ false }
+    requires stands { (tick : List ℕ) × (course : Course) × (edges : List Edge) × (phases : List Phase) × (stands : StandsAt S.tells tick course edges phases graph.old cone.old state.old (S.world site.old)) × IsLoadNext course edges graph.old state.old stands.on.steps file }
+    ensures looks { OnlyLooks S.tells (S.world site.old) (S.world site.new) }
+    ensures earlier { (S.world site.new).earlier ≡ (S.world site.old).earlier }
+    ensures unrefused { OnOk result (Unrefused (S.world site.old) (S.world site.new)) }
+    ensures begun { OnOk result ((tick : List ℕ) (course : Course) (edges : List Edge) (phases : List Phase) → (stands : StandsAt S.tells tick course edges phases graph.old cone.old state.old (S.world site.old)) → IsLoadNext course edges graph.old state.old stands.on.steps file → HasAsked S.tells course edges phases (S.world site.old) → HasBegun S.tells tick course phases graph.new cone.new state.new (S.world site.new)) }
+    ensures set { OnOk result (AreSet graph.new state.new.set.items) }
+    ensures fewer { OnOk result (files_left (declared_by graph.new).edges < files_left (declared_by graph.old).edges) }
+    ensures refused { IfErr result (λ stop. IfRefused stop (λ refusal. Unrefused (S.world site.old) (S.world site.new))) }
+    ensures graph { IfErr result (λ stop. IfRefused stop (λ refusal. graph.new ≡ graph.old)) }
+    ensures room { IfErr result (λ stop. IfRefused stop (λ refusal. state.new.set ≡ state.old.set)) }
+    ensures plan { IfErr result (λ stop. IfRefused stop (λ refusal. state.new.plan ≡ state.old.plan)) }
+    ensures stopped { IfErr result (λ stop. IfRefused stop (λ refusal. (tick : List ℕ) (course : Course) (edges : List Edge) (phases : List Phase) → (stands : StandsAt S.tells tick course edges phases graph.old cone.old state.old (S.world site.old)) → IsLoadNext course edges graph.old state.old stands.on.steps file → IsStopped S.tells tick course edges phases graph.new cone.new state.new (S.world site.new) refusal)) }
+    ensures met { IfErr result (λ stop. IfFault stop (IsMet (S.world site.old) (S.world site.new))) }
+    ensures stop { IfErr result (λ stop. IfFault stop (λ fault. (S.world site.new).stopped ≡ is_stop {T = Unit {0}} (Err fault))) }
+    ensures cut { IfErr result (λ stop. IfFault stop (λ fault. (grown : List Edge) × ((tick : List ℕ) (course : Course) (edges : List Edge) (phases : List Phase) → (stands : StandsAt S.tells tick course edges phases graph.old cone.old state.old (S.world site.old)) → IsLoadNext course edges graph.old state.old stands.on.steps file → HasAsked S.tells course edges phases (S.world site.old) → IsCutThere S.tells course grown state.new (S.world site.new)))) }
+{
+    log_stays();
+    one_answer();
+    lists_stand(graph);
+    let additions = additions_in(alloc, site, graph, file)?;
+    let joined = join(alloc, graph, cone, state, file, additions.as_slice());
+    lists_stand(graph);
+    task_of(graph);
+    match joined {
+        Ok(()) => Ok(()),
+        Err(stop) => Err(stop),
+    }
+}
+
+/// What the file says joins the graph, with the recorded inputs of its edges that are in use, and the run goes on over that.
+///
+/// Where it is refused, the graph, its cone and the state are as before, but for how the records are kept.
+fn join(
+    alloc: Global,
+    graph: &mut Graph,
+    cone: &mut Cone,
+    state: &mut State<'_>,
+    file: PathId,
+    additions: &[Addition],
+) -> Result<(), Stop>
+    requires may { (asked : Asked) × (store : Store) × MayJoin asked store graph.old cone.old state.old file }
+    ensures goes { OnOk result ((asked : Asked) (store : Store) → MayJoin asked store graph.old cone.old state.old file → GoesOnWith store graph.old graph.new cone.old.targets.items cone.new state.old.plan state.new.plan (text_at graph.old.manifest.paths file) (map addition_of additions.now)) }
+    ensures room { OnOk result (HasRoomIn graph.new state.old state.new) }
+    ensures known { OnOk result (StayKnown graph.old graph.new state.old.records state.new.records) }
+    ensures logs { OnOk result (state.new.records.logs ≡ state.old.records.logs) }
+    ensures set { OnOk result (AreSet graph.new state.new.set.items) }
+    ensures graph { IfErr result (λ stop. IfRefused stop (λ refusal. graph.new ≡ graph.old)) }
+    ensures cone { OnErr result (cone.new ≡ cone.old) }
+    ensures back { IfErr result (λ stop. IfRefused stop (λ refusal. IsAsBefore state.old state.new)) }
+    ensures records { IfErr result (λ stop. IfRefused stop (λ refusal. StayKnown graph.old graph.new state.old.records state.new.records)) }
+    ensures cause { IfErr result (λ stop. IfRefused stop (λ refusal. (asked : Asked) (store : Store) → MayJoin asked store graph.old cone.old state.old file → IsUnjoined asked store (text_at graph.old.manifest.paths file) (map addition_of additions.now) refusal)) }
+    ensures memory { IfErr result IsMemory }
+    ensures left { IfErr result (λ stop. IfFault stop (λ fault. IsLeftWith graph.old graph.new cone.old state.old state.new file (text_at graph.old.manifest.paths file) (map addition_of additions.now))) }
+{
+    loads_go_on();
+    let before = extend(alloc, graph, file, additions)?;
+    join_inputs(alloc, graph, &mut state.records, &before)?;
+    match cone_again(alloc, graph, cone) {
+        Ok(grown) => {
+            grow(alloc, graph, &grown, state)?;
+            *cone = grown;
+            Ok(())
+        }
+        Err(stop) => {
+            graph.take_back(alloc, before);
+            state.records.shrink(graph);
+            Err(stop)
+        }
+    }
+}
+
+/// What the file says joins the graph; what undoes that.
+fn extend(
+    alloc: Global,
+    graph: &mut Graph,
+    file: PathId,
+    additions: &[Addition],
+) -> Result<Before, Stop>
+    requires { file < length graph.old.manifest.paths }
+    ensures loaded { OnOk result (HasLoaded graph.old graph.new (text_at graph.old.manifest.paths file) (map addition_of additions.now)) }
+    ensures before { IfOk result (λ before. Undoes graph.old graph.new file before) }
+    ensures err { OnErr result (graph.new ≡ graph.old) }
+    ensures refused { IfErr result (λ stop. IfRefused stop (IsUnfitBy (declared_by graph.old).edges (text_at graph.old.manifest.paths file) (map addition_of additions.now))) }
+    ensures memory { IfErr result IsMemory }
+{
+    match graph.extend(alloc, additions, file) {
+        Ok(before) => Ok(before),
+        Err(fault) => Err(unfit(alloc, graph, file, fault)?),
+    }
+}
+
+/// The records are looked up for what the graph got by the load that this undoes, and the recorded inputs of its edges join them
+/// where they are in use.
+fn join_inputs(
+    alloc: Global,
+    graph: &mut Graph,
+    records: &mut Records,
+    before: &Before,
+) -> Result<(), AllocError>
+    requires edges { (e : ℕ) → has_number (numbers_in before.now.edges.items) e ≡ true → e < length graph.old.manifest.lines }
+    requires known { (old : Graph) × (more : List (List ℕ)) × (rs : List Record) × (ds : List DepsRecord) × (graph.old.manifest.paths ≡ old.manifest.paths ++ more) × AreKnown old rs ds records.old }
+    ensures logs { records.new.logs ≡ records.old.logs }
+    ensures joined { OnOk result ((old : Graph) (more : List (List ℕ)) (rs : List Record) (ds : List DepsRecord) → graph.old.manifest.paths ≡ old.manifest.paths ++ more → AreKnown old rs ds records.old → AreToJoin (numbers_in before.now.edges.items) graph.old rs ds → HasJoinedOf (numbers_in before.now.edges.items) graph.old graph.new rs ds) }
+    ensures known { OnOk result ((old : Graph) (more : List (List ℕ)) (rs : List Record) (ds : List DepsRecord) → graph.old.manifest.paths ≡ old.manifest.paths ++ more → AreKnown old rs ds records.old → AreKnown graph.old rs ds records.new) }
+    ensures all { OnOk result ((old : Graph) (more : List (List ℕ)) (rs : List Record) (ds : List DepsRecord) → graph.old.manifest.paths ≡ old.manifest.paths ++ more → AreKnown old rs ds records.old → IsOf rs graph.old.manifest.paths records.new × IsOfDeps ds graph.old.manifest.paths records.new) }
+{
+    records.grow(graph)?;
+    join_loaded(alloc, graph, records, &before.edges)?;
+    Ok(())
+}
+
+/// The cone of the same targets over the graph as it is now.
+fn cone_again(alloc: Global, graph: &Graph, cone: &Cone) -> Result<Cone, Stop>
+    requires targets { All (λ p. p < length graph.now.manifest.paths) cone.now.targets.items }
+    requires asked { (asked : Asked) × (store : Store) × (asked.graph ≡ declared_by graph.now) × (targets_of (declared_graph asked) asked.targets ≡ texts_at graph.now.manifest.paths cone.now.targets.items) × AreSameInputs (recorded_inputs store asked.graph.edges) (recorded_by graph.now) }
+    ensures marks { IfOk result (λ grown. vec_len grown.marks ≡ length graph.now.manifest.lines) }
+    ensures cone { IfOk result (λ grown. (recorded : ℕ → List (List ℕ)) → AreSameInputs recorded (recorded_by graph.now) → IsConeOfNumbers graph.now recorded cone.now.targets.items grown) }
+    ensures refused { IfErr result (λ stop. IfRefused stop (λ refusal. (asked : Asked) (store : Store) → asked.graph ≡ declared_by graph.now → targets_of (declared_graph asked) asked.targets ≡ texts_at graph.now.manifest.paths cone.now.targets.items → AreSameInputs (recorded_inputs store asked.graph.edges) (recorded_by graph.now) → IsCircle asked store refusal)) }
+    ensures memory { IfErr result IsMemory }
+{
+    let targets = cone.targets.as_slice().to_vec(alloc)?;
+    match graph.cone_again(alloc, targets) {
+        Ok(grown) => Ok(grown),
+        Err(fault) => Err(circle(alloc, graph, fault)?),
+    }
+}
+
+/// The run goes on over the graph as it is now, of whose targets this is the cone.
+fn grow(alloc: Global, graph: &Graph, cone: &Cone, state: &mut State<'_>) -> Result<(), AllocError>
+    requires marks { vec_len cone.now.marks ≡ length graph.now.manifest.lines }
+    requires may { MayGoOn graph.now state.old.plan }
+    requires fits { length state.old.looks.seen.items ≤ length graph.now.manifest.paths }
+    ensures planned { OnOk result (GoesOn graph.now cone.now state.old.plan state.new.plan) }
+    ensures left { OnErr result ((state.new.plan ≡ state.old.plan) ⊎ GoesOn graph.now cone.now state.old.plan state.new.plan) }
+    ensures room { OnOk result (HasRoomIn graph.now state.old state.new) }
+    ensures records { state.new.records ≡ state.old.records }
+    ensures set { OnOk result (AreSet graph.now state.new.set.items) }
+{
+    state.plan.extend(alloc, graph, cone)?;
+    state.looks.grow(graph)?;
+    state.grow(alloc, graph)?;
+    Ok(())
+}
+
+/// What the file says.
+fn additions_in<S: Site>(
+    alloc: Global,
+    site: &mut S,
+    graph: &Graph,
+    file: PathId,
+) -> Result<Items<Addition>, Stop>
+    requires running { (S.world site.old).stopped ≡ false }
+    ensures looks { OnlyLooks S.tells (S.world site.old) (S.world site.new) }
+    ensures earlier { (S.world site.new).earlier ≡ (S.world site.old).earlier }
+    ensures unrefused { OnOk result (Unrefused (S.world site.old) (S.world site.new)) }
+    ensures read { IfOk result (λ additions. WasHeld S.tells (text_at graph.now.manifest.paths file) (IsSaying (Ok additions)) (S.world site.old) (S.world site.new)) }
+    ensures calm { IfErr result (λ stop. IfRefused stop (λ refusal. Unrefused (S.world site.old) (S.world site.new))) }
+    ensures refused { IfErr result (λ stop. IfRefused stop (IsUnread S.tells (text_at graph.now.manifest.paths file) (S.world site.old) (S.world site.new))) }
+    ensures met { IfErr result (λ stop. IfFault stop (IsMet (S.world site.old) (S.world site.new))) }
+    ensures stop { IfErr result (λ stop. IfFault stop (λ fault. (S.world site.new).stopped ≡ is_stop {T = Unit {0}} (Err fault))) }
+{
+    let path = path_text(alloc, &graph.manifest, file)?;
+    let Some(bytes) = site.read(path.as_str())? else {
+        return Err(Stop::Refused(Refusal::NoDyndep(path)));
+    };
+    match parse(alloc, bytes.as_slice()) {
+        Ok(additions) => Ok(additions),
+        Err(error) => Err(unread(path, error)),
+    }
+}
+
+/// Why the file at the path was not read.
+fn unread(path: Path, error: ReadError) -> Stop
+    ensures { result ≡ stop_of path error }
+{
+    match error {
+        ReadError::Memory => Stop::Fault(SiteFault::Memory),
+        ReadError::Fault(DynFault::BadVersion) => Stop::Refused(Refusal::BadVersion(path)),
+        ReadError::Fault(DynFault::BadStatement) => Stop::Refused(Refusal::BadStatement(path)),
+    }
+}
+
+/// Why what the file says does not join the graph.
+fn unfit(alloc: Global, graph: &Graph, file: PathId, fault: ExtendFault) -> Result<Stop, AllocError>
+    ensures refused { IfOk result (λ stop. IfRefused stop (λ refusal. (of : Graph) (additions : List Added) → IsRefusedLoad of (text_at graph.now.manifest.paths file) additions fault → IsUnfitBy (declared_by of).edges (text_at graph.now.manifest.paths file) additions refusal)) }
+    ensures memory { IfOk result IsMemory }
+{
+    match fault {
+        ExtendFault::Memory => Ok(Stop::Fault(SiteFault::Memory)),
+        ExtendFault::MadeTwice(path) => Ok(Stop::Refused(Refusal::MadeTwice(path))),
+        ExtendFault::Unfit(output) => Ok(Stop::Refused(Refusal::Unfit(Unfit {
+            file: path_text(alloc, &graph.manifest, file)?,
+            output,
+        }))),
+    }
+}
+
+/// Why the targets have no cone any more.
+fn circle(alloc: Global, graph: &Graph, fault: ConeFault) -> Result<Stop, AllocError>
+    requires { (asked : Asked) × (store : Store) × IsNoConeAgain asked store graph.now.manifest.paths fault }
+    ensures refused { IfOk result (λ stop. IfRefused stop (λ refusal. (asked : Asked) (store : Store) → IsNoConeAgain asked store graph.now.manifest.paths fault → IsCircle asked store refusal)) }
+    ensures memory { IfOk result IsMemory }
+{
+    match fault {
+        ConeFault::Memory => Ok(Stop::Fault(SiteFault::Memory)),
+        ConeFault::Cycle(numbers) => Ok(Stop::Refused(Refusal::Cycle(path_texts(
+            alloc,
+            &graph.manifest,
+            numbers.as_slice(),
+        )?))),
+        ConeFault::Unknown(_) => unreachable!(),
+    }
+}
