@@ -17,5 +17,3 @@ pub mod Judging
 pub mod DueEdges
 pub mod Lacking
 pub mod Finding
-pub mod Callers
-pub mod Points

@@ -43,8 +43,8 @@ use Rattle.judge.specs.Judged.{KeepsDepfile}
 use Rattle.judge.specs.Quiet.{HasPathsFor, KeepsDepfiles, AreAlike, IfQuiet}
 use Rattle.judge.specs.Stores.{IsStoreOf}
 use Rattle.judge.specs.UnderWay.{IsUnderWay}
-use Rattle.judge.proofs.Callers.{under_way}
-use Rattle.judge.proofs.Points.{HasQuiet, IsSpared, paths_for, points_alike}
+use Rattle.work.proofs.Callers.{under_way}
+use Rattle.work.proofs.Points.{HasQuiet, IsSpared, paths_for, points_alike}
 use Rattle.work.specs.declared.state.State.{State}
 use Rattle.work.specs.After.{ComesAfter}
 use Rattle.work.specs.Course.{Course, is_quiet}

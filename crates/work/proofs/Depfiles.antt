@@ -3,6 +3,7 @@ use Rattle.std.proofs.Common.{◌≡◌, ◌≢◌, ℕ, ◌&&◌, ◌||◌, not
 use Rattle.std.specs.List.{list_any}
 use Rattle.std.proofs.lemmas.Bool.{false≢true, or_from, or_parts}
 use Rattle.std.proofs.lemmas.Map.Views.{any-filter_same}
+use Rattle.theory.proofs.Lists.{bytes_same, same_bytes}
 use Rattle.model.specs.declared.act.Act.{Act}
 use Rattle.model.specs.declared.fault.SiteFault.{SiteFault}
 use Rattle.model.specs.declared.event.Moment.{Moment}
@@ -13,7 +14,7 @@ use Rattle.model.specs.Outcome.{read_depfile, depfile_in, is_accepted, listed}
 use Rattle.model.specs.Records.{ListsOnce}
 use Rattle.model.specs.Premises.{FilesAreKept, EndedAt}
 use Rattle.theory.proofs.SiteCalls.{looks_none}
-use Rattle.log_text.proofs.Distinct.{AreOnce, same_bytes, bytes_same, distinct_of_once}
+use Rattle.log_text.proofs.Distinct.{AreOnce, distinct_of_once}
 use Rattle.theory.proofs.Ledger.{SaysAtEnd, ReadAtEnd}
 use Rattle.theory.proofs.TakenIn.{says_failed, says_nothing, read_failed, read_nothing, read_seen, depfile_seen}
 use Rattle.graph.specs.declared.graph.Graph.{Graph}

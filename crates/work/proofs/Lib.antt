@@ -50,3 +50,5 @@ pub mod Stopping
 pub mod Stops
 pub mod Telling
 pub mod Unedited
+pub mod Points
+pub mod Callers

@@ -38,7 +38,7 @@ use Rattle.dyndep.specs.declared.addition.Addition.{Addition as Statement}
 use Rattle.dyndep.specs.declared.fault.DynFault.{DynFault}
 use Rattle.dyndep.specs.declared.fault.DynFault.TheVariants as said
 use Rattle.dyndep.specs.Dyndep.{IsRead, accepted}
-use Rattle.judge.proofs.Points.{IsSpared, points_alike}
+use Rattle.work.proofs.Points.{IsSpared, points_alike}
 use Rattle.plan.specs.Flags as flags
 use Rattle.paths.specs.Told.{text_at, texts_at}
 use Rattle.graph.specs.declared.cone.Cone.{Cone}
