@@ -13,7 +13,7 @@ use Rattle.records.specs.Laws.{LeavesTheLogs}
 
 module _ (tells : Bool) (own : OwnFiles) (edges : List Edge) (first now new : World) where
   module _ (path : List ℕ) (other : WhereKept tells own edges first new ((path ≢ own.build_log) × (path ≢ own.deps_log))) where
-    -- a write or a removal, failed or not, of another file (log_theory says which calls write at one path)
+    -- a write or a removal, failed or not, of another file (`theory` says which calls write at one path)
     pub writes_leave : WritesAt tells path now new → LeavesTheLogs tells own edges first now new
     writes_leave writes = inl (record { events = writes.events; path = path; other = other; history = writes.history })
 
