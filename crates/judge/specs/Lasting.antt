@@ -9,7 +9,7 @@ use Rattle.judge.specs.Seen.{look_at, is_asked}
 use Rattle.judge.specs.declared.input_facts.Inputs.{Inputs}
 use Rattle.judge.specs.declared.sums.Sums.{Sums}
 use Rattle.judge.specs.Facts.{flag_at}
-use Rattle.judge.specs.Summed.{IsSum}
+use Rattle.judge.specs.Summed.{IsSum, AreSums}
 
 -- such an edge has a command
 abbrev pub has_command : Links → Option ℕ → Bool
@@ -61,3 +61,16 @@ LeavesLasting old new = (graph : Graph) (flags : List Bool) (seen : List Look) �
 pub record KeepsUnmade (graph : Graph) (old_flags : List Bool) (old_seen : List Look) (new_flags : List Bool) (new_seen : List Look) : Type 0 where
   pub looks : (p : ℕ) → is_made (links_of graph) p ≡ false → is_asked (look_at old_seen p) ≡ true → look_at new_seen p ≡ look_at old_seen p
   pub flags : (p : ℕ) → is_made (links_of graph) p ≡ false → flag_at new_flags p ≡ flag_at old_flags p
+
+-- ---- a law
+
+-- what was asked for is known still
+abbrev pub StaysKnown : List Look → List Look → Type 0
+StaysKnown seen new = (p : ℕ) → is_asked (look_at seen p) ≡ true → look_at new p ≡ look_at seen p
+
+-- Where what was asked for is known still, sums and marks are right still; behind the end of a command what lasts is right, and lasts.
+pub record SumsFollow : Type 0 where
+  pub sums : (graph : Graph) (flags : List Bool) (seen new : List Look) → StaysKnown seen new → (sums : Sums) → AreSums graph flags seen sums → AreSums graph flags new sums
+  pub marks : (graph : Graph) (flags : List Bool) (seen new : List Look) → StaysKnown seen new → (sums : Sums) → AreMarked graph flags seen sums → AreMarked graph flags new sums
+  pub last_sums : (graph : Graph) (f g : List Bool) (seen new : List Look) → KeepsUnmade graph f seen g new → (sums : Sums) → AreLasting graph f seen sums → AreSums graph g new sums
+  pub last_marks : (graph : Graph) (f g : List Bool) (seen new : List Look) → KeepsUnmade graph f seen g new → (sums : Sums) → AreLasting graph f seen sums → AreMarked graph g new sums

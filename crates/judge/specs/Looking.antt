@@ -17,6 +17,8 @@ pub record HasLooked (tells : Bool) (graph : Graph) (old new : World) (before af
 -- ---- one call after another
 
 pub record LooksFollow (tells : Bool) (a b c : World) : Type 0 where
+  -- no call leaves what is left by none
+  pub none : (graph : Graph) (looks : Looks) → HasLooked tells graph a a looks looks
   -- what both leave is left by the one and then the other
   pub looked : (graph : Graph) (first second third : Looks) → HasLooked tells graph a b first second → HasLooked tells graph b c second third → HasLooked tells graph a c first third
   -- paths that keep their files through both keep them through each

@@ -1,12 +1,19 @@
-//! A law of calls that ask for paths.
+//! Laws of calls that ask for paths, and of sums.
 
 ghost use Rattle.std.specs.Prelude.{Bool};
 ghost use Rattle.model.specs.World.{World};
+ghost use Rattle.judge.specs.Lasting.{SumsFollow};
 ghost use Rattle.judge.specs.Looking.{FilesStay, LooksFollow};
 
-/// A law, which runs nothing: what calls that only look leave, one after another, and that paths which keep their files have
+/// A law, which runs nothing: what calls that only look leave, none of them and one after another, and that paths which keep their files have
 /// the same files behind them.
 pub fn looks_follow()
     ensures follow { (tells : Bool) (a b c : World) → LooksFollow tells a b c }
     ensures stay { (tells : Bool) (old new : World) → FilesStay tells old new }
+{}
+
+/// A law, which runs nothing: sums and their marks stay right where what was seen stays, and those that last behind the end of a
+/// command.
+pub fn sums_follow()
+    ensures { SumsFollow }
 {}

@@ -23,7 +23,7 @@ mod sums;
 pub use input_facts::Inputs;
 pub use judgement::reason;
 pub use lack::{Found, Lack, sources};
-pub use laws::looks_follow;
+pub use laws::{looks_follow, sums_follow};
 pub use looks::{Look, Looks};
 pub use model::Reason;
 pub use output_facts::{OutputFacts, Outputs};

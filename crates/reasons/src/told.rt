@@ -20,7 +20,7 @@ use crate::order::in_order;
 use crate::outputs::{first_output, summary_of};
 use crate::table::{first_found, is_sure, told_reason};
 use graph::{Cone, Graph, Reading, lists_stand, numbers_stand};
-use judge::{Looks, Reason, Sums, looks_follow, reason};
+use judge::{Looks, Reason, Sums, looks_follow, reason, sums_follow};
 use model::SiteFault;
 use paths::{Action, Command, EdgeId, PathId};
 use records::Records;
@@ -186,6 +186,7 @@ fn due_command<S: Site>(
     ensures why { IfOk result (IsWhy S.tells graph.now records.now flags.now (S.world site.old) (S.world site.new) looks.old looks.new edge) }
 {
     looks_follow();
+    sums_follow();
     let found = reason(alloc, site, graph, looks, sums, records, &[], edge)?;
     let reading = graph.reading(alloc, edge)?;
     let edges = edges_of(&reading);

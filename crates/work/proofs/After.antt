@@ -14,8 +14,7 @@ use Rattle.graph.specs.declared.graph.Graph.{Graph}
 use Rattle.theory.specs.Writes.{WritesAt}
 use Rattle.theory.proofs.Writing.{writes_or_not_at}
 use Rattle.judge.specs.declared.looks.Looks.{Looks}
-use Rattle.judge.specs.Looking.{HasLooked}
-use Rattle.judge.proofs.LooksStay.{looked_then}
+use Rattle.judge.specs.Looking.{HasLooked, LooksFollow}
 use Rattle.work.specs.After.{ComesAfter, LooksUnlessMore}
 
 -- no list is itself and more
@@ -108,11 +107,11 @@ module _ (tells : Bool) where
   pub none_first : (a b c : World) → ComesAfter tells a b → ComesAfter tells b c → c.events ≡ a.events → b.events ≡ a.events
   none_first a b c first second same = none_between a.events b.events c.events first.events.0 second.events.0 first.events.1 second.events.1 same
 
-  pub looks_then_looks : (graph : Graph) (a b c : World) (one two three : Looks) → ComesAfter tells a b → ComesAfter tells b c → LooksUnlessMore tells graph a b one two → LooksUnlessMore tells graph b c two three
+  pub looks_then_looks : (graph : Graph) (a b c : World) → LooksFollow tells a b c → (one two three : Looks) → ComesAfter tells a b → ComesAfter tells b c → LooksUnlessMore tells graph a b one two → LooksUnlessMore tells graph b c two three
       → LooksUnlessMore tells graph a c one three
-  looks_then_looks graph a b c one two three first second looked later same =
+  looks_then_looks graph a b c law one two three first second looked later same =
       let none = none_first a b c first second same in
-      looked_then tells graph a b c one two three (looked none) (later (same ∙ sym none))
+      law.looked graph one two three (looked none) (later (same ∙ sym none))
 
   -- where something happened behind it, something happened
   pub some_after : (a b c : World) → ComesAfter tells a b → (c.events ≡ b.events → ⊥) → ComesAfter tells b c → c.events ≡ a.events → ⊥

@@ -14,7 +14,7 @@ use Rattle.judge.specs.declared.looks.Look.TheVariants.{Unasked}
 use Rattle.judge.specs.declared.looks.Looks.{Looks}
 use Rattle.judge.specs.Looking.{HasLooked}
 use Rattle.judge.specs.Seen.{look_at}
-use Rattle.judge.proofs.LooksStay.{looked_none}
+use Rattle.work.proofs.Seeing.{saw_none}
 use Rattle.plan.specs.Plan.{AreFlagged}
 use Rattle.work.specs.declared.state.State.{State}
 use Rattle.work.specs.Going.{IsSameBeside, HasEnded}
@@ -90,6 +90,6 @@ module _ (tells : Bool) (graph : Graph) (e : ℕ) (ok : Bool) (was now : World) 
     unchanged = unchanged;
     between = new.looks;
     forgets = forgets;
-    looked = subst (λ (w : World). HasLooked tells graph was w new.looks new.looks) (sym {A = World} same) (looked_none tells graph was new.looks);
+    looked = subst (λ (w : World). HasLooked tells graph was w new.looks new.looks) (sym {A = World} same) (saw_none tells graph was new.looks);
     beside = beside;
   }

@@ -36,7 +36,7 @@ use Rattle.graph.specs.Linked.{StandFor}
 use Rattle.graph.specs.Told.{declared_by}
 use Rattle.judge.specs.declared.looks.Look.{Look}
 use Rattle.judge.specs.Seen.{look_at, look_of, is_asked, AreSeenOf}
-use Rattle.judge.proofs.LooksStay.{asked_look}
+use Rattle.work.proofs.Seeing.{asked_stamp}
 use Rattle.plan.specs.declared.plan.Plan.{Plan}
 use Rattle.plan.specs.declared.step.Standing.TheVariants.{Running}
 use Rattle.plan.specs.Standing.{standing_at}
@@ -480,7 +480,7 @@ module _ (tells : Bool) (course : Course) (tick : List ℕ) (graph : Graph) (sui
       (ap (λ (l : List ℕ). has_number l (suc k)) (sym (out_of_date-append on.steps (Ended (suc e) is_well ∷ []) ∙ append-nil (out_of_date_in on.steps))) ∙ stale)
       (false_from_ne_true (has_number (ended_in on.steps) (suc k)) (λ h. false≢true (sym unended ∙ in_left ended_in ended-append on.steps (Ended (suc e) is_well ∷ []) (suc k) h))) restat p made in
       let between = noted_so.forgets.others p (not_here k p unended made) ∙ was_seen in
-      noted_so.looked.stays p (ap is_asked between ∙ asked_look (stamp_of (file_at course.entry.history (text_at graph.manifest.paths p)))) ∙ between
+      noted_so.looked.stays p (ap is_asked between ∙ asked_stamp (stamp_of (file_at course.entry.history (text_at graph.manifest.paths p)))) ∙ between
 
   -- ---- the rest
 

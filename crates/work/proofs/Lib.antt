@@ -52,3 +52,4 @@ pub mod Telling
 pub mod Unedited
 pub mod Points
 pub mod Callers
+pub mod Seeing

@@ -8,7 +8,7 @@ use Rattle.graph.specs.declared.graph.Graph.{Graph}
 use Rattle.judge.specs.declared.looks.Looks.{Looks}
 use Rattle.judge.specs.Looking.{HasLooked}
 use Rattle.judge.specs.Seen.{look_at, look_of, is_asked}
-use Rattle.judge.proofs.LooksStay.{asked_look}
+use Rattle.work.proofs.Seeing.{asked_stamp}
 use Rattle.records.specs.Laws.{LogStays}
 use Rattle.work.specs.declared.state.State.{State}
 use Rattle.work.specs.Course.{Course, Suits, edges_of, is_quiet, AreSeenBefore, IsOn}
@@ -34,7 +34,7 @@ module _ (tells : Bool) (course : Course) (graph : Graph) where
       → AreSeenBefore tells course graph steps state now → AreSeenBefore tells course graph steps (with_looks state after) now
   before_kept steps state now after stays before tell kept e stale unended restat p made =
       let was = before tell kept e stale unended restat p made in
-      stays p (ap is_asked was ∙ asked_look (stamp_of (file_at course.entry.history (text_at graph.manifest.paths p)))) ∙ was
+      stays p (ap is_asked was ∙ asked_stamp (stamp_of (file_at course.entry.history (text_at graph.manifest.paths p)))) ∙ was
 
   abbrev pub on_looked : (stays : LogStays) (tick : List ℕ) → Suits course tick graph → (state : State) (now new : World) (after : Looks) → HasLooked tells graph now new state.looks after → IsOn tells course graph None state now
       → IsOn tells course graph None (with_looks state after) new

@@ -14,7 +14,7 @@ use crate::outputs::ask_before;
 use crate::setting::Setting;
 use crate::state::State;
 use graph::lists_stand;
-use judge::{Sums, reason};
+use judge::{Sums, looks_follow, reason, sums_follow};
 use model::{Reason, SiteFault};
 use paths::EdgeId;
 use plan::Verdict;
@@ -45,6 +45,8 @@ pub fn judge<S: Site>(
 {
     lists_stand(setting.graph);
     log_stays();
+    looks_follow();
+    sums_follow();
     ask_before(site, setting, &mut state.looks, edge)?;
     let plan = &state.plan;
     let reason = reason(

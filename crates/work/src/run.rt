@@ -19,7 +19,7 @@ use crate::setting::Setting;
 use crate::state::State;
 use crate::summary::{Pause, Summary};
 use crate::turn::{Halt, go_on};
-use judge::Sums;
+use judge::{Sums, looks_follow};
 use paths::EdgeId;
 use plan::{End, Plan};
 use site::Site;
@@ -73,6 +73,7 @@ fn run<S: Site>(site: &mut S, setting: Setting<'_>, state: &mut State<'_>) -> Re
     ensures halts { IfOk result (λ halt. (course : Course) → Suits course setting.entry.tick.now setting.entry.graph.now → goes_on course ≡ true → IsOn S.tells course setting.entry.graph.now None state.old (S.world site.old) → IsHalted S.tells course setting.entry.graph.now state.new (S.world site.new) halt) }
     ensures cut { OnErr result ((course : Course) → Suits course setting.entry.tick.now setting.entry.graph.now → goes_on course ≡ true → IsOn S.tells course setting.entry.graph.now None state.old (S.world site.old) → IsCut S.tells course setting.entry.graph.now state.new.plan (S.world site.new)) }
 {
+    looks_follow();
     let mut sums = Sums::new(setting.alloc);
     'run: loop {
         if let Some(halt) = go_on(site, setting, state, &mut sums)? {

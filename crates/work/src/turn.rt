@@ -14,7 +14,7 @@ use crate::setting::Setting;
 use crate::start::start_edge;
 use crate::state::State;
 use crate::taken::take_in;
-use judge::Sums;
+use judge::{Sums, looks_follow, sums_follow};
 use paths::PathId;
 use plan::{End, Step};
 use site::Site;
@@ -51,6 +51,8 @@ pub fn go_on<S: Site>(
     ensures on { IfOk result (λ halt. (course : Course) → Suits course setting.entry.tick.now setting.entry.graph.now → goes_on course ≡ true → IsOn S.tells course setting.entry.graph.now None state.old (S.world site.old) → MatchOption halt (IsOn S.tells course setting.entry.graph.now None state.new (S.world site.new)) (IsHalted S.tells course setting.entry.graph.now state.new (S.world site.new))) }
     ensures cut { OnErr result ((course : Course) → Suits course setting.entry.tick.now setting.entry.graph.now → goes_on course ≡ true → IsOn S.tells course setting.entry.graph.now None state.old (S.world site.old) → IsCut S.tells course setting.entry.graph.now state.new.plan (S.world site.new)) }
 {
+    looks_follow();
+    sums_follow();
     match state.plan.next() {
         Step::Judge(edge) => {
             judge(site, setting, state, sums, edge).map_err(Cut::Other)?;

@@ -4,7 +4,6 @@ use Rattle.std.proofs.lemmas.Bool.{false≢true}
 use Rattle.std.proofs.lemmas.List.{take_all}
 use Rattle.theory.proofs.SiteCalls.{unrefused_none, unrefused_call, unrefused_then}
 use Rattle.graph.specs.Links.{links_of}
-use Rattle.judge.proofs.LooksStay.{looked_none}
 use Rattle.reasons.specs.Why.{HaveAsked}
 use Rattle.reasons.proofs.Firsts.{at_has}
 use Rattle.reasons.proofs.Telling.{asked_more, within_of}
@@ -12,7 +11,7 @@ use Rattle.reasons.proofs.asked.ask_regular.Goals as goal
 
 pub loop-edge-init : goal.loop-edge-init
 loop-edge-init g c = record {
-  looked = looked_none g.S.Texts.tells c.args.graph.now (g.S.Texts.world c.args.site.now) c.args.looks.now;
+  looked = (c.looks_follow.ensures.follow g.S.Texts.tells (g.S.Texts.world c.args.site.now) (g.S.Texts.world c.args.site.now) (g.S.Texts.world c.args.site.now)).none c.args.graph.now c.args.looks.now;
   unrefused = unrefused_none (g.S.Texts.world c.args.site.now) c.requires.running;
   asked = λ p none. absurd (false≢true none);
 }

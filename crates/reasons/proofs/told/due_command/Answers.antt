@@ -1,7 +1,5 @@
 use Rattle.std.proofs.Common.{[], length, sym, subst}
 use Rattle.graph.specs.ReadingOf.{IsReadingOf, edges_in}
-use Rattle.judge.proofs.LooksStay.{looked_none}
-use Rattle.judge.proofs.Summing.{sums_stay}
 use Rattle.reasons.proofs.Telling.{within_of}
 use Rattle.reasons.proofs.told.due_command.Goals as goal
 
@@ -17,7 +15,7 @@ returns-in_err-ask_for-clause-looked g c =
     c.reason.ensures.looked c.ask_for.ensures.looked
 
 pub returns-in_err-ask_for-clause-summed : goal.returns-in_err-ask_for-clause-summed
-returns-in_err-ask_for-clause-summed g c = sums_stay c.args.graph.now [] c.reason.new.looks.seen.items c.ask_for.new.looks.seen.items c.ask_for.ensures.looked.stays c.reason.new.sums c.reason.ensures.summed
+returns-in_err-ask_for-clause-summed g c = c.sums_follow.ensures.sums c.args.graph.now [] c.reason.new.looks.seen.items c.ask_for.new.looks.seen.items c.ask_for.ensures.looked.stays c.reason.new.sums c.reason.ensures.summed
 
 pub returns-clause-looked : goal.returns-clause-looked
 returns-clause-looked g c =
@@ -25,7 +23,7 @@ returns-clause-looked g c =
     c.reason.ensures.looked c.ask_for.ensures.looked
 
 pub returns-clause-summed : goal.returns-clause-summed
-returns-clause-summed g c = sums_stay c.args.graph.now [] c.reason.new.looks.seen.items c.ask_for.new.looks.seen.items c.ask_for.ensures.looked.stays c.reason.new.sums c.reason.ensures.summed
+returns-clause-summed g c = c.sums_follow.ensures.sums c.args.graph.now [] c.reason.new.looks.seen.items c.ask_for.new.looks.seen.items c.ask_for.ensures.looked.stays c.reason.new.sums c.reason.ensures.summed
 
 pub returns-clause-why : goal.returns-clause-why
 returns-clause-why g c =
@@ -42,7 +40,7 @@ returns-clause-why g c =
         to = b;
         first = c.args.looks.now;
         second = c.reason.new.looks;
-        earlier = looked_none tells graph a c.args.looks.now;
+        earlier = (c.looks_follow.ensures.follow tells a a a).none graph c.args.looks.now;
         asked = c.reason.ensures.looked;
         later = c.ask_for.ensures.looked;
         answer = c.in_ok-found.ensures.reason;
@@ -50,7 +48,7 @@ returns-clause-why g c =
       there = d;
       seen = c.ask_for.new.looks;
       earlier = (c.looks_follow.ensures.follow tells a b d).looked graph c.args.looks.now c.reason.new.looks c.ask_for.new.looks c.reason.ensures.looked c.ask_for.ensures.looked;
-      later = looked_none tells graph d c.ask_for.new.looks;
+      later = (c.looks_follow.ensures.follow tells d d d).none graph c.ask_for.new.looks;
       edges = c.edges_of-edges.result.now;
       read = subst (IsReadingOf graph c.args.edge) (sym c.edges_of-edges.ensures) c.in_ok-reading.ensures;
       outputs = c.in_ok-ask_for.ensures.outputs;

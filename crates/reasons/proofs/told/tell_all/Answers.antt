@@ -1,7 +1,6 @@
 use Rattle.std.proofs.Common.{◌≡◌, ◌<◌, ◌∙◌, ℕ, [], map, filter, length, sym, ap, subst, arith, rules}
 use Rattle.std.proofs.lemmas.List.{take_all}
 use Rattle.theory.proofs.SiteCalls.{unrefused_none, unrefused_call, unrefused_then}
-use Rattle.judge.proofs.LooksStay.{looked_none}
 use Rattle.judge.specs.Dues.{due_at}
 use Rattle.reasons.specs.Why.{AreWhy, edge_in}
 use Rattle.reasons.proofs.Telling.{listed_then, all_then}
@@ -9,7 +8,7 @@ use Rattle.reasons.proofs.told.tell_all.Goals as goal
 
 pub loop-edge-init : goal.loop-edge-init
 loop-edge-init g c = record {
-  looked = looked_none g.S.Texts.tells c.args.graph.now (g.S.Texts.world c.args.site.now) c.args.looks.now;
+  looked = (c.looks_follow.ensures.follow g.S.Texts.tells (g.S.Texts.world c.args.site.now) (g.S.Texts.world c.args.site.now) (g.S.Texts.world c.args.site.now)).none c.args.graph.now c.args.looks.now;
   unrefused = unrefused_none (g.S.Texts.world c.args.site.now) c.requires.running;
   summed = c.new-sums.ensures.summed c.args.graph.now [] c.args.looks.now.seen.items;
   fits = search rules;

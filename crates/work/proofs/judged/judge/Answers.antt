@@ -3,12 +3,10 @@ use Rattle.model.specs.declared.record.Record.{Record}
 use Rattle.model.specs.declared.record.DepsRecord.{DepsRecord}
 use Rattle.graph.specs.Told.{declared_by}
 use Rattle.judge.specs.Seen.{IfKept}
-use Rattle.judge.proofs.LooksStay.{looked_then}
 use Rattle.plan.specs.Planned.{is_stale}
 use Rattle.records.specs.Known.{AreKnown}
 use Rattle.judge.specs.Lasting.{AreMarked}
 use Rattle.judge.specs.Summed.{AreSums}
-use Rattle.judge.proofs.Summing.{sums_stay, marks_stay}
 use Rattle.judge.specs.Judged.{IsAnswer, KeepsDepfile}
 use Rattle.work.proofs.Work.{judged_less}
 use Rattle.work.proofs.Noticed.{with_looks, on_looked}
@@ -21,21 +19,21 @@ reason-requires-clause-command g c =
     judged_command going.course c.args.setting.graph.now c.args.setting.tick.now going.suits c.args.edge (c.requires.going.1.lawful true).0.command
 
 pub returns-in_err-reason-clause-looked : goal.returns-in_err-reason-clause-looked
-returns-in_err-reason-clause-looked g c = looked_then g.S.Texts.tells c.args.setting.graph.now (g.S.Texts.world c.args.site.now) (g.S.Texts.world c.ask_before.new.site) (g.S.Texts.world c.reason.new.site) c.args.state.now.looks c.ask_before.new.looks c.reason.new.looks c.ask_before.ensures.looked c.reason.ensures.looked
+returns-in_err-reason-clause-looked g c = (c.looks_follow.ensures.follow g.S.Texts.tells (g.S.Texts.world c.args.site.now) (g.S.Texts.world c.ask_before.new.site) (g.S.Texts.world c.reason.new.site)).looked c.args.setting.graph.now c.args.state.now.looks c.ask_before.new.looks c.reason.new.looks c.ask_before.ensures.looked c.reason.ensures.looked
 
 pub returns-clause-looked : goal.returns-clause-looked
-returns-clause-looked g c = looked_then g.S.Texts.tells c.args.setting.graph.now (g.S.Texts.world c.args.site.now) (g.S.Texts.world c.ask_before.new.site) (g.S.Texts.world c.reason.new.site) c.args.state.now.looks c.ask_before.new.looks c.reason.new.looks c.ask_before.ensures.looked c.reason.ensures.looked
+returns-clause-looked g c = (c.looks_follow.ensures.follow g.S.Texts.tells (g.S.Texts.world c.args.site.now) (g.S.Texts.world c.ask_before.new.site) (g.S.Texts.world c.reason.new.site)).looked c.args.setting.graph.now c.args.state.now.looks c.ask_before.new.looks c.reason.new.looks c.ask_before.ensures.looked c.reason.ensures.looked
 
 pub reason-requires-clause-summed : goal.reason-requires-clause-summed
 reason-requires-clause-summed g c =
     let state = c.args.state.now in
     subst (λ (flags : List Bool). AreSums c.args.setting.graph.now flags c.ask_before.new.looks.seen.items c.args.sums.now) (sym {A = List Bool} c.deref.ensures.value)
-    (sums_stay c.args.setting.graph.now state.plan.changed.items state.looks.seen.items c.ask_before.new.looks.seen.items c.ask_before.ensures.looked.stays c.args.sums.now c.requires.summed)
+    (c.sums_follow.ensures.sums c.args.setting.graph.now state.plan.changed.items state.looks.seen.items c.ask_before.new.looks.seen.items c.ask_before.ensures.looked.stays c.args.sums.now c.requires.summed)
 
 pub returns-in_err-ask_before-clause-summed : goal.returns-in_err-ask_before-clause-summed
 returns-in_err-ask_before-clause-summed g c =
     let state = c.args.state.now in
-    sums_stay c.args.setting.graph.now state.plan.changed.items state.looks.seen.items c.ask_before.new.looks.seen.items c.ask_before.ensures.looked.stays c.args.sums.now c.requires.summed
+    c.sums_follow.ensures.sums c.args.setting.graph.now state.plan.changed.items state.looks.seen.items c.ask_before.new.looks.seen.items c.ask_before.ensures.looked.stays c.args.sums.now c.requires.summed
 
 pub returns-in_err-reason-clause-summed : goal.returns-in_err-reason-clause-summed
 returns-in_err-reason-clause-summed g c =
@@ -50,7 +48,7 @@ returns-clause-summed g c =
 pub returns-in_err-ask_before-clause-marked : goal.returns-in_err-ask_before-clause-marked
 returns-in_err-ask_before-clause-marked g c =
     let state = c.args.state.now in
-    marks_stay c.args.setting.graph.now state.plan.changed.items state.looks.seen.items c.ask_before.new.looks.seen.items c.ask_before.ensures.looked.stays c.args.sums.now c.requires.marked
+    c.sums_follow.ensures.marks c.args.setting.graph.now state.plan.changed.items state.looks.seen.items c.ask_before.new.looks.seen.items c.ask_before.ensures.looked.stays c.args.sums.now c.requires.marked
 
 pub returns-in_err-reason-clause-marked : goal.returns-in_err-reason-clause-marked
 returns-in_err-reason-clause-marked g c =
@@ -58,7 +56,7 @@ returns-in_err-reason-clause-marked g c =
     let graph = c.args.setting.graph.now in
     subst (λ (flags : List Bool). AreMarked graph flags c.reason.new.looks.seen.items c.reason.new.sums) c.deref.ensures.value
     (c.reason.ensures.marked (subst (λ (flags : List Bool). AreMarked graph flags c.ask_before.new.looks.seen.items c.args.sums.now) (sym {A = List Bool} c.deref.ensures.value)
-    (marks_stay graph state.plan.changed.items state.looks.seen.items c.ask_before.new.looks.seen.items c.ask_before.ensures.looked.stays c.args.sums.now c.requires.marked)))
+    (c.sums_follow.ensures.marks graph state.plan.changed.items state.looks.seen.items c.ask_before.new.looks.seen.items c.ask_before.ensures.looked.stays c.args.sums.now c.requires.marked)))
 
 pub returns-clause-marked : goal.returns-clause-marked
 returns-clause-marked g c =
@@ -66,7 +64,7 @@ returns-clause-marked g c =
     let graph = c.args.setting.graph.now in
     subst (λ (flags : List Bool). AreMarked graph flags c.reason.new.looks.seen.items c.reason.new.sums) (c.deref.ensures.value ∙ sym (ap (λ (it : _). it.items) c.judged.ensures.flags))
     (c.reason.ensures.marked (subst (λ (flags : List Bool). AreMarked graph flags c.ask_before.new.looks.seen.items c.args.sums.now) (sym {A = List Bool} c.deref.ensures.value)
-    (marks_stay graph state.plan.changed.items state.looks.seen.items c.ask_before.new.looks.seen.items c.ask_before.ensures.looked.stays c.args.sums.now c.requires.marked)))
+    (c.sums_follow.ensures.marks graph state.plan.changed.items state.looks.seen.items c.ask_before.new.looks.seen.items c.ask_before.ensures.looked.stays c.args.sums.now c.requires.marked)))
 
 pub returns-clause-nearer : goal.returns-clause-nearer
 returns-clause-nearer g c = judged_less c.args.state.now.plan c.judged.new.self.standings.items c.args.edge c.verdict_of-verdict.result c.requires.offered c.judged.ensures.stands

@@ -5,7 +5,6 @@ use Rattle.work.proofs.Results.{some_of, on_err}
 use Rattle.work.proofs.Nothing.{none_of}
 use Rattle.work.proofs.After.{after_then, after_same, looks_then_looks}
 use Rattle.theory.proofs.SiteCalls.{unrefused_none, unrefused_call, unrefused_then}
-use Rattle.judge.proofs.LooksStay.{looked_none}
 use Rattle.work.proofs.Cutting.{starts_then}
 use Rattle.work.proofs.run.run.Goals as goal
 
@@ -21,7 +20,7 @@ run-init g c =
       marked = c.new-sums.ensures.marked graph state.plan.changed.items state.looks.seen.items;
       set = refl;
       grows = after_same g.S.Texts.tells now;
-      looked = λ same. looked_none g.S.Texts.tells graph now state.looks;
+      looked = λ same. (c.looks_follow.ensures.follow g.S.Texts.tells now now now).none graph state.looks;
       on = λ course suits goes on. on;
     }
 
@@ -46,7 +45,9 @@ pub returns-in-Some-clause-grows : goal.returns-in-Some-clause-grows
 returns-in-Some-clause-grows g c = after_then g.S.Texts.tells (g.S.Texts.world c.args.site.now) (g.S.Texts.world c.run.site) (g.S.Texts.world c.go_on.new.site) c.run.invariant.grows c.go_on.ensures.grows
 
 pub returns-in-Some-clause-looked : goal.returns-in-Some-clause-looked
-returns-in-Some-clause-looked g c = looks_then_looks g.S.Texts.tells c.args.setting.graph.now (g.S.Texts.world c.args.site.now) (g.S.Texts.world c.run.site) (g.S.Texts.world c.go_on.new.site) c.args.state.now.looks c.run.state.looks c.go_on.new.state.looks c.run.invariant.grows c.go_on.ensures.grows c.run.invariant.looked c.in_ok-halt.ensures.looked
+returns-in-Some-clause-looked g c = looks_then_looks g.S.Texts.tells c.args.setting.graph.now (g.S.Texts.world c.args.site.now) (g.S.Texts.world c.run.site) (g.S.Texts.world c.go_on.new.site)
+    (c.looks_follow.ensures.follow g.S.Texts.tells (g.S.Texts.world c.args.site.now) (g.S.Texts.world c.run.site) (g.S.Texts.world c.go_on.new.site))
+    c.args.state.now.looks c.run.state.looks c.go_on.new.state.looks c.run.invariant.grows c.go_on.ensures.grows c.run.invariant.looked c.in_ok-halt.ensures.looked
 
 pub run-preserved : goal.run-preserved
 run-preserved g c = record {
@@ -56,7 +57,9 @@ run-preserved g c = record {
   marked = c.in_ok-halt.ensures.marked;
   set = c.go_on.ensures.set ∙ c.run.invariant.set;
   grows = after_then g.S.Texts.tells (g.S.Texts.world c.args.site.now) (g.S.Texts.world c.run.site) (g.S.Texts.world c.go_on.new.site) c.run.invariant.grows c.go_on.ensures.grows;
-  looked = looks_then_looks g.S.Texts.tells c.args.setting.graph.now (g.S.Texts.world c.args.site.now) (g.S.Texts.world c.run.site) (g.S.Texts.world c.go_on.new.site) c.args.state.now.looks c.run.state.looks c.go_on.new.state.looks c.run.invariant.grows c.go_on.ensures.grows c.run.invariant.looked c.in_ok-halt.ensures.looked;
+  looked = looks_then_looks g.S.Texts.tells c.args.setting.graph.now (g.S.Texts.world c.args.site.now) (g.S.Texts.world c.run.site) (g.S.Texts.world c.go_on.new.site)
+      (c.looks_follow.ensures.follow g.S.Texts.tells (g.S.Texts.world c.args.site.now) (g.S.Texts.world c.run.site) (g.S.Texts.world c.go_on.new.site))
+      c.args.state.now.looks c.run.state.looks c.go_on.new.state.looks c.run.invariant.grows c.go_on.ensures.grows c.run.invariant.looked c.in_ok-halt.ensures.looked;
   on = λ course suits goes was.
       none_of c.in_ok-halt.field-0 (IsOn g.S.Texts.tells course c.args.setting.graph.now None c.go_on.new.state (g.S.Texts.world c.go_on.new.site)) (IsHalted g.S.Texts.tells course c.args.setting.graph.now c.go_on.new.state (g.S.Texts.world c.go_on.new.site)) c.in_default.is
       (c.in_ok-halt.ensures.on course suits goes (c.run.invariant.on course suits goes was));

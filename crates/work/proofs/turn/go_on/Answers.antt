@@ -1,12 +1,10 @@
 use Rattle.std.proofs.Common.{Bool, Vec, Global, sym, subst}
 use Rattle.judge.specs.declared.looks.Looks.{Looks}
 use Rattle.judge.specs.Lasting.{AreMarked}
-use Rattle.judge.proofs.Summing.{sums_last, marks_last}
 use Rattle.work.proofs.Results.{on_err, ok_by, err_by}
 use Rattle.work.proofs.Ends.{cut_looking, at_load}
 use Rattle.work.proofs.Onward.{said_next, may_wait}
 use Rattle.work.proofs.After.{after_same, after_looks}
-use Rattle.judge.proofs.LooksStay.{looked_none}
 use Rattle.work.proofs.turn.go_on.Goals as goal
 
 pub judge-requires-clause-going : goal.judge-requires-clause-going
@@ -85,13 +83,13 @@ pub returns-in-Load-clause-grows : goal.returns-in-Load-clause-grows
 returns-in-Load-clause-grows g c = after_same g.S.Texts.tells (g.S.Texts.world c.args.site.now)
 
 pub returns-in-Load-clause-looked : goal.returns-in-Load-clause-looked
-returns-in-Load-clause-looked g c same = looked_none g.S.Texts.tells c.args.setting.graph.now (g.S.Texts.world c.args.site.now) c.args.state.now.looks
+returns-in-Load-clause-looked g c same = (c.looks_follow.ensures.follow g.S.Texts.tells (g.S.Texts.world c.args.site.now) (g.S.Texts.world c.args.site.now) (g.S.Texts.world c.args.site.now)).none c.args.setting.graph.now c.args.state.now.looks
 
 pub returns-in-Ended-clause-grows : goal.returns-in-Ended-clause-grows
 returns-in-Ended-clause-grows g c = after_same g.S.Texts.tells (g.S.Texts.world c.args.site.now)
 
 pub returns-in-Ended-clause-looked : goal.returns-in-Ended-clause-looked
-returns-in-Ended-clause-looked g c same = looked_none g.S.Texts.tells c.args.setting.graph.now (g.S.Texts.world c.args.site.now) c.args.state.now.looks
+returns-in-Ended-clause-looked g c same = (c.looks_follow.ensures.follow g.S.Texts.tells (g.S.Texts.world c.args.site.now) (g.S.Texts.world c.args.site.now) (g.S.Texts.world c.args.site.now)).none c.args.setting.graph.now c.args.state.now.looks
 
 -- a start changes nothing of what the sums are of
 pub returns-in_ok-map_err-in-Start-clause-marked : goal.returns-in_ok-map_err-in-Start-clause-marked
@@ -106,11 +104,11 @@ returns-in_ok-take_in-in-Wait-clause-summed g c =
     let graph = c.args.setting.graph.now in
     let flags = c.args.state.now.plan.changed.items in
     let seen = c.args.state.now.looks.seen.items in
-    sums_last graph flags c.take_in.new.state.plan.changed.items seen c.take_in.new.state.looks.seen.items c.in_ok-take_in-in-Wait.ensures.kept c.forget_made.new.self (c.forget_made.ensures graph flags seen c.requires.marked)
+    c.sums_follow.ensures.last_sums graph flags c.take_in.new.state.plan.changed.items seen c.take_in.new.state.looks.seen.items c.in_ok-take_in-in-Wait.ensures.kept c.forget_made.new.self (c.forget_made.ensures graph flags seen c.requires.marked)
 
 pub returns-in_ok-take_in-in-Wait-clause-marked : goal.returns-in_ok-take_in-in-Wait-clause-marked
 returns-in_ok-take_in-in-Wait-clause-marked g c =
     let graph = c.args.setting.graph.now in
     let flags = c.args.state.now.plan.changed.items in
     let seen = c.args.state.now.looks.seen.items in
-    marks_last graph flags c.take_in.new.state.plan.changed.items seen c.take_in.new.state.looks.seen.items c.in_ok-take_in-in-Wait.ensures.kept c.forget_made.new.self (c.forget_made.ensures graph flags seen c.requires.marked)
+    c.sums_follow.ensures.last_marks graph flags c.take_in.new.state.plan.changed.items seen c.take_in.new.state.looks.seen.items c.in_ok-take_in-in-Wait.ensures.kept c.forget_made.new.self (c.forget_made.ensures graph flags seen c.requires.marked)
