@@ -4,17 +4,17 @@ ghost use Rattle.std.specs.Prelude.{◌≡◌, false};
 ghost use Rattle.model.specs.Calls.{OnlyLooks};
 ghost use Rattle.ninja_asked.specs.Tools.{removes};
 
+use crate::cleaning::{buried, cleaned};
 use crate::missing_told::missing_answer;
-use ninja_words::{Options, Shown};
-use paths::Paths;
+use ninja_words::Options;
+use paths::PathId;
 use records::Records;
 use site::Site;
-use std::alloc::{AllocError, Global};
+use std::alloc::Global;
 use tools::{
-    Answer, Cleaned, Cleaning, Declared, Entries, Fault, Logged, Switches, Tool, asked,
-    asked_in_logs, clean, commands, compdb, compdb_targets, deps, edges_above, graph, inputs,
-    load_dyndeps, missing_deps, path_at, push_line, query, read_joined, read_mode,
-    recorded_outputs, rules, targets, to_bury, to_clean,
+    Answer, Declared, Dyndeps, Entries, Fault, Logged, Switches, Tool, asked, asked_in_logs,
+    commands, compdb, compdb_targets, deps, graph, inputs, load_above, load_dyndeps, missing_deps,
+    query, read_joined, read_mode, recorded_outputs, rules, targets,
 };
 
 /// What is asked of a tool.
@@ -57,9 +57,9 @@ pub fn answer_read<S: Site>(
         }
         Tool::Graph => {
             let words = asking.switches.words.as_slice();
-            Ok(Answer::well(drawn(alloc, site, declared, words)?))
+            drawn(alloc, site, declared, words)
         }
-        _ => Ok(Answer::well(told(alloc, declared, asking, folder)?)),
+        _ => Ok(Answer::well(alloc, told(alloc, declared, asking, folder)?)),
     }
 }
 
@@ -77,8 +77,7 @@ fn with_records<S: Site>(
     let records = read_joined(alloc, site, declared)?;
     if asking.tool == Tool::Query {
         let words = asking.switches.words.as_slice();
-        let told = queried(alloc, site, declared, &records, words)?;
-        return Ok(Answer::well(told));
+        return queried(alloc, site, declared, &records, words);
     }
     with_logs(alloc, site, Logged::new(declared, &records), asking)
 }
@@ -113,7 +112,7 @@ fn told(
     }
 }
 
-/// Gives all edges what their dyndep files tell.
+/// Gives all edges what their dyndep files tell. Where one does not, nothing is said.
 #[tactic(auto, using(crate::proofs::Looking::looking))]
 fn load_all<S: Site>(alloc: Global, site: &mut S, declared: &mut Declared) -> Result<(), Fault>
     ensures { OnlyLooks S.tells (S.world site.old) (S.world site.new) }
@@ -122,7 +121,8 @@ fn load_all<S: Site>(alloc: Global, site: &mut S, declared: &mut Declared) -> Re
     for place in 0..declared.graph.edges() {
         edges.push(declared.graph.manifest.edge(place))?;
     }
-    load_dyndeps(alloc, site, &mut declared.graph, &edges)
+    let mut dyndeps = Dyndeps::new(alloc);
+    load_dyndeps(alloc, site, &mut declared.graph, &edges, &mut dyndeps)
 }
 
 /// What `graph` prints: the edges above have what their dyndep files tell.
@@ -132,16 +132,23 @@ fn drawn<S: Site>(
     site: &mut S,
     declared: &mut Declared,
     words: &[&str],
-) -> Result<String, Fault>
+) -> Result<Answer, Fault>
     ensures { OnlyLooks S.tells (S.world site.old) (S.world site.new) }
 {
     let paths = asked(alloc, &declared.graph, words)?;
-    let edges = edges_above(alloc, &declared.graph, &paths)?;
-    load_dyndeps(alloc, site, &mut declared.graph, &edges)?;
-    Ok(graph(alloc, declared, &paths)?)
+    let mut dyndeps = Dyndeps::new(alloc);
+    load_above(alloc, site, &mut declared.graph, &paths, &mut dyndeps)?;
+    let told = graph(alloc, declared, &paths)?;
+    Ok(answer_of(told, dyndeps))
 }
 
-/// What `query` prints: the edges that make the paths have what their dyndep files tell.
+/// A text, with what is to be said of dyndep files.
+fn answer_of(told: String, dyndeps: Dyndeps) -> Answer {
+    Answer::warned(told, dyndeps.warned())
+}
+
+/// What `query` prints, path by path: the edge that makes one has what its dyndep file tells by then, and what those of the paths before
+/// tell.
 #[tactic(auto, using(crate::proofs::Looking::looking))]
 fn queried<S: Site>(
     alloc: Global,
@@ -149,21 +156,52 @@ fn queried<S: Site>(
     declared: &mut Declared,
     records: &Records,
     words: &[&str],
-) -> Result<String, Fault>
+) -> Result<Answer, Fault>
     ensures { OnlyLooks S.tells (S.world site.old) (S.world site.new) }
 {
     if words.is_empty() {
         return Err(Fault::NoPath);
     }
     let paths = asked_in_logs(alloc, declared, records, words)?;
-    let mut edges = Vec::new(alloc);
-    for path in paths.as_slice() {
-        if let Some(edge) = declared.graph.maker(*path) {
-            edges.push(edge)?;
-        }
+    let mut dyndeps = Dyndeps::new(alloc);
+    let told = query_each(alloc, site, declared, &paths, &mut dyndeps)?;
+    Ok(answer_of(told, dyndeps))
+}
+
+/// What `query` prints of these paths, one after another.
+#[tactic(auto, using(crate::proofs::Looking::looking))]
+fn query_each<S: Site>(
+    alloc: Global,
+    site: &mut S,
+    declared: &mut Declared,
+    paths: &[PathId],
+    dyndeps: &mut Dyndeps,
+) -> Result<String, Fault>
+    ensures { OnlyLooks S.tells (S.world site.old) (S.world site.new) }
+{
+    let mut told = String::new(alloc);
+    for path in paths {
+        load_maker(alloc, site, declared, *path, dyndeps)?;
+        told.push_str(query(alloc, declared, &[*path])?.as_str())?;
     }
-    load_dyndeps(alloc, site, &mut declared.graph, &edges)?;
-    Ok(query(alloc, declared, &paths)?)
+    Ok(told)
+}
+
+/// Gives the edge that makes a path what its dyndep file tells.
+#[tactic(auto, using(crate::proofs::Looking::looking))]
+fn load_maker<S: Site>(
+    alloc: Global,
+    site: &mut S,
+    declared: &mut Declared,
+    path: PathId,
+    dyndeps: &mut Dyndeps,
+) -> Result<(), Fault>
+    ensures { OnlyLooks S.tells (S.world site.old) (S.world site.new) }
+{
+    match declared.graph.maker(path) {
+        Some(edge) => dyndeps.load_for(alloc, site, &mut declared.graph, edge),
+        None => Ok(()),
+    }
 }
 
 /// What a tool tells of the graph and the logs.
@@ -185,7 +223,7 @@ fn with_logs<S: Site>(
             } else {
                 asked_in_logs(alloc, declared, records, words)?
             };
-            Ok(Answer::well(deps(alloc, site, logged, &paths)?))
+            Ok(Answer::well(alloc, deps(alloc, site, logged, &paths)?))
         }
         Tool::MissingDeps => {
             let paths = asked_in_logs(alloc, declared, records, words)?;
@@ -194,128 +232,6 @@ fn with_logs<S: Site>(
             Ok(missing_answer(alloc, declared, &found)?)
         }
         Tool::CleanDead => buried(alloc, site, declared, records, asking),
-        _ => Ok(Answer::well(String::new(alloc))),
+        _ => Ok(Answer::well(alloc, String::new(alloc))),
     }
-}
-
-/// Removes what the words of `clean` name. All words are looked at before anything is removed.
-fn cleaned<S: Site>(
-    alloc: Global,
-    site: &mut S,
-    declared: &Declared,
-    asking: Asking<'_>,
-) -> Result<Answer, Fault> {
-    let words = asking.switches.words.as_slice();
-    let generated = asking.switches.has(b'g');
-    let file = asking.options.file;
-    let paths = if asking.switches.has(b'r') {
-        if words.is_empty() {
-            return Err(Fault::NoRule);
-        }
-        to_clean(alloc, declared, Cleaning::Rules(words), generated, file)?
-    } else if words.is_empty() {
-        to_clean(alloc, declared, Cleaning::All, generated, file)?
-    } else {
-        let targets = asked(alloc, &declared.graph, words)?;
-        to_clean(
-            alloc,
-            declared,
-            Cleaning::Targets(&targets),
-            generated,
-            file,
-        )?
-    };
-    remove_all(alloc, site, &paths, None, asking)
-}
-
-/// Removes what no line names any more.
-fn buried<S: Site>(
-    alloc: Global,
-    site: &mut S,
-    declared: &Declared,
-    records: &Records,
-    asking: Asking<'_>,
-) -> Result<Answer, Fault> {
-    let found = to_bury(alloc, declared, records)?;
-    remove_all(alloc, site, &found.dead, Some(&found.kept), asking)
-}
-
-/// Removes the files at these paths, and tells how many they were, and which of the others are kept.
-fn remove_all<S: Site>(
-    alloc: Global,
-    site: &mut S,
-    paths: &Paths,
-    kept: Option<&Paths>,
-    asking: Asking<'_>,
-) -> Result<Answer, Fault> {
-    let lines = tells_each(asking.options).then_some(String::new(alloc));
-    let cleaned = clean(alloc, site, paths, asking.options.dry, lines)?;
-    let mut text = String::new(alloc);
-    push_cleaned(alloc, site, &cleaned, kept, &mut text)?;
-    let status = if cleaned.refused.is_empty() { 0 } else { 1 };
-    Ok(Answer { text, status })
-}
-
-/// Whether a line tells each file that is removed.
-fn tells_each(options: &Options<'_>) -> bool {
-    options.dry || options.shown == Shown::Commands
-}
-
-/// Tells what was removed, what is kept, and what could not be removed.
-fn push_cleaned<S: Site>(
-    alloc: Global,
-    site: &mut S,
-    cleaned: &Cleaned,
-    kept: Option<&Paths>,
-    text: &mut String,
-) -> Result<(), Fault> {
-    push_removed(alloc, text, cleaned)?;
-    if let Some(kept) = kept {
-        push_kept(site, text, kept)?;
-    }
-    Ok(push_refused(text, cleaned)?)
-}
-
-fn push_removed(alloc: Global, text: &mut String, cleaned: &Cleaned) -> Result<(), AllocError> {
-    text.push_str("Cleaning...")?;
-    match &cleaned.lines {
-        Some(lines) => {
-            text.push('\n')?;
-            text.push_str(lines.as_str())?;
-        }
-        None => text.push(' ')?,
-    }
-    let count = cleaned.removed;
-    text.push_str(format!(in alloc; "{count} files.\n")?.as_str())
-}
-
-fn push_refused(text: &mut String, cleaned: &Cleaned) -> Result<(), AllocError> {
-    for path in cleaned.refused.as_slice() {
-        push_line(text, &["ninja: error: cannot remove '", path.as_str(), "'"])?;
-    }
-    Ok(())
-}
-
-/// Tells which of the paths are there and kept.
-fn push_kept<S: Site>(site: &mut S, text: &mut String, kept: &Paths) -> Result<(), Fault> {
-    for place in 0..kept.len() {
-        if let Some(path) = path_at(kept, place) {
-            push_kept_path(site, text, path)?;
-        }
-    }
-    Ok(())
-}
-
-fn push_kept_path<S: Site>(site: &mut S, text: &mut String, path: &str) -> Result<(), Fault> {
-    if site.stat(path)?.is_some() {
-        push_line(
-            text,
-            &[
-                "ninja: kept '",
-                path,
-                "', which the deps log lists as an input",
-            ],
-        )?;
-    }
-    Ok(())
 }

@@ -3,6 +3,7 @@
 
 mod above;
 mod answers;
+mod cleaning;
 mod missing_told;
 mod processors;
 mod targets;

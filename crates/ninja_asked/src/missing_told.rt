@@ -19,7 +19,12 @@ pub fn missing_answer(
     let mut text = String::new(alloc);
     push_missing(alloc, declared, found, &mut text)?;
     let status = if found.missing.is_empty() { 0 } else { 3 };
-    Ok(Answer { text, status })
+    let beside = String::new(alloc);
+    Ok(Answer {
+        text,
+        beside,
+        status,
+    })
 }
 
 fn push_missing(

@@ -356,6 +356,8 @@ fn answer_in<W: Write, E: Write>(
     let trouble = host.into_trouble();
     match answered {
         Ok(answer) => {
+            err.write_all(answer.beside.as_bytes())?;
+            err.flush()?;
             out.write_all(answer.text.as_bytes())?;
             out.flush()?;
             Ok(answer.status)

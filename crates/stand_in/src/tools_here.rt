@@ -59,7 +59,7 @@ pub fn answer<S: Alone>(
     ensures looks { removes asking.entry.tool ≡ false → OnlyLooks S.tells (S.world site.old) (S.world site.new) }
 {
     match asking.tool {
-        Tool::Restat | Tool::Recompact => Ok(Answer::well(String::new(alloc))),
+        Tool::Restat | Tool::Recompact => Ok(Answer::well(alloc, String::new(alloc))),
         Tool::Clean | Tool::CleanDead => answer_alone(alloc, site, asking, folder),
         _ => answer_here(alloc, site, asking, folder),
     }

@@ -1,6 +1,6 @@
 use Rattle.std.proofs.Common.{◌<◌, ◌^◌, arith}
 use Rattle.tools.proofs.Removed.{removes_none, removes_then, some_has}
-use Rattle.tools.proofs.cleaning.remove_all.Goals as goal
+use Rattle.tools.proofs.cleaning.clean.Goals as goal
 
 pub loop-place-init : goal.loop-place-init
 loop-place-init g c = removes_none g.S.Texts.tells c.args.only_count c.args.paths.now (g.S.Texts.world c.args.site.now)
