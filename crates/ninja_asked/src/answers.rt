@@ -48,8 +48,13 @@ pub fn answer_read<S: Site>(
     ensures looks { removes asking.entry.tool ≡ false → OnlyLooks S.tells (S.world site.old) (S.world site.new) }
 {
     match asking.tool {
-        Tool::Query | Tool::Deps | Tool::MissingDeps | Tool::CleanDead => {
+        Tool::Query | Tool::Deps | Tool::MissingDeps => {
             with_records(alloc, site, asking, declared)
+        }
+        Tool::CleanDead => {
+            let records = read_joined(alloc, site, declared)?;
+            load_all(alloc, site, declared)?;
+            buried(alloc, site, declared, &records, asking)
         }
         Tool::Clean => {
             load_all(alloc, site, declared)?;
@@ -231,7 +236,6 @@ fn with_logs<S: Site>(
             let found = missing_deps(alloc, logged, &paths, file)?;
             Ok(missing_answer(alloc, declared, &found)?)
         }
-        Tool::CleanDead => buried(alloc, site, declared, records, asking),
         _ => Ok(Answer::well(alloc, String::new(alloc))),
     }
 }

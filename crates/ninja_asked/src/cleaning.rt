@@ -133,7 +133,7 @@ pub fn cleaned<S: Site>(
     answer_of(alloc, site, &cleaner.cleaned, None)
 }
 
-/// Removes what no line names any more.
+/// Removes what neither a line nor a dyndep file that could be loaded names any more.
 pub fn buried<S: Site>(
     alloc: Global,
     site: &mut S,
