@@ -23,7 +23,7 @@ pub struct Auditor {
     alloc: Global,
     graph: Graph,
     /// The deps log, if there is one.
-    deps: Option<BuildLog>,
+    deps: Option<DepsLog>,
     names: Names,
     twins: Twins,
 }
@@ -35,7 +35,7 @@ impl Auditor {
         graph: Graph,
         folder: &str,
         log: Option<BuildLog>,
-        deps: Option<BuildLog>,
+        deps: Option<DepsLog>,
     ) -> Result<Auditor, AllocError> {
         let names = Names::of(alloc, &graph, folder, log)?;
         Ok(Auditor {
