@@ -3,7 +3,7 @@
 
 mod build;
 mod due;
-mod judge;
+mod judged;
 mod laws;
 mod patient;
 mod place;

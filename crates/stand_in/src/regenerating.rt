@@ -4,7 +4,7 @@ ghost use Rattle.std.specs.Prelude.{◌≡◌, false};
 ghost use Rattle.ninja_asked.specs.Above.{AreEdges};
 ghost use Rattle.stand_in.specs.Moves.{AsksWell, OnlyAsks};
 
-use crate::judge::is_out_of_date;
+use crate::judged::is_out_of_date;
 use crate::place::Place;
 use builder::Options;
 use model::SiteFault;

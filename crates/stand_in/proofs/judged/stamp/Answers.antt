@@ -1,7 +1,7 @@
 use Rattle.std.proofs.Common.{ℕ, Bool, true, false, Option, None, Some, Result, Ok, Err, IsSome, ◌≡◌, refl, sym, ap, ◌∙◌}
 use Rattle.std.proofs.lemmas.Bool.{false≢true}
 use Rattle.stand_in.proofs.Calls.{asks_call, asks_passed, asks_refused}
-use Rattle.stand_in.proofs.judge.stamp.Goals as goal
+use Rattle.stand_in.proofs.judged.stamp.Goals as goal
 
 pub returns-in-Ok : goal.returns-in-Ok
 returns-in-Ok g c = asks_call g.S.Texts.tells (λ (o : Option ℕ). IsSome o) (g.S.Texts.world c.args.site.now) (g.S.Texts.world c.stat.new.self) (Ok c.in-Ok.found) c.in-Ok.ensures.looks c.in-Ok.ensures.cause

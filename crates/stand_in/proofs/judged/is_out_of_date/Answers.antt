@@ -2,7 +2,7 @@ use Rattle.std.proofs.Common.{ℕ, Bool, true, false, Option, None, Some, Result
 use Rattle.std.proofs.Common.{subst}
 use Rattle.std.proofs.lemmas.Bool.{true≢false}
 use Rattle.stand_in.proofs.Calls.{asks_err, asks_so, still_ask, still_err, still_then, still_unsaid}
-use Rattle.stand_in.proofs.judge.is_out_of_date.Goals as goal
+use Rattle.stand_in.proofs.judged.is_out_of_date.Goals as goal
 
 pub returns-in_err-made : goal.returns-in_err-made
 returns-in_err-made g c = asks_err g.S.Texts.tells (λ (o : Option ℕ). IsSome o) (λ (b : Bool). b ≡ false) (g.S.Texts.world c.args.site.now) (g.S.Texts.world c.made_stamp.new.site) c.in_err-made.field-0.0 c.from_residual.result c.in_err-made.ensures c.from_residual.ensures.1

@@ -2,7 +2,7 @@ use Rattle.std.proofs.Common.{ℕ, Bool, true, false, Option, None, Some, Result
 use Rattle.std.proofs.Common.{subst}
 use Rattle.std.proofs.lemmas.Bool.{false≢true}
 use Rattle.stand_in.proofs.Calls.{still_err, still_nothing, still_says, still_then, still_unsaid}
-use Rattle.stand_in.proofs.judge.made_stamp.Goals as goal
+use Rattle.stand_in.proofs.judged.made_stamp.Goals as goal
 
 pub loop-output-init : goal.loop-output-init
 loop-output-init g c = still_nothing g.S.Texts.tells (g.S.Texts.world c.args.site.now)

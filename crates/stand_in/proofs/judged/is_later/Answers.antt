@@ -2,7 +2,7 @@ use Rattle.std.proofs.Common.{ℕ, Bool, true, false, Option, None, Some, Result
 use Rattle.std.proofs.Common.{subst}
 use Rattle.std.proofs.lemmas.Bool.{true≢false}
 use Rattle.stand_in.proofs.Calls.{asks_err, asks_so}
-use Rattle.stand_in.proofs.judge.is_later.Goals as goal
+use Rattle.stand_in.proofs.judged.is_later.Goals as goal
 
 pub returns-in_err-stamp : goal.returns-in_err-stamp
 returns-in_err-stamp g c = asks_err g.S.Texts.tells (λ (o : Option ℕ). IsSome o) (λ (b : Bool). b ≡ false) (g.S.Texts.world c.args.site.now) (g.S.Texts.world c.stamp.new.site) c.in_err-stamp.field-0.0 c.from_residual.result c.in_err-stamp.ensures c.from_residual.ensures.1

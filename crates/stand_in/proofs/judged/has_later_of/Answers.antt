@@ -1,7 +1,7 @@
 use Rattle.std.proofs.Common.{ℕ, Bool, true, false, Option, None, Some, Result, Ok, Err, IsSome, ◌≡◌, refl, sym, ap, ◌∙◌}
 use Rattle.std.proofs.lemmas.Bool.{true≢false}
 use Rattle.stand_in.proofs.Calls.{still_err, still_nothing, still_says, still_then, still_unsaid}
-use Rattle.stand_in.proofs.judge.has_later_of.Goals as goal
+use Rattle.stand_in.proofs.judged.has_later_of.Goals as goal
 
 pub loop-edge-init : goal.loop-edge-init
 loop-edge-init g c = still_nothing g.S.Texts.tells (g.S.Texts.world c.args.site.now)
