@@ -1,3 +1,3 @@
-pub mod Asking
 pub mod Gathering
+pub mod Keeping
 pub mod Looking

@@ -2,7 +2,7 @@ use Rattle.std.proofs.Common.{◌≡◌, false}
 use Rattle.tools.specs.declared.fault.Fault.{Fault}
 use Rattle.tools.specs.declared.fault.Fault.TheVariants.{Memory}
 use Rattle.theory.proofs.Looks.{looks_nothing}
-use Rattle.ninja_asked.proofs.Asking.{if_err_by, if_err_each, keeps_none, looked_nothing, on_ok}
+use Rattle.ninja_asked.proofs.Keeping.{if_err_by, if_err_each, keeps_none, looked_nothing, on_ok}
 use Rattle.ninja_asked.proofs.targets.asked_here.Goals as goal
 
 pub returns-then-not-any-clause-looks : goal.returns-then-not-any-clause-looks

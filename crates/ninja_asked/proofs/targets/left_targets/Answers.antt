@@ -1,7 +1,7 @@
 use Rattle.std.proofs.Common.{◌≡◌, false}
 use Rattle.tools.specs.declared.fault.Fault.{Fault}
 use Rattle.tools.specs.declared.fault.Fault.TheVariants.{Memory}
-use Rattle.ninja_asked.proofs.Asking.{if_err_by, if_err_each}
+use Rattle.ninja_asked.proofs.Keeping.{if_err_by, if_err_each}
 use Rattle.ninja_asked.proofs.targets.left_targets.Goals as goal
 
 pub returns-in_err-paths-clause-memory : goal.returns-in_err-paths-clause-memory

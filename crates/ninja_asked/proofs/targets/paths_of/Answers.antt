@@ -1,5 +1,5 @@
 use Rattle.theory.proofs.Looks.{looks_nothing}
-use Rattle.ninja_asked.proofs.Asking.{if_err_each, keeps_none, looked_nothing, on_ok}
+use Rattle.ninja_asked.proofs.Keeping.{if_err_each, keeps_none, looked_nothing, on_ok}
 use Rattle.ninja_asked.proofs.targets.paths_of.Goals as goal
 
 pub returns-then-is_empty-clause-looks : goal.returns-then-is_empty-clause-looks
