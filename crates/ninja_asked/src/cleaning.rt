@@ -51,13 +51,10 @@ impl<'a> Cleaner<'a> {
         clean(alloc, site, &others, dry, &mut self.cleaned)
     }
 
-    /// Removes what the edges of these rules make; where each file is told, behind a line for each rule.
-    fn remove_rules<S: Site>(
-        &mut self,
-        alloc: Global,
-        site: &mut S,
-        rules: &[&str],
-    ) -> Result<(), Fault> {
+    /// Removes what the edges of the rules that are asked for make; where each file is told, behind a line for each rule.
+    fn remove_rules<S: Site>(&mut self, alloc: Global, site: &mut S) -> Result<(), Fault> {
+        let switches = self.asking.switches;
+        let rules = switches.words.as_slice();
         if !tells_each(self.asking) {
             return self.remove(alloc, site, Cleaning::Rules(rules));
         }
@@ -123,7 +120,7 @@ pub fn cleaned<S: Site>(
         if words.is_empty() {
             return Err(Fault::NoRule);
         }
-        cleaner.remove_rules(alloc, site, words)?;
+        cleaner.remove_rules(alloc, site)?;
     } else if words.is_empty() {
         cleaner.remove(alloc, site, Cleaning::All)?;
     } else {
