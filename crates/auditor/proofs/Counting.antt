@@ -1,0 +1,54 @@
+-- What is counted of a command.
+use Rattle.std.proofs.Common.{◌≡◌, ℕ, ◌==◌, ◌&&◌, Bool, true, false, List, [], ◌∷◌, Option, Some, None, length, refl, sym, ap, subst, ◌∙◌, inl, inr, arith}
+use Rattle.std.proofs.lemmas.Bool.{eqb-true, false≢true}
+use Rattle.trace.specs.declared.fact.Fact.{Fact}
+use Rattle.trace.specs.Lines.{told}
+use Rattle.audit.specs.declared.place.Lists.{Lists}
+use Rattle.audit.specs.declared.seen.Whole.{Whole}
+use Rattle.audit.specs.Breaches.{breaches}
+use Rattle.audit.specs.Seen.{Sums}
+use Rattle.auditor.specs.declared.tally.Counts.{Counts}
+use Rattle.auditor.specs.Tally.{AreFound, AreSums, IsCountedBy, IsCountedOf, IsUnderstood, TakesIn, TakesTold, with_one}
+
+empty : {X : Type 0} (xs : List X) → length xs ≡ 0 → xs ≡ []
+empty [] is = refl
+empty (x ∷ xs) is = absurd (omega (arith, is))
+
+first_of : (a b : Bool) → (a && b) ≡ true → a ≡ true
+first_of true b is = refl
+first_of false b is = absurd (false≢true is)
+
+-- where it counts as one that keeps all premises, nothing was found
+pub counted_by : (lists : Lists) (sums : Sums) (found spelled : ℕ) (old before new : Counts) → AreFound lists sums found → before ≡ old
+    → new ≡ with_one before ((found == 0) && (spelled == 0)) → IsCountedBy lists sums old new
+counted_by lists sums found spelled old before new are same is = record {
+  keeps = (found == 0) && (spelled == 0);
+  arounds = are.0;
+  each = are.1;
+  found = λ keeps. empty (breaches lists are.0 sums) (sym are.2 ∙ eqb-true found 0 (first_of (found == 0) (spelled == 0) keeps));
+  is = is ∙ ap (λ (counts : Counts). with_one counts ((found == 0) && (spelled == 0))) same;
+}
+
+pub counted_of : (wholes : List Whole) (lists : Lists) (sums : Sums) (old before new : Counts) → AreSums wholes lists.outputs sums → before ≡ old
+    → IsCountedBy lists sums before new → IsCountedOf wholes old new
+counted_of wholes lists sums old before new are same is =
+    record { lists = lists; sums = sums; are = are; is = subst (λ (counts : Counts). IsCountedBy lists sums counts new) same is }
+
+pub counted_from : (wholes : List Whole) (old before new : Counts) → before ≡ old → IsCountedOf wholes before new → IsCountedOf wholes old new
+counted_from wholes old before new same is = subst (λ (counts : Counts). IsCountedOf wholes counts new) same is
+
+-- a command that is not looked at
+untouched_by : (facts : Option (List Fact)) (old new : Counts) → new ≡ old → TakesTold facts old new
+untouched_by None old new same = same
+untouched_by (Some facts) old new same = inl same
+
+pub untouched : (start trace : List ℕ) (old new : Counts) → new ≡ old → TakesTold (told start trace) old new
+untouched start trace old new same = untouched_by (told start trace) old new same
+
+pub untaken : (start : List ℕ) (trace : Option (List ℕ)) (old new : Counts) → new ≡ old → TakesIn start trace old new
+untaken start None old new same = same
+untaken start (Some trace) old new same = untouched start trace old new same
+
+-- one that is
+pub looked_at : (start trace : List ℕ) (wholes : List Whole) (old new : Counts) → IsUnderstood start trace → IsCountedOf wholes old new → TakesTold (told start trace) old new
+looked_at start trace wholes old new is counted = subst (λ (facts : Option (List Fact)). TakesTold facts old new) (sym is.1) (inr (wholes, counted))
