@@ -8,7 +8,7 @@ use Rattle.audit.specs.declared.seen.Whole.{Whole}
 use Rattle.audit.specs.Breaches.{breaches}
 use Rattle.audit.specs.Seen.{Sums}
 use Rattle.auditor.specs.declared.tally.Counts.{Counts}
-use Rattle.auditor.specs.Tally.{AreFound, AreSums, IsCountedBy, IsCountedOf, IsUnderstood, TakesIn, TakesTold, with_one}
+use Rattle.auditor.specs.Tally.{AreFound, AreSums, IsCountedBy, IsCountedOf, Tells, TakesIn, TakesTold, with_one}
 
 empty : {X : Type 0} (xs : List X) → length xs ≡ 0 → xs ≡ []
 empty [] is = refl
@@ -50,5 +50,5 @@ untaken start None old new same = same
 untaken start (Some trace) old new same = untouched start trace old new same
 
 -- one that is
-pub looked_at : (start trace : List ℕ) (wholes : List Whole) (old new : Counts) → IsUnderstood start trace → IsCountedOf wholes old new → TakesTold (told start trace) old new
-looked_at start trace wholes old new is counted = subst (λ (facts : Option (List Fact)). TakesTold facts old new) (sym is.1) (inr (wholes, counted))
+pub looked_at : (start trace : List ℕ) (wholes : List Whole) (old new : Counts) → Tells start trace wholes → IsCountedOf wholes old new → TakesTold (told start trace) old new
+looked_at start trace wholes old new is counted = subst (λ (facts : Option (List Fact)). TakesTold facts old new) (sym is.1) (inr (wholes, is.2, counted))

@@ -8,6 +8,7 @@ use Rattle.audit.specs.Breaches.{breaches}
 use Rattle.audit.specs.declared.seen.Whole.{Whole}
 use Rattle.audit.specs.Seen.{Sums, no_sums, with_all_done, with_untouched}
 use Rattle.auditor.specs.declared.tally.Counts.{Counts}
+use Rattle.auditor.specs.Things.{AreThings}
 
 abbrev pub none_looked_at : ℕ → Counts
 none_looked_at commands = record { commands = commands; looked = 0; kept = 0 }
@@ -56,14 +57,14 @@ abbrev pub AreFound : Lists → Sums → ℕ → Type 0
 AreFound lists sums count =
     (arounds : List Around) × (length arounds ≡ length sums.paths) × (count ≡ length (breaches lists arounds sums))
 
--- the trace of a command that began in this folder tells something
-abbrev pub IsUnderstood : List ℕ → List ℕ → Type 0
-IsUnderstood start trace = (facts : List Fact) × (told start trace ≡ Some facts)
+-- the trace of a command that began in this folder tells these things
+abbrev pub Tells : List ℕ → List ℕ → List Whole → Type 0
+Tells start trace wholes = (facts : List Fact) × (told start trace ≡ Some facts) × AreThings facts wholes
 
 -- of a command of which a trace tells these facts; one with a path that is no text does not count as looked at
 abbrev pub TakesTold : Option (List Fact) → Counts → Counts → Type 0
 TakesTold None old new = new ≡ old
-TakesTold (Some facts) old new = (new ≡ old) ⊎ ((wholes : List Whole) × IsCountedOf wholes old new)
+TakesTold (Some facts) old new = (new ≡ old) ⊎ ((wholes : List Whole) × AreThings facts wholes × IsCountedOf wholes old new)
 
 -- Of a command that began in this folder and left this trace, if any. It counts as looked at only where the trace is understood.
 abbrev pub TakesIn : List ℕ → Option (List ℕ) → Counts → Counts → Type 0

@@ -4,7 +4,8 @@ ghost use Rattle.std.specs.Prelude.{◌≡◌, IfOk, IfSome, OnOk, length, strin
 ghost use Rattle.std.specs.Option.{option_map};
 ghost use Rattle.trace.specs.Lines.{IsTold, told};
 ghost use Rattle.audit.specs.Seen.{sums_in};
-ghost use Rattle.auditor.specs.Tally.{AreFound, AreSums, IsCountedBy, IsCountedOf, IsUnderstood, TakesIn, TakesTold};
+ghost use Rattle.auditor.specs.Tally.{AreFound, AreSums, IsCountedBy, IsCountedOf, TakesIn, TakesTold, Tells};
+ghost use Rattle.auditor.specs.Things.{AreThings};
 
 use crate::above::above;
 use crate::around::Names;
@@ -123,7 +124,7 @@ impl Auditor {
 
     /// What a trace tells of a command, if it is understood and its paths are texts.
     fn wholes_told(&self, trace: &[u8]) -> Result<Option<Items<Whole>>, AllocError>
-        ensures { IfOk result (λ found. IfSome found (λ _. IsUnderstood (string_bytes self.now.names.folder) trace.now)) }
+        ensures { IfOk result (λ found. IfSome found (Tells (string_bytes self.now.names.folder) trace.now)) }
     {
         match self.told_in(trace)? {
             Told::Facts(facts) => self.wholes_by(facts.as_slice()),
@@ -139,7 +140,9 @@ impl Auditor {
     }
 
     /// What these facts tell by canonical paths, by the names that were given, and which folders that shows; none where a path is no text.
-    fn wholes_by(&self, facts: &[Fact]) -> Result<Option<Items<Whole>>, AllocError> {
+    fn wholes_by(&self, facts: &[Fact]) -> Result<Option<Items<Whole>>, AllocError>
+        ensures { IfOk result (λ found. IfSome found (AreThings facts.now)) }
+    {
         let Some(wholes) = wholes_of(self.alloc, facts)? else {
             return Ok(None);
         };

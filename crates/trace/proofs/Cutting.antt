@@ -81,6 +81,10 @@ more_passed m ms text place rest front after is parts lacks none = record {
       ∙ (ap (option_map (in_front is.seen)) (passed m ms front after lacks none) ∙ all_in_front is.seen (front ++ m ∷ []) (cut (m ∷ ms) after)));
 }
 
+pub passed_within : (m : ℕ) (ms text : List ℕ) (place : ℕ) (rest front after : List ℕ) → IsPassed m ms text place rest → rest ≡ front ++ m ∷ after → place + length front < length text
+passed_within m ms text place rest front after is parts =
+    omega (arith, is.size, ap length is.split, length-append is.seen rest, ap length parts, length-append front (m ∷ after))
+
 -- all that stands from a place on
 from_place : (text : List ℕ) (i : ℕ) → take (length text - i) (drop i text) ≡ drop i text
 from_place text i = take_all (length text - i) (drop i text) (omega (arith, length-drop i text))
