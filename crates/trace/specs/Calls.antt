@@ -52,6 +52,10 @@ has_two doing.Moves = true
 has_two doing.Links = true
 has_two _ = false
 
+abbrev pub opens : Does → Bool
+opens doing.Opens = true
+opens _ = false
+
 abbrev pub is_of_folders : Does → Bool
 is_of_folders doing.Folders = true
 is_of_folders _ = false
