@@ -135,7 +135,7 @@ refused words error has ToldWhy so = absurd so
 refused words error has (Unexplained report told) so = absurd so
 refused words error has NoTracer so = absurd so
 refused words error has (TracedOver path) so = absurd so
-refused words error has (Audited report told judged) so = absurd so
+refused words error has (Audited report told _) so = absurd so
 
 -- words that ask for this
 pub done : (words : List Text) (asked : Options) → fault_of nj words ≡ [] → AreAsked words asked → (ending : Ending) → EndsFor asked ending → MayEnd words ending
@@ -148,7 +148,7 @@ done words asked faultless are ToldWhy so = record { faultless = faultless; aske
 done words asked faultless are (Unexplained report told) so = record { faultless = faultless; asked = asked; are_asked = are; so = so }
 done words asked faultless are NoTracer so = record { faultless = faultless; asked = asked; are_asked = are; so = so }
 done words asked faultless are (TracedOver path) so = record { faultless = faultless; asked = asked; are_asked = are; so = so }
-done words asked faultless are (Audited report told judged) so = record { faultless = faultless; asked = asked; are_asked = are; so = so }
+done words asked faultless are (Audited report told _) so = record { faultless = faultless; asked = asked; are_asked = are; so = so }
 
 well_after : (words : List Text) (report : Report) (told : Bool) → AreDone words (Built report told) → 0 ≡ status_of report → EndsWell words
 well_after words (Success started) told done zero = inr (inl (started, told, done))

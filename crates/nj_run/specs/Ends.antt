@@ -76,7 +76,7 @@ told_on_err ToldWhy = Some []
 told_on_err (Unexplained report refused) = err_of report refused
 told_on_err NoTracer = Some no_tracer
 told_on_err (TracedOver path) = Some (traced_over path)
-told_on_err (Audited report refused judged) = err_of report refused
+told_on_err (Audited report refused _) = err_of report refused
 
 -- help, or the version, which clap shows in the same way; `nj` has no word that asks for it
 abbrev pub IsShown : ErrorKind → Type 0
@@ -93,7 +93,7 @@ EndsBy kind ToldWhy = ⊥
 EndsBy kind (Unexplained report refused) = ⊥
 EndsBy kind NoTracer = ⊥
 EndsBy kind (TracedOver path) = ⊥
-EndsBy kind (Audited report refused judged) = ⊥
+EndsBy kind (Audited report refused _) = ⊥
 
 -- it was asked why commands are due, and the site of real files was only looked at: nothing was started or written
 pub record AsksWhy (asked : Options) : Type 0 where
@@ -118,7 +118,7 @@ EndsFor asked ToldWhy = AsksWhy asked
 EndsFor asked (Unexplained report refused) = AsksWhy asked
 EndsFor asked NoTracer = (asked.why ≡ false) × (audits asked ≡ true)
 EndsFor asked (TracedOver path) = (asked.why ≡ false) × (audits asked ≡ true) × IsTracePath path
-EndsFor asked (Audited report refused judged) = (asked.why ≡ false) × (audits asked ≡ true) × (later : World) × BuildsAlone false any_outcome asked fresh later report
+EndsFor asked (Audited report refused _) = (asked.why ≡ false) × (audits asked ≡ true) × (later : World) × BuildsAlone false any_outcome asked fresh later report
 
 -- the words have a fault for which a run may end so
 pub record AreRefused (words : List Text) (ending : Ending) : Type 0 where
@@ -159,7 +159,7 @@ ShownBefore ToldWhy old shown = ⊤
 ShownBefore (Unexplained report refused) old shown = ⊤
 ShownBefore NoTracer old shown = shown ≡ old
 ShownBefore (TracedOver path) old shown = ⊤
-ShownBefore (Audited report refused judged) old shown = ⊤
+ShownBefore (Audited report refused _) old shown = ⊤
 
 -- what is told of a build that was audited and reported so, and the status
 pub record TellsAudit (report : Report) (told : ℕ) (old_out new_out old_err new_err : Option Text) : Type 0 where
