@@ -23,11 +23,7 @@ pub fn push_folders(
 }
 
 /// Puts at the end that each of these is a folder.
-fn push_all(
-    alloc: Global,
-    folders: &Paths,
-    wholes: &mut Items<Whole>,
-) -> Result<(), AllocError>
+fn push_all(alloc: Global, folders: &Paths, wholes: &mut Items<Whole>) -> Result<(), AllocError>
     ensures { OnOk result (AddsFolders wholes.old wholes.new) }
 {
     for place in 0..folders.len() {
