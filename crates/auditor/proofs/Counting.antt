@@ -1,14 +1,18 @@
 -- What is counted of a command.
-use Rattle.std.proofs.Common.{◌≡◌, ℕ, ◌==◌, ◌&&◌, Bool, true, false, List, [], ◌∷◌, Option, Some, None, length, refl, sym, ap, subst, ◌∙◌, inl, inr, arith}
+use Rattle.std.proofs.Common.{◌≡◌, ℕ, ◌==◌, ◌&&◌, Bool, true, false, List, [], ◌∷◌, Option, Some, None, Result, Ok, Err, IfOk, IfSome, OnOk, length, refl, sym, ap, subst, ◌∙◌, inl, inr, arith}
+use Rattle.std.proofs.lemmas.Result.{IfOk-weaker, on_ok_weaker}
 use Rattle.std.proofs.lemmas.Bool.{eqb-true, false≢true}
 use Rattle.trace.specs.declared.fact.Fact.{Fact}
-use Rattle.trace.specs.Lines.{told}
+use Rattle.trace.specs.Lines.{IsTold, told}
+use Rattle.trace.specs.declared.reading.Told.{Told}
+use Rattle.trace.specs.declared.reading.Told.TheVariants.{Facts}
 use Rattle.audit.specs.declared.place.Lists.{Lists}
 use Rattle.audit.specs.declared.seen.Whole.{Whole}
 use Rattle.audit.specs.Breaches.{breaches}
 use Rattle.audit.specs.Seen.{Sums}
 use Rattle.auditor.specs.declared.tally.Counts.{Counts}
 use Rattle.auditor.specs.Tally.{AreFound, AreSums, IsCountedBy, IsCountedOf, Tells, TakesIn, TakesTold, with_one}
+use Rattle.auditor.specs.Things.{AreThings}
 
 empty : {X : Type 0} (xs : List X) → length xs ≡ 0 → xs ≡ []
 empty [] is = refl
@@ -52,3 +56,34 @@ untaken start (Some trace) old new same = untouched start trace old new same
 -- one that is
 pub looked_at : (start trace : List ℕ) (wholes : List Whole) (old new : Counts) → Tells start trace wholes → IsCountedOf wholes old new → TakesTold (told start trace) old new
 looked_at start trace wholes old new is counted = subst (λ (facts : Option (List Fact)). TakesTold facts old new) (sym is.1) (inr (wholes, is.2, counted))
+
+-- ---- over results
+
+pub always : {T E P : Type 0} (r : Result T E) → P → OnOk r P
+always (Ok x) so = so
+always (Err e) so = tt
+
+some_so : {T : Type 0} (P : T → Type 0) (o : Option T) (x : T) → o ≡ Some x → IfSome o P → P x
+some_so {T} P o x is so = subst (λ (o : Option T). IfSome o P) is so
+
+some_weaker : {T : Type 0} (P Q : T → Type 0) (o : Option T) → ((x : T) → P x → Q x) → IfSome o P → IfSome o Q
+some_weaker P Q None weaker so = tt
+some_weaker P Q (Some x) weaker so = weaker x so
+
+-- of a trace that is there
+pub taken : {T E : Type 0} (start : List ℕ) (trace : Option (List ℕ)) (text : List ℕ) (old new : Counts) (r : Result T E) → trace ≡ Some text
+    → OnOk r (TakesTold (told start text) old new) → OnOk r (TakesIn start trace old new)
+taken start trace text old new r is so = on_ok_weaker r (λ takes. subst (λ (t : Option (List ℕ)). TakesIn start t old new) (sym is) takes) so
+
+pub took : {T E : Type 0} (start trace : List ℕ) (found : Option (List Whole)) (wholes : List Whole) (old new : Counts) (r : Result T E) → found ≡ Some wholes
+    → IfSome found (Tells start trace) → OnOk r (IsCountedOf wholes old new) → OnOk r (TakesTold (told start trace) old new)
+took start trace found wholes old new r is tells so =
+    on_ok_weaker r (looked_at start trace wholes old new (some_so (Tells start trace) found wholes is tells)) so
+
+-- what a trace tells, by what its facts do
+pub told_by : {E : Type 0} (start trace : List ℕ) (now : Told) (facts : List Fact) (r : Result (Option (List Whole)) E) → now ≡ Facts facts → IsTold start trace now
+    → IfOk r (λ found. IfSome found (AreThings facts)) → IfOk r (λ found. IfSome found (Tells start trace))
+told_by start trace now facts r is told_so so =
+    let tells : told start trace ≡ Some facts = subst (IsTold start trace) is told_so in
+    IfOk-weaker r (λ found. IfSome found (AreThings facts)) (λ found. IfSome found (Tells start trace))
+    (λ found. some_weaker (AreThings facts) (Tells start trace) found (λ wholes are. (facts, tells, are))) so
