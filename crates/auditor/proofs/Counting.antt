@@ -7,9 +7,11 @@ use Rattle.trace.specs.Lines.{IsTold, told}
 use Rattle.trace.specs.declared.reading.Told.{Told}
 use Rattle.trace.specs.declared.reading.Told.TheVariants.{Facts}
 use Rattle.audit.specs.declared.place.Lists.{Lists}
+use Rattle.audit.specs.declared.place.Around.{Around}
+use Rattle.audit.specs.declared.breach.Breach.{Breach}
 use Rattle.audit.specs.declared.seen.Whole.{Whole}
 use Rattle.audit.specs.Breaches.{breaches}
-use Rattle.audit.specs.Seen.{Sums}
+use Rattle.audit.specs.Seen.{Sums, no_sums, with_all_done, with_untouched}
 use Rattle.auditor.specs.declared.tally.Counts.{Counts}
 use Rattle.auditor.specs.Tally.{AreFound, AreSums, IsCountedBy, IsCountedOf, Tells, TakesIn, TakesTold, with_one}
 use Rattle.auditor.specs.Things.{AreThings}
@@ -63,7 +65,7 @@ pub always : {T E P : Type 0} (r : Result T E) → P → OnOk r P
 always (Ok x) so = so
 always (Err e) so = tt
 
-some_so : {T : Type 0} (P : T → Type 0) (o : Option T) (x : T) → o ≡ Some x → IfSome o P → P x
+pub some_so : {T : Type 0} (P : T → Type 0) (o : Option T) (x : T) → o ≡ Some x → IfSome o P → P x
 some_so {T} P o x is so = subst (λ (o : Option T). IfSome o P) is so
 
 some_weaker : {T : Type 0} (P Q : T → Type 0) (o : Option T) → ((x : T) → P x → Q x) → IfSome o P → IfSome o Q
@@ -75,15 +77,31 @@ pub taken : {T E : Type 0} (start : List ℕ) (trace : Option (List ℕ)) (text 
     → OnOk r (TakesTold (told start text) old new) → OnOk r (TakesIn start trace old new)
 taken start trace text old new r is so = on_ok_weaker r (λ takes. subst (λ (t : Option (List ℕ)). TakesIn start t old new) (sym is) takes) so
 
-pub took : {T E : Type 0} (start trace : List ℕ) (found : Option (List Whole)) (wholes : List Whole) (old new : Counts) (r : Result T E) → found ≡ Some wholes
-    → IfSome found (Tells start trace) → OnOk r (IsCountedOf wholes old new) → OnOk r (TakesTold (told start trace) old new)
-took start trace found wholes old new r is tells so =
-    on_ok_weaker r (looked_at start trace wholes old new (some_so (Tells start trace) found wholes is tells)) so
+pub took : {T E : Type 0} (start trace : List ℕ) (found : Option (List Whole)) (wholes slice : List Whole) (old new : Counts) (r : Result T E) → found ≡ Some wholes
+    → slice ≡ wholes → IfSome found (Tells start trace) → OnOk r (IsCountedOf slice old new) → OnOk r (TakesTold (told start trace) old new)
+took start trace found wholes slice old new r is same tells so =
+    on_ok_weaker r (λ counted. looked_at start trace wholes old new (some_so (Tells start trace) found wholes is tells) (subst (λ (ws : List Whole). IsCountedOf ws old new) same counted)) so
 
 -- what a trace tells, by what its facts do
-pub told_by : {E : Type 0} (start trace : List ℕ) (now : Told) (facts : List Fact) (r : Result (Option (List Whole)) E) → now ≡ Facts facts → IsTold start trace now
-    → IfOk r (λ found. IfSome found (AreThings facts)) → IfOk r (λ found. IfSome found (Tells start trace))
-told_by start trace now facts r is told_so so =
-    let tells : told start trace ≡ Some facts = subst (IsTold start trace) is told_so in
-    IfOk-weaker r (λ found. IfSome found (AreThings facts)) (λ found. IfSome found (Tells start trace))
-    (λ found. some_weaker (AreThings facts) (Tells start trace) found (λ wholes are. (facts, tells, are))) so
+pub told_by : {E : Type 0} (start trace : List ℕ) (now : Told) (facts slice : List Fact) (r : Result (Option (List Whole)) E) → now ≡ Facts facts → slice ≡ facts
+    → IsTold start trace now → IfOk r (λ found. IfSome found (AreThings slice)) → IfOk r (λ found. IfSome found (Tells start trace))
+told_by start trace now facts slice r is same told_so so =
+    let tells : told start trace ≡ Some slice = subst (IsTold start trace) is told_so ∙ ap Some (sym same) in
+    IfOk-weaker r (λ found. IfSome found (AreThings slice)) (λ found. IfSome found (Tells start trace))
+    (λ found. some_weaker (AreThings slice) (Tells start trace) found (λ wholes are. (slice, tells, are))) so
+
+-- so much was found
+pub found_so_many : {E : Type 0} (lists : Lists) (arounds slice : List Around) (sums : Sums) (r : Result (List Breach) E) → length arounds ≡ length sums.paths → slice ≡ arounds
+    → IfOk r (λ found. found ≡ breaches lists slice sums) → IfOk r (λ found. AreFound lists sums (length found))
+found_so_many lists arounds slice sums r each same so =
+    IfOk-weaker r (λ found. found ≡ breaches lists slice sums) (λ found. AreFound lists sums (length found))
+    (λ found is. (arounds, each, ap length is ∙ ap (λ (l : List Around). length (breaches lists l sums)) same)) so
+
+-- what these things come to
+pub summed : (wholes : List Whole) (outputs : List (List ℕ)) (reals slice : List Bool) (sums all : Sums) → length reals ≡ length wholes → slice ≡ reals
+    → sums ≡ with_all_done no_sums wholes slice → all ≡ with_untouched sums outputs → AreSums wholes outputs all
+summed wholes outputs reals slice sums all each same are touched = record {
+  reals = reals;
+  each = each;
+  are = touched ∙ ap (λ (s : Sums). with_untouched s outputs) (are ∙ ap (with_all_done no_sums wholes) same);
+}

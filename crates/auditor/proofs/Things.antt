@@ -2,8 +2,10 @@
 use Rattle.std.proofs.Common.{◌≡◌, List, [], ◌∷◌, ◌++◌, refl, sym, ap, ◌∙◌, append_assoc, append-nil}
 use Rattle.std.specs.List.{AllByRecursion, AllZip}
 use Rattle.trace.specs.declared.fact.Deed.TheVariants.{Folder}
+use Rattle.trace.specs.declared.fact.Fact.{Fact}
 use Rattle.audit.specs.declared.seen.Whole.{Whole}
-use Rattle.auditor.specs.Things.{AddsFolders, IsGiven}
+use Rattle.audit.specs.Seen.{AreWhole}
+use Rattle.auditor.specs.Things.{AddsFolders, AreThings, IsGiven}
 
 -- all have the names that they had
 pub all_given : (wholes : List Whole) → AllZip IsGiven wholes wholes
@@ -23,3 +25,6 @@ one_folder old now new whole adds is pushed = record {
   are = pushed ∙ (ap (λ (ws : List Whole). ws ++ whole ∷ []) adds.are ∙ append_assoc old adds.folders (whole ∷ []));
   each = one_more adds.folders whole adds.each is;
 }
+
+pub things_of : (facts : List Fact) (wholes named things : List Whole) → AreWhole facts wholes → AllZip IsGiven wholes named → AddsFolders named things → AreThings facts things
+things_of facts wholes named things whole given folders = record { wholes = wholes; whole = whole; named = named; given = given; folders = folders }
