@@ -31,9 +31,11 @@ def plain(text, own):
     return renamed(text)
 
 
-def same_list(place, where, told, wanted, is_terminal=False):
-    """Two lists of commands; with a terminal ninja does not show each."""
+def same_list(place, where, told, wanted, is_terminal=False, spared=""):
+    """Two lists of commands; with a terminal ninja does not show each. Those that have `spared` in them ninja alone may run."""
     more, less = only_in(told, wanted), only_in(wanted, told)
+    if spared:
+        less = [it for it in less if not re.search(spared, it)]
     place.expect(is_terminal or not more, where, f"the stand-in ran what ninja did not: {in_short(more)}")
     place.expect(not less, where, f"ninja ran what the stand-in did not: {in_short(less)}")
 
@@ -43,6 +45,13 @@ def same(place, where, both, is_sorted=False):
     text, other = (("\n".join(sorted(it.out.splitlines())) for it in both)) if is_sorted else (told.out, wanted.out)
     place.expect(told.status == wanted.status, where, f"status {told.status}, by ninja {wanted.status}: {told.out[:300]}")
     place.expect(text == other, where, f"answers {first_difference(text, other)}")
+    same_beside(place, where, both)
+
+
+def same_beside(place, where, both):
+    """What is told on the standard error is the same too, where that was taken apart."""
+    told, wanted = both
+    place.expect(told.err == wanted.err, where, f"tells beside {first_difference(told.err, wanted.err)}")
 
 
 def first_difference(text, other):
@@ -72,6 +81,7 @@ def same_graph(place, where, both):
     text, other = (renamed(it.out) for it in both)
     place.expect(both[0].status == both[1].status, where, f"status {both[0].status}, by ninja {both[1].status}")
     place.expect(text == other, where, f"answers {first_difference(text, other)}")
+    same_beside(place, where, both)
 
 
 def renamed(text):
@@ -106,11 +116,11 @@ def of_graph(place, twice, name, front, rules, some):
     asked += [[tool, path] for path in some for tool in ("commands", "inputs", "query")]
     asked += [["commands", "-s", path] for path in some] + [["query", *some], ["commands", *some], ["commands", "-s", *some], ["inputs", *some]]
     for tool in asked:
-        same(place, f"{name} {tool}", twice.both([*front, "-t", *tool]))
+        same(place, f"{name} {tool}", twice.both([*front, "-t", *tool], apart=True))
     for tool in [["compdb"], ["compdb", "-x"], ["compdb", *rules], ["compdb", "-x", *rules[:3]], ["compdb", "nothing"]]:
         same_json(place, f"{name} {tool[:3]}", twice.both([*front, "-t", *tool]))
     for tool in [["graph"], *[["graph", path] for path in some[:4]]]:
-        same_graph(place, f"{name} {tool}", twice.both([*front, "-t", *tool]))
+        same_graph(place, f"{name} {tool}", twice.both([*front, "-t", *tool], apart=True))
     return len(asked) + 10
 
 
@@ -222,7 +232,7 @@ def made_up(place, twice_of):
         number = of_graph(place, twice, f"everything {when}", front, rules, made)
         place.step(f"everything {when}: {number} answers of the graph")
         for path in ("number.txt", "it's \"", "a.c^", "made.h^"):
-            same(place, f"everything {when} query {path}", twice.both([*front, "-t", "query", path]))
+            same(place, f"everything {when} query {path}", twice.both([*front, "-t", "query", path], apart=True))
         told, wanted = twice.both([*front, "-k0"])
         place.expect(told.status == wanted.status == 0, "everything", f"the build ends with {told.status}, by ninja {wanted.status}: {told.out[-800:]}")
     place.step("everything: answers of the logs")

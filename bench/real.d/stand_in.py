@@ -285,16 +285,31 @@ def dead(place, project, twice, front):
 def remove(place, twice, where, words, kept=()):
     place.step(where)
     told, wanted = twice.both(words)
-    twice.same_files(where, (*kept, *kept_by(told, words)))
+    loaded = named_by_dyndeps(twice.copy_of("nj"), words) if "cleandead" in words else []
+    twice.same_files(where, (*kept, *kept_by(told, words), *loaded))
     place.expect(told.status == wanted.status, where, f"status {told.status}, by ninja {wanted.status}: {told.out[:300]}")
     place.expect("cleandead" in words or "Cleaning... 0 " not in wanted.out, where, "ninja removes nothing")
     if told.out != wanted.out:
         print(f"    differs: {told.out[:200]!r}\n      ninja: {wanted.out[:200]!r}")
 
 
+def folder_of(words):
+    return words[words.index("-C") + 1] if "-C" in words else "."
+
+
+def named_by_dyndeps(tree, words):
+    """What dyndep files of a tree name: ninja's `cleandead` removes it, and the stand-in's keeps it."""
+    found = []
+    for folder, _, files in os.walk(os.path.join(tree, folder_of(words))):
+        for text in (answered.read(os.path.join(folder, it)) for it in files if it.endswith(".dd")):
+            for outputs in re.findall(r"^build [^|:]*\|([^:|]*):", text, re.M):
+                found += [os.path.normpath(os.path.join(folder_of(words), it)) for it in outputs.split()]
+    return found
+
+
 def kept_by(told, words):
     """The paths that the stand-in says it keeps, which ninja removes."""
-    folder = words[words.index("-C") + 1] if "-C" in words else "."
+    folder = folder_of(words)
     return [os.path.normpath(os.path.join(folder, it)) for it in re.findall(r"^ninja: kept '(.*)', which ", told.out, re.M)]
 
 

@@ -4,7 +4,7 @@
 use crate::desk::Desk;
 use crate::digest::Digest;
 use crate::random::Random;
-use crate::work::Asked;
+use crate::workloads::Asked;
 use std::alloc::{AllocError, Global};
 
 const MODULES: &str = "rule dyndep

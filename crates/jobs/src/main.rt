@@ -2,7 +2,7 @@
 //! It prints a digest of all that came of them.
 //!
 //! Words: `JOB SIZE ROUNDS SEED`. SIZE is about how many edges a graph has, ROUNDS how often a job goes on after its beginning, and each
-//! SEED gives other trees of the same kind and size. The jobs are said where `work` names what does them; `all` is each of them in turn.
+//! SEED gives other trees of the same kind and size. The jobs are said where `workloads` names what does them; `all` is each of them in turn.
 #![tactic(auto)]
 
 mod awkward;
@@ -13,10 +13,10 @@ mod project;
 mod random;
 mod reading;
 mod shapes;
-mod work;
+mod workloads;
 
 use std::{env, io};
-use work::{Asked, push_all};
+use workloads::{Asked, push_all};
 
 fn main(rt: HostRuntime) -> io::Result<()> {
     let alloc = rt.alloc();

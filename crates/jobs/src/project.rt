@@ -8,7 +8,7 @@ use crate::desk::Desk;
 use crate::digest::Digest;
 use crate::files::{Headers, ending, library_of, object, unit};
 use crate::random::Random;
-use crate::work::Asked;
+use crate::workloads::Asked;
 use std::alloc::{AllocError, Global};
 
 const RULES: &str = "ninja_required_version = 1.5

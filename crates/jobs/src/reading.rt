@@ -8,7 +8,7 @@ ghost use Rattle.std.specs.Prelude.{◌<◌, length};
 use crate::desk::{add_act, add_report};
 use crate::digest::Digest;
 use crate::random::Random;
-use crate::work::Asked;
+use crate::workloads::Asked;
 use builder::{Options, Reading, Report, read};
 use model::{Deps, Pool};
 use paths::{Action, Command, EdgeId, Manifest, PathId, Paths};

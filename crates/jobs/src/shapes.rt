@@ -3,7 +3,7 @@
 use crate::desk::Desk;
 use crate::digest::Digest;
 use crate::random::Random;
-use crate::work::Asked;
+use crate::workloads::Asked;
 use std::alloc::{AllocError, Global};
 
 const RULES: &str = "rule cat\n  command = cat $out $in\n  description = CAT $out\n";

@@ -2,7 +2,7 @@
 #![tactic(auto)]
 
 use ninja_run::{Around, run};
-use stand_in::Output;
+use ninja_words::Output;
 use std::env::VarError;
 use std::io::{BufWriter, ErrorKind, IsTerminal};
 use std::process::ExitCode;

@@ -5,11 +5,13 @@ ghost use Rattle.std.specs.Prelude.{◌≤◌, IfOk};
 use crate::told::{self, Telling};
 use builder::{Options, Report};
 use host::{Host, Trouble};
+use ninja_asked::{Asking, default_jobs};
+use ninja_words::{
+    Asked, Front, Heading, HeadingFault, Options as Given, Output, PATTERN, Shown, asked,
+};
 use site::{Site, SiteFault};
 use stand_in::{
-    Asked, Asking, Due, Ended, Front, Heading, HeadingFault, NoAnswer, Options as Given, Outcome,
-    Output, PATTERN, Patient, Place, Shown, answer, asked, build_here, default_jobs, due_here,
-    site_here,
+    Due, Ended, NoAnswer, Outcome, Patient, Place, answer, build_here, due_here, site_here,
 };
 use status::Pattern;
 use std::alloc::{AllocError, Global};
@@ -354,6 +356,8 @@ fn answer_in<W: Write, E: Write>(
     let trouble = host.into_trouble();
     match answered {
         Ok(answer) => {
+            err.write_all(answer.beside.as_bytes())?;
+            err.flush()?;
             out.write_all(answer.text.as_bytes())?;
             out.flush()?;
             Ok(answer.status)

@@ -5,9 +5,10 @@ ghost use Rattle.ninja_run.specs.Ends.{why_stopped};
 
 use builder::{Explained, Report};
 use host::Trouble;
+use ninja_words::{Information, Options, Shown, WordFault};
 use nj_run::tell_why;
 use site::SiteFault;
-use stand_in::{Due, Ended, Information, Options, Outcome, Shown, WordFault};
+use stand_in::{Due, Ended, Outcome};
 use std::alloc::Global;
 use std::io;
 use std::io::Write;

@@ -7,7 +7,7 @@ use crate::folder::Folder;
 use crate::nj_runs::{Ran, push_front, push_ran, push_status, run_of};
 use crate::stand_in_runs::stand_in_run_of;
 use ninja_run::Around;
-use stand_in::Output;
+use ninja_words::Output;
 use std::alloc::{AllocError, Global};
 use std::path::PathBuf;
 use std::{fs, io};

@@ -12,21 +12,6 @@ use Rattle.theory.proofs.Looks.{looks_nothing, looks_then}
 use Rattle.stand_in.specs.Moves.{AsksWell, FailedAt, OnlyAsks}
 use Rattle.stand_in.proofs.Stages.{looked_nothing, looked_then}
 
--- ---- results
-
-pub on_ok : {T E : Type 0} {P : Type 0} (r : Result T E) → P → OnOk r P
-on_ok (Ok value) is = is
-on_ok (Err error) is = tt
-
-pub if_err_each : {T E : Type 0} {P : E → Type 0} (r : Result T E) → ((error : E) → P error) → IfErr r P
-if_err_each (Ok value) each = tt
-if_err_each (Err error) each = each error
-
--- an error that is passed on
-pub if_err_by : {T E : Type 0} (P : E → Type 0) (error : E) (r : Result T E) → P error → IsErrAnd r (λ (told : E). told ≡ error) → IfErr r P
-if_err_by P error (Ok value) is passed = tt
-if_err_by P error (Err told) is passed = subst P (sym passed) is
-
 -- ---- causes
 
 -- the cause of a fault, whatever a call would have answered

@@ -1,8 +1,6 @@
 pub mod Calls
 pub mod Claimed
-pub mod Gathering
-pub mod Headings
-pub mod Leaving
+pub mod Edges
 pub mod Looking
 pub mod Opening
 pub mod Ready

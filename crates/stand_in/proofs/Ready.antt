@@ -33,10 +33,6 @@ use Rattle.stand_in.specs.Moves.{IsEndOf, IsReady, WasReadHere}
 use Rattle.stand_in.specs.declared.build.Outcome.TheVariants.{Built}
 use Rattle.stand_in.proofs.Stages.{built_end, looked_nothing, looked_then}
 
--- a graph keeps its edges where nothing is done
-pub keeps_none : (graph : Graph) → KeepsEdges graph graph
-keeps_none graph = record { more = []; paths = sym (append-nil graph.manifest.paths); lines = refl; declared = refl; recorded = λ none. none }
-
 -- what was read stays so where its paths get more numbers
 read_kept : (tells : Bool) (name : List ℕ) (old new : World) (before after : Declared) → KeepsEdges before.graph after.graph → WasReadHere tells name old new before → WasReadHere tells name old new after
 read_kept tells name old new before after kept was = record {

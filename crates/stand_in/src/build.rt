@@ -3,22 +3,21 @@
 ghost use Rattle.std.specs.Prelude.{◌≡◌, ◌⊎◌, [], false, IfErr, IfNone, IfOk, IfSome, OnOk};
 ghost use Rattle.model.specs.World.{World, IsIdle};
 ghost use Rattle.model.specs.Calls.{OnlyLooks};
-ghost use Rattle.stand_in.specs.Above.{AreEdges};
+ghost use Rattle.ninja_asked.specs.Above.{AreEdges};
 ghost use Rattle.stand_in.specs.Moves.{EndsFirst, IsEndOf, IsReady, MayBeBuiltFirst, end_in, outcome_in};
 ghost use Rattle.stand_in.specs.Moves.{WasReadAlone, WasReadHere, WasUnreadAlone, WasUnreadHere};
 ghost use Rattle.stand_in.specs.Moves.{ComesNext, ComesOnceBuilt, EndsOncePrepared, EndsOnceRead, EndsOnceReady};
 
-use crate::above::{Above, all_above};
-use crate::given::Options as Given;
 use crate::place::Place;
 use crate::regenerating::{Regenerated, regenerate};
-use crate::targets::{Targets, left_targets};
 use builder::{Asked, Options, Report, build, build_graph_read, link, own_folder};
 use depfile::has_reading;
 use dyndep_law::has_reading as has_dyndeps;
 use log_text::has_format;
 use manifest::read_described;
 use model::SiteFault;
+use ninja_asked::{Above, Targets, all_above, left_targets};
+use ninja_words::Options as Given;
 use nj_run::Alone;
 use site::Site;
 use std::alloc::Global;

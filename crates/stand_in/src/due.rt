@@ -4,14 +4,13 @@ ghost use Rattle.std.specs.Prelude.{◌≡◌, false, OnOk};
 ghost use Rattle.model.specs.Calls.{OnlyLooks};
 ghost use Rattle.model.specs.World.{IsIdle};
 
-use crate::above::{Above, all_above};
 use crate::build::{read_alone, read_here};
-use crate::given::Options as Given;
 use crate::regenerating::{show_command, would_run};
-use crate::targets::left_targets;
 use crate::tools_here::NoAnswer;
 use builder::{Explained, Explanation, Options, Report, explain};
 use model::SiteFault;
+use ninja_asked::{Above, all_above, left_targets};
+use ninja_words::Options as Given;
 use nj_run::Alone;
 use paths::Command;
 use site::Site;

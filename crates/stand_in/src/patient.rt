@@ -4,9 +4,9 @@ ghost use Rattle.std.specs.Prelude.{◌≡◌, IfOk, false};
 ghost use Rattle.host.specs.World.{world_of, fresh};
 
 use crate::place::Place;
-use crate::screen::{Front, Screen};
 use host::Host;
 use model::{Act, Event, Finished, SiteFault};
+use ninja_words::{Front, Screen};
 use nj_run::Alone;
 use paths::Manifest;
 use site::{Site, Texts};

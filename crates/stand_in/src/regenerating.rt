@@ -1,14 +1,14 @@
 //! Regenerating: what the program does between two builds, in the user's place.
 
 ghost use Rattle.std.specs.Prelude.{◌≡◌, false};
-ghost use Rattle.stand_in.specs.Above.{AreEdges};
+ghost use Rattle.ninja_asked.specs.Above.{AreEdges};
 ghost use Rattle.stand_in.specs.Moves.{AsksWell, OnlyAsks};
 
-use crate::above::Above;
-use crate::judge::is_out_of_date;
+use crate::judged::is_out_of_date;
 use crate::place::Place;
 use builder::Options;
 use model::SiteFault;
+use ninja_asked::Above;
 use paths::{Command, EdgeId};
 use site::Site;
 use status::{Counts, Ending, Failure, line, push_ending, said_of};

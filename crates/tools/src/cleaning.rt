@@ -39,6 +39,25 @@ pub struct Cleaned {
     pub lines: Option<String>,
 }
 
+impl Cleaned {
+    /// Nothing so far, with lines where they are asked for.
+    pub fn new(alloc: Global, has_lines: bool) -> Cleaned {
+        Cleaned {
+            removed: 0,
+            refused: Vec::new(alloc),
+            lines: has_lines.then_some(String::new(alloc)),
+        }
+    }
+
+    /// Puts a line of these parts behind the others, where they are asked for.
+    pub fn tell(&mut self, parts: &[&str]) -> Result<(), AllocError> {
+        match &mut self.lines {
+            Some(lines) => push_line(lines, parts),
+            None => Ok(()),
+        }
+    }
+}
+
 /// The paths that a cleaning removes, each once: of each command that is asked for the outputs, the depfile and the response file. What
 /// edges of a generator make stays, unless it is asked for, and so does the file that was read. Aliases make nothing.
 pub fn to_clean(
@@ -311,27 +330,8 @@ fn add_text(alloc: Global, path: &str, paths: &mut Paths) -> Result<(), AllocErr
     Ok(())
 }
 
-/// Removes the files at these paths that are there, or only counts them. Lines are told of them where there is a text for these.
+/// Removes the files at these paths that are there, or only counts them, and notes what was removed.
 pub fn clean<S: Site>(
-    alloc: Global,
-    site: &mut S,
-    paths: &Paths,
-    only_count: bool,
-    lines: Option<String>,
-) -> Result<Cleaned, Fault>
-    ensures { RemovesOf S.tells only_count paths.now (S.world site.old) (S.world site.new) }
-{
-    let mut cleaned = Cleaned {
-        removed: 0,
-        refused: Vec::new(alloc),
-        lines,
-    };
-    remove_all(alloc, site, paths, only_count, &mut cleaned)?;
-    Ok(cleaned)
-}
-
-/// The same, noting what was removed.
-fn remove_all<S: Site>(
     alloc: Global,
     site: &mut S,
     paths: &Paths,
@@ -387,8 +387,5 @@ fn remove_there<S: Site>(
 /// Counts a file that is there.
 fn count(path: &str, cleaned: &mut Cleaned) -> Result<(), AllocError> {
     cleaned.removed = cleaned.removed.saturating_add(1);
-    if let Some(lines) = &mut cleaned.lines {
-        push_line(lines, &["Remove ", path])?;
-    }
-    Ok(())
+    cleaned.tell(&["Remove ", path])
 }

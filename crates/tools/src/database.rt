@@ -155,23 +155,28 @@ impl Listing {
     }
 }
 
-/// The command, with the content of its response file in place of `@` and the name of it, where that is asked for and stands there.
+/// The command, with the content of its response file in place of `@` and the name of it, where that is asked for and stands there. The
+/// name may have `./` in front of it, as GN's.
 fn shown_command(alloc: Global, command: &Command, expand: bool) -> Result<String, AllocError> {
     let text = command.act.command.as_str();
     let path = command.act.response_path.as_str();
     if !expand || path.is_empty() {
         return String::from_str(alloc, text);
     }
-    let Some((before, behind)) = text.split_once(path) else {
-        return String::from_str(alloc, text);
-    };
-    let Some(before) = before.strip_suffix('@') else {
+    let dotted = format!(in alloc; "./{path}")?;
+    let Some((before, behind)) = around(text, path).or(around(text, dotted.as_str())) else {
         return String::from_str(alloc, text);
     };
     let mut shown = String::from_str(alloc, before)?;
     push_in_one_line(&mut shown, command.act.response_content.as_str())?;
     shown.push_str(behind)?;
     Ok(shown)
+}
+
+/// What stands around `@` and a name, where the name is found first behind that.
+fn around<'a>(text: &'a str, name: &str) -> Option<(&'a str, &'a str)> {
+    let (before, behind) = text.split_once(name)?;
+    Some((before.strip_suffix('@')?, behind))
 }
 
 /// Puts a text behind another, with spaces for its newlines.

@@ -37,7 +37,7 @@ pub use database::{Entries, compdb, compdb_targets};
 pub use dead::{Dead, to_bury};
 pub use declared::{Declared, Logged};
 pub use drawing::graph;
-pub use dyndeps::load_dyndeps;
+pub use dyndeps::{Dyndeps, load_above, load_dyndeps};
 pub use fault::{Fault, Near};
 pub use found::{asked, asked_in_logs, target, target_in_logs};
 pub use lines::push_line;

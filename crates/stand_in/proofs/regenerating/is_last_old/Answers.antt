@@ -1,6 +1,6 @@
 use Rattle.std.proofs.Common.{ℕ, Bool, true, false, Option, None, Some, Result, Ok, Err, IsSome, ◌≡◌, refl, sym, ap, ◌∙◌}
 use Rattle.stand_in.proofs.Calls.{still_nothing, still_says}
-use Rattle.stand_in.proofs.Gathering.{last_of}
+use Rattle.stand_in.proofs.Edges.{last_of}
 use Rattle.stand_in.proofs.regenerating.is_last_old.Goals as goal
 
 pub is_out_of_date-requires : goal.is_out_of_date-requires

@@ -3,7 +3,7 @@ use Rattle.std.proofs.lemmas.Bool.{true≢false}
 use Rattle.stand_in.specs.declared.regenerating.Regenerated.{Regenerated}
 use Rattle.stand_in.specs.declared.regenerating.Regenerated.TheVariants.{Nothing, Ran, Failed}
 use Rattle.stand_in.proofs.Calls.{asks_nothing, asks_so, ran_err, ran_none, ran_on, ran_two, ran_two_err}
-use Rattle.stand_in.proofs.Gathering.{edge_by}
+use Rattle.stand_in.proofs.Edges.{edge_by}
 use Rattle.stand_in.proofs.regenerating.regenerate.Goals as goal
 
 pub loop-generator-init : goal.loop-generator-init

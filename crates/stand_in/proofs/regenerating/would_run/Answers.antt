@@ -1,7 +1,7 @@
 use Rattle.std.proofs.Common.{ℕ, Bool, true, false, Option, None, Some, Result, Ok, Err, IsSome, ◌≡◌, refl, sym, ap, ◌∙◌}
 use Rattle.std.proofs.lemmas.Bool.{true≢false}
 use Rattle.stand_in.proofs.Calls.{still_err, still_nothing, still_says, still_then, still_unsaid}
-use Rattle.stand_in.proofs.Gathering.{edge_by}
+use Rattle.stand_in.proofs.Edges.{edge_by}
 use Rattle.stand_in.proofs.regenerating.would_run.Goals as goal
 
 pub is_out_of_date-requires : goal.is_out_of_date-requires

@@ -4,6 +4,11 @@ use Rattle.stand_in.proofs.tools_here.answer_here.Goals as goal
 pub answer_read-requires : goal.answer_read-requires
 answer_read-requires g c = record { running = c.in_ok-declared.ensures.read.looked.unrefused.goes_on }
 
+pub returns-in_err-answer_read : goal.returns-in_err-answer_read
+returns-in_err-answer_read g c = record {
+  looks = λ none. looks_then g.S.Texts.tells (g.S.Texts.world c.args.site.now) (g.S.Texts.world c.read_here.new.site) (g.S.Texts.world c.answer_read.new.site) c.read_here.ensures.looks (c.answer_read.ensures.looks none);
+}
+
 pub returns : goal.returns
 returns g c = record {
   looks = λ none. looks_then g.S.Texts.tells (g.S.Texts.world c.args.site.now) (g.S.Texts.world c.read_here.new.site) (g.S.Texts.world c.answer_read.new.site) c.read_here.ensures.looks (c.answer_read.ensures.looks none);

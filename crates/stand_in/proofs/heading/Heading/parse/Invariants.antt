@@ -1,9 +1,0 @@
-use Rattle.std.proofs.Common.{◌≡◌, ◌++◌, flat_map, length}
-use Rattle.stand_in.specs.Heading.{spelled}
-use Rattle.stand_in.proofs.heading.Heading.parse.Given as goal
-
-abbrev pub invariant-parts : goal.invariant-parts
-invariant-parts l = l.text ≡ flat_map spelled l.parts.items ++ l.rest
-
-abbrev pub decreases-parts : goal.decreases-parts
-decreases-parts l = length l.rest

@@ -1,5 +1,0 @@
-use Rattle.std.proofs.Common.{◌-◌, length}
-use Rattle.stand_in.proofs.words.asked.Given as goal
-
-abbrev pub decreases-words : goal.decreases-words
-decreases-words l = length l.words - l.place

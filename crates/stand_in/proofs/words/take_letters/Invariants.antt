@@ -1,5 +1,0 @@
-use Rattle.std.proofs.Common.{length}
-use Rattle.stand_in.proofs.words.take_letters.Given as goal
-
-abbrev pub decreases-letters : goal.decreases-letters
-decreases-letters l = length l.rest
