@@ -1,0 +1,128 @@
+"""What `nj --audit` tells of trees of CMake and Meson: made ones, and those of Debian's packages. Each line has to be one that is known of such
+trees, and why it is so stands beside it here."""
+
+import collections
+import glob
+import os
+import re
+import subprocess
+import tempfile
+import time
+
+import projects
+
+# How long a build may take, in seconds.
+LONGEST = 120
+
+END = re.compile(r"nj: audit: (\d+) of (\d+) commands of the cone looked at, (\d+) keep all premises, as far as the trace shows")
+
+# What audits tell of made trees: the start of a tree's name, a pattern of lines, and why it is so.
+KNOWN = [
+    ("cmake", r".*: takes .*, which build lines name as .*, and as .* \(a path is the only name of its file\), commands: \d+",
+     "CMake names what a custom command makes by its path in the folder, and from the root"),
+    ("cmake-terminal", r"listed\.txt: reads (listed|by)\.txt, its own output, as an earlier run left it.*", "`cmake -E touch` leaves what stands in the file"),
+    ("cmake-terminal", r"listed\.txt: writes listed\.d, which is neither its output nor scratch.*",
+     "CMake makes another depfile of the one that the command wrote, which stays"),
+    ("cmake-terminal", r"CMakeFiles/each_time: did not write CMakeFiles/each_time, .*", "the output of a custom target is a name, and no file"),
+    ("cmake-fortran", r".*: reads .*/Fortran(DependInfo|Modules)\.json, which is neither an input nor in its depfile.*",
+     "CMake's scanner reads what the generator left for it, and what it left itself for another target"),
+    ("cmake-fortran", r".*\.dd: writes .*/FortranModules\.json, which is neither its output nor scratch.*", "this is what it leaves"),
+    ("cmake-fortran", r".*\.f90\.o: reads .*\.f90, which is neither an input nor in its depfile.*",
+     "gfortran opens the source that the lines of a preprocessed one name"),
+    ("meson-fortran", r".*\.o: reads .*\.mod, which is neither an input nor in its depfile.*",
+     "Meson's dyndep file names no module of another target as an input"),
+    ("meson", r"app: reads .*\.(o|obj), which is neither an input nor in its depfile.*", "a thin archive has the names of objects, and the linker reads these"),
+    ("meson", r"app: reads libothers\.so\.1\.2\.3, .*", "Meson links anew where the symbols of a shared library are others, not where the library is"),
+    ("jsoncpp", r".*: takes .*, which build lines name as .*, and as .* \(a path is the only name of its file\), commands: \d+",
+     "CMake declares each of the three names of a shared library by a build line"),
+    ("jsoncpp", r"bin/jsoncpp_test: reads lib/libjsoncpp\.so\.\d+, which is neither an input nor in its depfile.*",
+     "the test is run by the command that links it, and the loader reads the library, by a name that this edge does not have"),
+    ("fribidi", r".*: reads /\S*/python3[.\d]*, which is neither an input nor in its depfile.*",
+     "an interpreter runs these commands, which a build line of another one names"),
+    ("fribidi", r"\S+: reads lib/libfribidi\.so\.\d[.\d]*, which is neither an input nor in its depfile.*",
+     "Meson links anew where the symbols of a shared library are others, not where the library is"),
+    ("meson-fortran", r".*depscan\.dd: reads .*, which is neither an input nor in its depfile.*",
+     "`meson --internal depscan` reads a list, and each source in it"),
+]
+
+
+# A tree of Debian's: its name, the archive, how it is made ready, and what that needs. Beside it stand the names that made trees have.
+Source = collections.namedtuple("Source", "name archive prepares wants build words", defaults=("build", ()))
+
+SOURCES = [
+    Source("jsoncpp", "libjsoncpp_*.orig.tar.*", [["cmake", "-G", "Ninja", "-B", "build"]], ("cmake", "g++")),
+    Source("fribidi", "fribidi_*.orig.tar.*", [["meson", "setup", "build"]], ("meson", "gcc")),
+]
+
+
+def filled(project, folder):
+    """Puts the files of a project into a folder."""
+    if isinstance(project, Source):
+        os.makedirs(folder)
+        subprocess.run(["tar", "-xf", project.archive, "--strip-components=1", "-C", folder], check=True)
+        return
+    for name, text in project.files.items():
+        path = os.path.join(folder, name)
+        os.makedirs(os.path.dirname(path), exist_ok=True)
+        with open(path, "w", encoding="utf-8") as it:
+            it.write(text)
+        if text.startswith("#!"):
+            os.chmod(path, 0o755)
+
+
+def prepared(project, folder):
+    """Makes a project ready; whether it could be."""
+    filled(project, folder)
+    return all(subprocess.run(words, cwd=folder, stdin=subprocess.DEVNULL, stdout=subprocess.DEVNULL, stderr=subprocess.DEVNULL, check=False).returncode == 0
+               for words in project.prepares)
+
+
+def timed(nj, project, folder, *words):
+    """What nj prints of the project, and how many seconds it takes."""
+    begun = time.monotonic()
+    done = subprocess.run([nj, "-C", project.build, *project.words, "-k0", *words], cwd=folder, stdin=subprocess.DEVNULL, stdout=subprocess.PIPE,
+                          stderr=subprocess.STDOUT, text=True, timeout=LONGEST, check=False)
+    return done.stdout, time.monotonic() - begun
+
+
+def wrong_in_tree(nj, project):
+    """What is wrong with a tree: lines that are not known, and commands that were not looked at."""
+    with tempfile.TemporaryDirectory() as place:
+        folders = [os.path.join(os.path.realpath(place), name) for name in ("built", "audited")]
+        if not all(prepared(project, folder) for folder in folders):
+            yield "could not be made ready"
+            return
+        _, plain = timed(nj, project, folders[0])
+        text, traced = timed(nj, project, folders[1], "--audit")
+    end = next((end for end in map(END.fullmatch, text.splitlines()) if end), None)
+    if not end:
+        yield f"no last line: {text!r}"
+        return
+    told = [line for line in text.splitlines() if re.match(r"\S+: (reads|lists|writes|removes|did not write|takes|its trace)", line)]
+    for line in told:
+        if not any(project.name.startswith(name) and re.fullmatch(pattern, line) for name, pattern, _ in KNOWN):
+            yield f"not known: {line}"
+    if end.group(1) != end.group(2):
+        yield f"looked at {end.group(1)} of {end.group(2)}"
+    print(f"{project.name}: {end.group(1)} commands, {end.group(3)} keep all premises, {len(told)} lines; built in {plain:.1f} s, "
+          f"audited in {traced:.1f} s", flush=True)
+
+
+def sources_in(folder):
+    """Debian's trees whose archives stand in a folder."""
+    for source in SOURCES:
+        found = sorted(glob.glob(os.path.join(os.path.realpath(folder), source.archive)))
+        if found:
+            yield source._replace(archive=found[-1])
+        else:
+            print(f"{source.name}: left out, there is no {source.archive} in {folder}")
+
+
+def run(place):
+    """The part of bench/real."""
+    for project in (*projects.CMAKES, *projects.MESONS, *(sources_in(place.sources) if place.sources else ())):
+        if place.lacks(f"an audit of {project.name}", "strace", *project.wants):
+            continue
+        place.step(f"an audit of {project.name}")
+        for wrong in wrong_in_tree(place.nj, project):
+            place.wrong(f"an audit of {project.name}", wrong)
