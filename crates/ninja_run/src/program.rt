@@ -16,9 +16,10 @@ use stand_in::{
 use status::Pattern;
 use std::alloc::{AllocError, Global};
 use std::io::Write;
+use std::mem::forget;
 use std::{env, io};
 use text::Text;
-use tools::{Fault, Switches, Tool, Usage, split_switches};
+use tools::{Declared, Fault, Switches, Tool, Usage, split_switches};
 
 /// What the program finds around it.
 #[derive(Clone, Copy)]
@@ -226,8 +227,10 @@ fn build_at<'a, W: Write + Drop>(
     given: &Given<'_>,
     options: &Options,
 ) -> (Ended, Option<Trouble>) {
-    let ended = build_there(alloc, &mut site, given, options);
+    let (ended, left) = build_there(alloc, &mut site, given, options);
     let trouble = finish(site.into_site(), given.keep, &ended);
+    // no build file is read any more: the program ends right after this, and then all goes at once
+    forget(left);
     (ended, trouble)
 }
 
@@ -238,7 +241,7 @@ fn build_there<S: Place>(
     site: &mut S,
     given: &Given<'_>,
     options: &Options,
-) -> Ended {
+) -> (Ended, Option<Declared>) {
     site.restart();
     build_here(alloc, site, given, options)
 }

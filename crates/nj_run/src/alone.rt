@@ -3,13 +3,17 @@
 ghost use Rattle.std.specs.Prelude.{◌≡◌, false, IfOk, IfErr};
 ghost use Rattle.model.specs.Calls.{OnlyLooks};
 ghost use Rattle.model.specs.World.{IsIdle};
+ghost use Rattle.manifest.specs.Answer.{IsGraph};
+ghost use Rattle.paths.specs.Told.{graph_of};
+ghost use Rattle.builder.specs.Parts.{BuildsReading};
 ghost use Rattle.nj_run.specs.Alone.{IsBuiltAlone, Passes, WasReadAlone, WasUnreadAlone};
 
 use crate::named::names;
 use crate::noted::Noted;
-use builder::{Explained, Options, Reading, Report, build_read, explain_read, read};
+use builder::{Explained, Options, Reading, Report, build_graph_read, explain_read, link, read};
 use depfile::has_reading;
 use dyndep_law::has_reading as has_dyndeps;
+use graph::Graph;
 use host::Host;
 use log_text::has_format;
 use paths::Manifest;
@@ -61,16 +65,17 @@ impl<'a, W: Write> Alone for Host<'a, W> {
 }
 
 /// Builds the targets once nobody else is at work in the folder, as [`builder::build`] does: what it reads is what is there by then, and
-/// what may help whoever watches is noted of that.
+/// what may help whoever watches is noted of that. The graph comes with the report, if there is one: it has served, and who ends the program
+/// right after need not let it go.
 pub fn build_alone<S: Alone>(
     alloc: Global,
     site: &mut S,
     options: &Options,
     targets: &[Text],
     noted: &mut Noted<'_>,
-) -> Report
+) -> (Report, Option<Graph>)
     requires { IsIdle (S.world site.old).events }
-    ensures { IsBuiltAlone S.tells S.outcome options.now targets.now (S.world site.old) (S.world site.new) result }
+    ensures { IsBuiltAlone S.tells S.outcome options.now targets.now (S.world site.old) (S.world site.new) result.0 }
 {
     has_format();
     has_reading();
@@ -79,9 +84,31 @@ pub fn build_alone<S: Alone>(
         Ok(reading) => {
             noted.reads(options.file.as_str(), &reading);
             site.learn(alloc, &reading.manifest, options.verbose);
-            build_read(alloc, site, reading, options)
+            build_leaving(alloc, site, reading, options)
         }
-        Err(report) => report,
+        Err(report) => (report, None),
+    }
+}
+
+/// Builds what was read, as [`builder::build_read`] does, and hands out the graph, if that makes one.
+fn build_leaving<S: Site>(
+    alloc: Global,
+    site: &mut S,
+    reading: Reading<'_>,
+    options: &Options,
+) -> (Report, Option<Graph>)
+    requires idle { IsIdle (S.world site.old).events }
+    requires running { (S.world site.old).stopped ≡ false }
+    requires formed { IsGraph (graph_of reading.manifest) }
+    ensures { BuildsReading S.tells reading.entry (S.world site.old) (S.world site.new) result.0 }
+{
+    let Reading { manifest, asked } = reading;
+    match link(alloc, manifest, asked.folder.as_str()) {
+        Ok(mut graph) => {
+            let report = build_graph_read(alloc, site, &mut graph, &asked, options);
+            (report, Some(graph))
+        }
+        Err(report) => (report, None),
     }
 }
 

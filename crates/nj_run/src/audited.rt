@@ -112,7 +112,9 @@ fn audit_here<W: Write>(
         noted.look(asked.verbose),
         pattern.unwrap_or(Pattern::DEFAULT),
     );
-    let report = build_on(alloc, &mut host, asked, pattern, noted);
+    let (report, graph) = build_on(alloc, &mut host, asked, pattern, noted);
+    // what is looked at is read anew
+    drop(graph);
     host.finish_screen();
     recall(&mut host, asked.keep, &report);
     noted.waited(host.wait_for_clock());

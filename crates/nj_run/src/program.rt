@@ -17,12 +17,14 @@ use crate::given::Options as Asked;
 use crate::noted::Noted;
 use crate::{told, whys};
 use builder::{Explained, Options, Report};
+use graph::Graph;
 use host::{Host, Trouble};
 use site::SiteFault;
 use status::Pattern;
 use std::alloc::{AllocError, Global};
 use std::convert::AsStr;
 use std::io::Write;
+use std::mem::forget;
 use std::{env, io};
 use text::Text;
 
@@ -179,13 +181,23 @@ fn build_here<W: Write>(
         noted.look(asked.verbose),
         pattern.unwrap_or(Pattern::DEFAULT),
     );
-    let report = build_on(alloc, &mut host, asked, pattern, noted);
+    let (report, graph) = build_on(alloc, &mut host, asked, pattern, noted);
     host.finish_screen();
     recall(&mut host, asked.keep, &report);
+    leave(graph, noted.may_read(&report));
     // where the clock stands still for seconds there is nothing more to do about it but to say so
     noted.waited(host.wait_for_clock());
     noted.built(&mut host, asked.file, &report);
     (report, host.into_trouble())
+}
+
+/// The graph of the build has served. Where no build file is read any more the program ends right after this, and then all goes at once.
+fn leave(graph: Option<Graph>, may_read: bool) {
+    if may_read {
+        drop(graph);
+    } else {
+        forget(graph);
+    }
 }
 
 /// Tells once more which outputs failed, where rows are drawn and more than one command may fail.
@@ -201,20 +213,20 @@ pub(crate) fn recall<W: Write>(host: &mut Host<'_, W>, keep: u32, report: &Repor
 }
 
 /// Builds what is asked for on a site, whatever folder is asked for, once nobody else is at work there. Where no pattern is given,
-/// lines have the default one.
+/// lines have the default one. The graph comes with the report, if there is one.
 pub fn build_on<S: Alone>(
     alloc: Global,
     site: &mut S,
     asked: &Asked<'_>,
     pattern: Option<&str>,
     noted: &mut Noted<'_>,
-) -> Report
+) -> (Report, Option<Graph>)
     requires idle { IsIdle (S.world site.old).events }
-    ensures { BuildsAlone S.tells S.outcome asked.now (S.world site.old) (S.world site.new) result }
+    ensures { BuildsAlone S.tells S.outcome asked.now (S.world site.old) (S.world site.new) result.0 }
 {
     match build_options(alloc, asked, pattern) {
         Ok((options, targets)) => build_alone(alloc, site, &options, targets.as_slice(), noted),
-        Err(_) => Report::Fault(SiteFault::Memory),
+        Err(_) => (Report::Fault(SiteFault::Memory), None),
     }
 }
 

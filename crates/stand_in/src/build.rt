@@ -97,19 +97,21 @@ pub fn read_alone<S: Alone>(alloc: Global, site: &mut S, file: &str) -> Result<D
 }
 
 /// Runs the generators of the file that are out of date, and then builds what is asked for: the moves of a build of what generators
-/// need, edits, and a build. Where nothing is out of date, it is one build, for which all is read once.
+/// need, edits, and a build. Where nothing is out of date, it is one build, for which all is read once. What was read first comes with the
+/// end, if it could be read: it has served, and who ends the program right after need not let it go.
 pub fn build_here<S: Place>(
     alloc: Global,
     site: &mut S,
     given: &Given<'_>,
     options: &Options,
-) -> Ended
+) -> (Ended, Option<Declared>)
     requires { IsIdle (S.world site.old).events }
-    ensures { IsEndOf S.tells S.outcome options.now (S.world site.old) (S.world site.new) result.outcome }
+    ensures { IsEndOf S.tells S.outcome options.now (S.world site.old) (S.world site.new) result.0.outcome }
 {
-    match try_build(alloc, site, given, options) {
-        Ok(ended) => ended,
-        Err(report) => Ended::by(Outcome::Built(report)),
+    let mut left = None;
+    match try_build(alloc, site, given, options, &mut left) {
+        Ok(ended) => (ended, left),
+        Err(report) => (Ended::by(Outcome::Built(report)), left),
     }
 }
 
@@ -118,12 +120,15 @@ fn try_build<S: Place>(
     site: &mut S,
     given: &Given<'_>,
     options: &Options,
+    left: &mut Option<Declared>,
 ) -> Result<Ended, Report>
     requires { IsIdle (S.world site.old).events }
     ensures { IsEndOf S.tells S.outcome options.now (S.world site.old) (S.world site.new) (end_in result) }
 {
     let mut declared = read_alone(alloc, site, options.file.as_str())?;
-    build_declared(alloc, site, given, options, &mut declared)
+    let ended = build_declared(alloc, site, given, options, &mut declared);
+    *left = Some(declared);
+    ended
 }
 
 /// Builds what was read, once generators had their turn.
