@@ -112,9 +112,9 @@ fn audit_here<W: Write>(
         noted.look(asked.verbose),
         pattern.unwrap_or(Pattern::DEFAULT),
     );
-    let (report, graph) = build_on(alloc, &mut host, asked, pattern, noted);
+    let (report, left) = build_on(alloc, &mut host, asked, pattern, noted);
     // what is looked at is read anew
-    drop(graph);
+    drop(left);
     host.finish_screen();
     recall(&mut host, asked.keep, &report);
     noted.waited(host.wait_for_clock());

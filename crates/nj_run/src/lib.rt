@@ -17,7 +17,7 @@ mod traces;
 mod whys;
 mod words_laws;
 
-pub use alone::{Alone, build_alone, explain_alone};
+pub use alone::{Alone, Left, build_alone, explain_alone};
 pub use command::options;
 pub use given::Options;
 pub use noted::Noted;

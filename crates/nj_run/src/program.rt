@@ -10,14 +10,13 @@ ghost use Rattle.nj_run.specs.Alone.{BuildsAlone};
 ghost use Rattle.nj_run.specs.Asked.{AreHandedOn, pattern_text};
 ghost use Rattle.nj_run.specs.Ends.{Comes, Ends, EndsFor, EndsNoted, EndsWell};
 
-use crate::alone::{Alone, build_alone, explain_alone};
+use crate::alone::{Alone, Left, build_alone, explain_alone};
 use crate::audited::audit_asked;
 use crate::command::options;
 use crate::given::Options as Asked;
 use crate::noted::Noted;
 use crate::{told, whys};
 use builder::{Explained, Options, Report};
-use graph::Graph;
 use host::{Host, Trouble};
 use site::SiteFault;
 use status::Pattern;
@@ -181,22 +180,22 @@ fn build_here<W: Write>(
         noted.look(asked.verbose),
         pattern.unwrap_or(Pattern::DEFAULT),
     );
-    let (report, graph) = build_on(alloc, &mut host, asked, pattern, noted);
+    let (report, left) = build_on(alloc, &mut host, asked, pattern, noted);
     host.finish_screen();
     recall(&mut host, asked.keep, &report);
-    leave(graph, noted.may_read(&report));
+    leave(left, noted.may_read(&report));
     // where the clock stands still for seconds there is nothing more to do about it but to say so
     noted.waited(host.wait_for_clock());
     noted.built(&mut host, asked.file, &report);
     (report, host.into_trouble())
 }
 
-/// The graph of the build has served. Where no build file is read any more the program ends right after this, and then all goes at once.
-fn leave(graph: Option<Graph>, may_read: bool) {
+/// What is left of the build has served. Where no build file is read any more the program ends right after this, and then all goes at once.
+fn leave(left: Option<Left>, may_read: bool) {
     if may_read {
-        drop(graph);
+        drop(left);
     } else {
-        forget(graph);
+        forget(left);
     }
 }
 
@@ -213,14 +212,14 @@ pub(crate) fn recall<W: Write>(host: &mut Host<'_, W>, keep: u32, report: &Repor
 }
 
 /// Builds what is asked for on a site, whatever folder is asked for, once nobody else is at work there. Where no pattern is given,
-/// lines have the default one. The graph comes with the report, if there is one.
+/// lines have the default one. What is left of the build comes with the report, if there was a graph.
 pub fn build_on<S: Alone>(
     alloc: Global,
     site: &mut S,
     asked: &Asked<'_>,
     pattern: Option<&str>,
     noted: &mut Noted<'_>,
-) -> (Report, Option<Graph>)
+) -> (Report, Option<Left>)
     requires idle { IsIdle (S.world site.old).events }
     ensures { BuildsAlone S.tells S.outcome asked.now (S.world site.old) (S.world site.new) result.0 }
 {
