@@ -13,6 +13,7 @@ use dyndep_law::has_reading as has_dyndeps;
 use host::Host;
 use log_text::has_format;
 use paths::Manifest;
+use seen::{Measured, Seen};
 use site::Site;
 use std::alloc::Global;
 use std::io::Write;
@@ -60,6 +61,23 @@ impl<'a, W: Write> Alone for Host<'a, W> {
     }
 }
 
+impl<S: Alone + Measured> Alone for Seen<S> {
+    #[tactic(auto, using(crate::proofs::Passing::passes_untold))]
+    fn enter(&mut self) {
+        self.site.enter();
+    }
+
+    #[tactic(auto, using(crate::proofs::Passing::passes_untold))]
+    fn has_waited(&mut self, folder: &str) -> bool {
+        self.site.has_waited(folder)
+    }
+
+    fn learn(&mut self, alloc: Global, manifest: &Manifest, verbose: bool) {
+        self.know(manifest);
+        self.site.learn(alloc, manifest, verbose);
+    }
+}
+
 /// Builds the targets once nobody else is at work in the folder, as [`builder::build`] does: what it reads is what is there by then, and
 /// what may help whoever watches is noted of that.
 pub fn build_alone<S: Alone>(
@@ -97,6 +115,7 @@ pub fn explain_alone<S: Alone>(
     ensures { OnlyLooks S.tells (S.world site.old) (S.world site.new) }
 {
     let reading = read_alone(alloc, site, options, targets)?;
+    site.learn(alloc, &reading.manifest, options.verbose);
     explain_read(alloc, site, reading, options)
 }
 
