@@ -3,7 +3,9 @@
 ghost use Rattle.std.specs.Prelude.{◌≡◌, ◌<◌, length};
 ghost use Rattle.model.specs.Graph.{has};
 
+use bumpalo::Bump;
 use paths::{Action, Manifest, Paths};
+use seen_log::arena;
 use std::alloc::{AllocError, Global};
 
 /// What commands make: texts that are listed alone, which go into the table once one is looked for. Where nothing changed since the last
@@ -11,7 +13,7 @@ use std::alloc::{AllocError, Global};
 #[derive(Drop)]
 pub struct Outputs {
     pub table: Paths,
-    pub listed: Vec<String>,
+    pub listed: Vec<String<&'static Bump>>,
 }
 
 impl Outputs {
@@ -26,11 +28,12 @@ impl Outputs {
         }
     }
 
-    /// The outputs of the edges with commands, which take memory for each text.
+    /// The outputs of the edges with commands, whose texts take memory until the program ends.
     pub fn of(alloc: Global, manifest: &Manifest) -> Result<Outputs, AllocError> {
+        let arena = arena(alloc)?;
         let mut listed = Vec::new(alloc);
         for place in 0..manifest.lines.len() {
-            list_outputs(alloc, manifest, place, &mut listed)?;
+            list_outputs(arena, manifest, place, &mut listed)?;
         }
         Ok(Outputs {
             table: Paths::new(alloc),
@@ -74,10 +77,10 @@ pub fn is_in(paths: &Paths, path: &str) -> bool
 
 /// Lists the outputs of the edge at this place, if it has a command.
 fn list_outputs(
-    alloc: Global,
+    arena: &'static Bump,
     manifest: &Manifest,
     place: usize,
-    listed: &mut Vec<String>,
+    listed: &mut Vec<String<&'static Bump>>,
 ) -> Result<(), AllocError>
     requires { place < length manifest.now.lines }
 {
@@ -87,7 +90,7 @@ fn list_outputs(
     }
     for output in manifest.lines.outputs(edge) {
         if let Some(text) = manifest.paths.get(*output) {
-            listed.push(String::from_str(alloc, text)?)?;
+            listed.push(String::from_str(arena, text)?)?;
         }
     }
     Ok(())

@@ -7,6 +7,8 @@ ghost use Rattle.seen_log.specs.Log.{IsLog, counts_of, greatest_of, noted_in_for
 
 use crate::note::{Kind, Last, Note, Noted};
 use crate::record::{note_line, plain_by, said_by};
+use crate::room::arena;
+use bumpalo::Bump;
 use indexmap::IndexMap;
 use log_text::{Field, Records, Tail, Version, parts_are_decided};
 use std::alloc::{AllocError, Global};
@@ -14,7 +16,9 @@ use std::alloc::{AllocError, Global};
 /// What is noted of each path, which is kept once.
 #[derive(Drop)]
 pub struct Log {
-    pub last: IndexMap<String, Last>,
+    pub last: IndexMap<String<&'static Bump>, Last>,
+    /// Where the texts of the paths are, once there are some.
+    arena: Option<&'static Bump>,
     /// How many records there were.
     pub records: usize,
     /// What the number of a build is to pass.
@@ -44,6 +48,7 @@ impl Records for Log {
     fn new(alloc: Global) -> Log {
         Log {
             last: IndexMap::new(alloc),
+            arena: None,
             records: 0,
             greatest: 0,
         }
@@ -131,13 +136,34 @@ impl Log {
         ensures ok { OnOk result (KeepsAlso Keeps (noting path.now noted) self.old self.new) }
         ensures err { OnErr result (KeepsSame Keeps self.old self.new) }
     {
+        let arena = self.arena(alloc)?;
+        self.note_in(arena, path, noted)
+    }
+
+    /// The same, of a path whose text is to be there.
+    fn note_in(&mut self, arena: &'static Bump, path: &str, noted: Noted) -> Result<(), AllocError>
+        ensures ok { OnOk result (KeepsAlso Keeps (noting path.now noted) self.old self.new) }
+        ensures err { OnErr result (KeepsSame Keeps self.old self.new) }
+    {
         let place = self.records;
         let records = place.checked_add(1).ok_or(AllocError)?;
-        let key = String::from_str(alloc, path)?;
+        let key = String::from_str(arena, path)?;
         self.last.insert(key, Last { place, noted })?;
         self.records = records;
         self.greatest = self.greatest.max(to_pass(noted));
         Ok(())
+    }
+
+    /// Where the texts of the paths are.
+    fn arena(&mut self, alloc: Global) -> Result<&'static Bump, AllocError>
+        ensures { KeepsSame Keeps self.old self.new }
+    {
+        if let Some(arena) = self.arena {
+            return Ok(arena);
+        }
+        let arena = arena(alloc)?;
+        self.arena = Some(arena);
+        Ok(arena)
     }
 
     /// What is in force for a path, and the place of its record among all. It takes no memory.

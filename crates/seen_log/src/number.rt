@@ -1,6 +1,6 @@
 //! Numbers in the head of a record, read digit by digit: neither is their tab searched for, nor are they held as texts.
 
-ghost use Rattle.std.specs.Prelude.{◌≡◌, ◌<◌, ◌^◌, ◌+◌, ◌∷◌, [], ◌++◌, IfSome, decimal};
+ghost use Rattle.std.specs.Prelude.{◌≡◌, ◌<◌, ◌^◌, ◌+◌, ◌*◌, ◌∷◌, [], ◌++◌, IfSome, decimal};
 ghost use Rattle.std.specs.Str.{IsUtf8};
 ghost use Rattle.text.specs.Marks.{Lacks};
 ghost use Rattle.log_text.specs.Line.{field_and_tab};
@@ -18,7 +18,8 @@ pub(crate) fn number_in(bytes: &[u8]) -> Option<(u64, &[u8])>
     Some((number, after))
 }
 
-/// The number whose digits stand in front, and what stands behind the last of them.
+/// The number whose digits stand in front, and what stands behind the last of them. Most have a digit, or nineteen: so those behind the first
+/// are taken eight at a time, twice, as long as no number can be too large.
 fn decimal_in(bytes: &[u8]) -> Option<(u64, &[u8])>
     ensures digits { IfSome result (λ parts. bytes.now ≡ decimal parts.0 ++ parts.1.now) }
     ensures low { IfSome result (λ parts. parts.0 < 2 ^ 64) }
@@ -27,13 +28,87 @@ fn decimal_in(bytes: &[u8]) -> Option<(u64, &[u8])>
     if first == 0 {
         return Some((0, after));
     }
-    let mut number = first;
+    let (nine, after) = eight_more(first, after);
+    let (more, after) = eight_more(nine, after);
+    let mut number = more;
     let mut rest = after;
     'digits: while let Some((digit, after)) = digit_in(rest) {
         number = with_digit(number, digit)?;
         rest = after;
     }
     Some((number, rest))
+}
+
+/// The number whose digits are those of this one, which is not 0, and the eight in front, and what stands behind them; where no eight stand
+/// there, the same number and bytes.
+#[inline(always)]
+fn eight_more(number: u64, bytes: &[u8]) -> (u64, &[u8])
+    requires some { 0 < number }
+    requires few { number < 10000000000 }
+    ensures digits { decimal number ++ bytes.now ≡ decimal result.0 ++ result.1.now }
+    ensures some { 0 < result.0 }
+    ensures few { result.0 < (number + 1) * 100000000 }
+{
+    match eight_in(number, bytes) {
+        Some(more) => more,
+        None => (number, bytes),
+    }
+}
+
+/// The same, if eight digits stand in front.
+#[inline(always)]
+fn eight_in(number: u64, bytes: &[u8]) -> Option<(u64, &[u8])>
+    requires some { 0 < number }
+    requires few { number < 10000000000 }
+    ensures digits { IfSome result (λ more. decimal number ++ bytes.now ≡ decimal more.0 ++ more.1.now) }
+    ensures some { IfSome result (λ more. 0 < more.0) }
+    ensures few { IfSome result (λ more. more.0 < (number + 1) * 100000000) }
+{
+    let [a, b, c, d, e, f, g, h, after @ ..] = bytes else {
+        return None;
+    };
+    let four = four_more(number, *a, *b, *c, *d)?;
+    let eight = four_more(four, *e, *f, *g, *h)?;
+    Some((eight, after))
+}
+
+/// The number whose digits are those of this one, which is not 0, and these four, if they are digits.
+#[inline(always)]
+fn four_more(number: u64, a: u8, b: u8, c: u8, d: u8) -> Option<u64>
+    requires some { 0 < number }
+    requires few { number < 100000000000000 }
+    ensures digits { IfSome result (λ more. decimal more ≡ decimal number ++ a ∷ b ∷ c ∷ d ∷ []) }
+    ensures some { IfSome result (λ more. 0 < more) }
+    ensures few { IfSome result (λ more. more < (number + 1) * 10000) }
+{
+    let one = and_digit(number, digit_of(a)?);
+    let two = and_digit(one, digit_of(b)?);
+    let three = and_digit(two, digit_of(c)?);
+    Some(and_digit(three, digit_of(d)?))
+}
+
+/// The digit that a byte is.
+#[inline(always)]
+fn digit_of(byte: u8) -> Option<u64>
+    ensures digit { IfSome result (λ digit. byte ≡ 48 + digit) }
+    ensures low { IfSome result (λ digit. digit < 10) }
+{
+    if byte < b'0' || b'9' < byte {
+        return None;
+    }
+    Some(u64::from(byte - b'0'))
+}
+
+/// The number whose last digit is this one and whose others are those of a number that is not 0, and has few.
+#[inline(always)]
+fn and_digit(number: u64, digit: u64) -> u64
+    requires some { 0 < number }
+    requires few { number < 100000000000000000 }
+    requires low { digit < 10 }
+    ensures digits { decimal result ≡ decimal number ++ (48 + digit) ∷ [] }
+    ensures is { result ≡ number * 10 + digit }
+{
+    number * 10 + digit
 }
 
 /// The number whose last digit is this one and whose others are those of a number that is not 0, if it is below 2 to the 64.
@@ -50,15 +125,14 @@ fn with_digit(number: u64, digit: u64) -> Option<u64>
 }
 
 /// The digit in front, and what stands behind it.
+#[inline(always)]
 fn digit_in(bytes: &[u8]) -> Option<(u64, &[u8])>
     ensures digit { IfSome result (λ parts. bytes.now ≡ (48 + parts.0) ∷ parts.1.now) }
     ensures low { IfSome result (λ parts. parts.0 < 10) }
 {
     let (first, after) = bytes.split_first()?;
-    if *first < b'0' || b'9' < *first {
-        return None;
-    }
-    Some((u64::from(*first - b'0'), after))
+    let digit = digit_of(*first)?;
+    Some((digit, after))
 }
 
 /// What stands behind a tab in front.

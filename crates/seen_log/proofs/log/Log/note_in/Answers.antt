@@ -6,7 +6,7 @@ use Rattle.seen_log.specs.Record.{noting}
 use Rattle.seen_log.specs.Log.{put_note}
 use Rattle.seen_log.specs.Keeping.{entry_note}
 use Rattle.seen_log.proofs.Keeping.{keeps_more, entries_more}
-use Rattle.seen_log.proofs.log.Log.note.Goals as goal
+use Rattle.seen_log.proofs.log.Log.note_in.Goals as goal
 
 pub returns-clause-ok : goal.returns-clause-ok
 returns-clause-ok c = λ records keeps.
@@ -14,7 +14,7 @@ returns-clause-ok c = λ records keeps.
     let here : Last = record { place = old.records; noted = c.args.noted } in
     let counted = rw c.in_ok-records.ensures.ok_part at c.checked_add.ensures in
     let count : c.in_ok-records.records ≡ old.records + 1 = counted.1 in
-    let new : Log = record { last = c.insert.new.self; records = c.in_ok-records.records; greatest = c.max-self.result } in
+    let new : Log = record { last = c.insert.new.self; arena = old.arena; records = c.in_ok-records.records; greatest = c.max-self.result } in
     keeps_more records (noting c.args.path.now c.args.noted) old new
     (record {
       last = λ path. rw c.in_ok-key.ensures.ok at (hash_map_updates_text (string_bytes c.in_ok-key.key) old.last c.insert.new.self _ c.in_ok-insert.ensures.updates path);
