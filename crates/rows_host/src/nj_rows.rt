@@ -132,12 +132,14 @@ impl<'a> Rows<'a> {
             let around = Around {
                 heading: Some(heading.as_str()),
                 output: Output::Plain,
+                trusts_stamps: false,
             };
             return push_ran(&stand_in_run_of(&self.folder, around, words)?, told);
         }
         let around = Around {
             heading: None,
             output: output_of(first),
+            trusts_stamps: false,
         };
         let ran = stand_in_run_of(&self.folder, around, rest)?;
         if first == "status_ninja" {
