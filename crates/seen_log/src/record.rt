@@ -2,14 +2,16 @@
 
 ghost use Rattle.std.specs.Prelude.{◌≡◌, ◌∷◌, [], ◌++◌, IfSome, IfNone, OnOk};
 ghost use Rattle.text.specs.Marks.{Lacks};
-ghost use Rattle.log_text.specs.Line.{AreTexts, fields_text};
+ghost use Rattle.log_text.specs.Line.{AreTexts, field_and_tab, fields_text};
 ghost use Rattle.seen_log.specs.Record.{AreNoted, AreNotNoted, IsLineOfNote, IsLow, IsNoKind, IsNoRecord, Tell, letter, noted_fields, noting};
 ghost use Rattle.seen_log.specs.Log.{Notes};
 
 use crate::note::{Kind, Noted, Numbers};
 use crate::number::number_in;
-use log_text::{Field, end_line, number_of, plain_field, push_number, push_text, without_dot};
+use log_text::{Field, end_line, number_of, push_number, push_text, without_dot};
+use memchr::memchr2;
 use std::alloc::AllocError;
+use std::str::from_utf8;
 
 /// What the record of these fields says, if they are one's: the path, and what is noted of it.
 pub(crate) fn said_by<'f>(fields: &'f [Field<'_>]) -> Option<(&'f str, Noted)>
@@ -84,7 +86,7 @@ pub(crate) fn plain_by(line: &[u8]) -> Option<(&str, Noted)>
 {
     let front = without_dot(line)?;
     let (kind, named) = kind_in(front)?;
-    let (path, told) = plain_field(named)?;
+    let (path, told) = path_in(named)?;
     let (stamp, sized) = number_in(told)?;
     let (size, numbered) = number_in(sized)?;
     let (number, rest) = number_in(numbered)?;
@@ -100,6 +102,32 @@ pub(crate) fn plain_by(line: &[u8]) -> Option<(&str, Noted)>
             number,
         },
     ))
+}
+
+/// The text of the field in front, and what stands behind its tab, where no byte of the text is written as two.
+fn path_in(bytes: &[u8]) -> Option<(&str, &[u8])>
+    requires { Lacks 10 bytes.now }
+    ensures found { IfSome result (λ parts. bytes.now ≡ field_and_tab parts.0.now ++ parts.1.now) }
+    ensures line_feed { IfSome result (λ parts. Lacks 10 parts.1.now) }
+{
+    let (field, after) = front_in(bytes)?;
+    match from_utf8(field) {
+        Ok(text) => Some((text, after)),
+        Err(_) => None,
+    }
+}
+
+/// What stands before the first tab, if no backslash does, and what stands behind it.
+fn front_in(bytes: &[u8]) -> Option<(&[u8], &[u8])>
+    ensures found { IfSome result (λ parts. bytes.now ≡ parts.0.now ++ 9 ∷ parts.1.now) }
+    ensures tab { IfSome result (λ parts. Lacks 9 parts.0.now) }
+    ensures backslash { IfSome result (λ parts. Lacks 92 parts.0.now) }
+{
+    let place = memchr2(b'\t', b'\\', bytes)?;
+    if bytes[place] != b'\t' {
+        return None;
+    }
+    Some((&bytes[..place], &bytes[place + 1..]))
 }
 
 /// The kind whose letter stands in front, with a tab, and what stands behind.
