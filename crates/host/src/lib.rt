@@ -12,6 +12,7 @@ mod host;
 mod jobs;
 mod load;
 mod logs;
+mod measured;
 mod number;
 mod process;
 mod rests;

@@ -19,6 +19,7 @@ use graph::Graph;
 use host::Host;
 use log_text::has_format;
 use paths::Manifest;
+use seen::{Measured, Seen};
 use site::Site;
 use std::alloc::Global;
 use std::io::Write;
@@ -71,6 +72,23 @@ impl<'a, W: Write> Alone for Host<'a, W> {
         if let Ok(names) = names(alloc, manifest, verbose) {
             self.take_names(names);
         }
+    }
+}
+
+impl<S: Alone + Measured> Alone for Seen<S> {
+    #[tactic(auto, using(crate::proofs::Passing::passes_untold))]
+    fn enter(&mut self) {
+        self.site.enter();
+    }
+
+    #[tactic(auto, using(crate::proofs::Passing::passes_untold))]
+    fn has_waited(&mut self, folder: &str) -> bool {
+        self.site.has_waited(folder)
+    }
+
+    fn learn(&mut self, alloc: Global, manifest: &Manifest, verbose: bool) {
+        self.know(manifest);
+        self.site.learn(alloc, manifest, verbose);
     }
 }
 
@@ -133,6 +151,7 @@ pub fn explain_alone<S: Alone>(
     ensures { OnlyLooks S.tells (S.world site.old) (S.world site.new) }
 {
     let reading = read_alone(alloc, site, options, targets)?;
+    site.learn(alloc, &reading.manifest, options.verbose);
     explain_read(alloc, site, reading, options)
 }
 

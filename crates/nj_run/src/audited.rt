@@ -10,10 +10,11 @@ ghost use Rattle.nj_run.specs.Judged.{Found, TellsFound, Unjudged, counts_told, 
 ghost use Rattle.nj_run.specs.Texts.{Adds, no_tracer};
 ghost use Rattle.nj_run.specs.Traces.{IsTracePath};
 
+use crate::environment::Environment;
 use crate::given::Options as Asked;
 use crate::looked::look;
 use crate::noted::Noted;
-use crate::program::{build_on, build_options, recall};
+use crate::program::{build_options, build_over, recall};
 use crate::told;
 use crate::tracer::tracer;
 use crate::traces::named_trace;
@@ -39,7 +40,7 @@ struct Audited {
 /// as far as the trace shows; else 1.
 pub fn audit_asked<W: Write, E: Write>(
     asked: &Asked<'_>,
-    pattern: Option<&str>,
+    environment: Environment<'_>,
     out: &mut W,
     err: &mut E,
     noted: &mut Noted<'_>,
@@ -52,11 +53,11 @@ pub fn audit_asked<W: Write, E: Write>(
     let Some(program) = tracer(noted.rt()) else {
         return untraced(err);
     };
-    let named = named_here(asked, pattern, out, noted)?;
+    let named = named_here(asked, environment.pattern, out, noted)?;
     if let Some(path) = named {
         return told::traced_over(path.as_str(), err);
     }
-    let audited = audit_here(asked, pattern, program, out, noted)?;
+    let audited = audit_here(asked, environment, program, out, noted)?;
     tell_all(noted.rt().alloc(), &audited, asked.audit_all, out, err)
 }
 
@@ -96,7 +97,7 @@ fn named_here<W: Write>(
 /// Builds in the working folder with each command traced by this program, and looks at the traces.
 fn audit_here<W: Write>(
     asked: &Asked<'_>,
-    pattern: Option<&str>,
+    environment: Environment<'_>,
     program: String,
     out: &mut W,
     noted: &mut Noted<'_>,
@@ -106,13 +107,13 @@ fn audit_here<W: Write>(
     let rt = noted.rt();
     let alloc = rt.alloc();
     let folder = env::current_dir(rt)?;
-    let (options, targets) = build_options(alloc, asked, pattern)?;
+    let (options, targets) = build_options(alloc, asked, environment.pattern)?;
     let mut host = traced_host(rt, program, out);
     host.draw(
         noted.look(asked.verbose),
-        pattern.unwrap_or(Pattern::DEFAULT),
+        environment.pattern.unwrap_or(Pattern::DEFAULT),
     );
-    let (report, left) = build_on(alloc, &mut host, asked, pattern, noted);
+    let (report, left, mut host) = build_over(alloc, host, asked, environment, noted);
     // what is looked at is read anew
     drop(left);
     host.finish_screen();

@@ -5,6 +5,7 @@ mod alone;
 mod anew;
 mod audited;
 mod command;
+mod environment;
 mod given;
 mod looked;
 mod named;
@@ -19,6 +20,7 @@ mod words_laws;
 
 pub use alone::{Alone, Left, build_alone, explain_alone};
 pub use command::options;
+pub use environment::Environment;
 pub use given::Options;
 pub use noted::Noted;
 pub use program::{build_on, explain_on, run, run_watched};
