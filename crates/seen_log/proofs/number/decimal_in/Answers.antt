@@ -9,7 +9,7 @@ returns-then-first-eq0-clause-digits c =
 
 pub digits-init : goal.digits-init
 digits-init c = record {
-  read = first_digit c.args.bytes.now c.in_ok-first.first c.in_ok-first.after.now c.in_ok-first.ensures.digit c.in_ok-first.ensures.low ∙ c.eights_in.ensures.digits;
-  some = c.eights_in.ensures.some;
-  low = c.eights_in.ensures.low;
+  read = first_digit c.args.bytes.now c.in_ok-first.first c.in_ok-first.after.now c.in_ok-first.ensures.digit c.in_ok-first.ensures.low ∙ c.eights_in-more.ensures.digits;
+  some = c.eights_in-more.ensures.some;
+  low = c.eights_in-more.ensures.low;
 }
