@@ -29,8 +29,8 @@ pub struct Round {
 
 /// Waits until one of the commands has ended, and answers its place. They are asked in turn, with rests that grow with the time waited.
 /// Each round goes on where the one before stopped, so that no command is asked more often than another. Up to 64 are asked in each round,
-/// and at once; of more 256 in each, from one wait to the next, with rests in proportion. The screen is told of each rest. Where
-/// so few run, a rest ends as it was asked for, and not later by what the system lets a usual one (`Slack`).
+/// and at once; of more 256 in each, from one wait to the next, with rests in proportion. The screen is told of each rest. Where up
+/// to 64 run, a rest ends as it was asked for, and not later by what the system lets a usual one (`Slack`).
 pub fn wait_first<W: Write>(
     rt: &HostRuntime,
     commands: &mut Vec<Running>,
