@@ -9,8 +9,8 @@ use Rattle.builder.specs.Parts.{IsReportOfNoGraph}
 use Rattle.nj_run.proofs.alone.build_leaving.Goals as goal
 
 -- where the edges make no graph, that is the report whatever is asked for
-pub returns-in-Err : goal.returns-in-Err
-returns-in-Err g c =
+pub returns : goal.returns-in-Err
+returns g c =
     let graph = graph_of c.args.reading.manifest in
     let asked = c.args.reading.asked in
     let always = subst (λ (f : List ℕ). IsReportOfNoGraph f c.args.reading.manifest c.in-Err.report) c.as_str.ensures c.in-Err.ensures.refused in (
