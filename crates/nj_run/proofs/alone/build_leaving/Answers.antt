@@ -9,7 +9,7 @@ use Rattle.builder.specs.Parts.{IsReportOfNoGraph}
 use Rattle.nj_run.proofs.alone.build_leaving.Goals as goal
 
 -- where the edges make no graph, that is the report whatever is asked for
-pub returns : goal.returns-in-Err
+pub returns : goal.returns
 returns g c =
     let graph = graph_of c.args.reading.manifest in
     let asked = c.args.reading.asked in
