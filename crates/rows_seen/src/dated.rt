@@ -35,12 +35,13 @@ pub struct Dated<'a> {
     lost: bool,
 }
 
-/// A file of this content at the path has this stamp.
+/// A file of this content at the path has this stamp, or that of its write where it is none. What is put there once more has another one than
+/// before: of what is changed and put back with its stamp, between two looks, nothing can be seen.
 #[derive(Drop)]
 struct Date {
     path: String,
     content: Bytes,
-    stamp: u64,
+    stamp: Option<u64>,
 }
 
 impl<'a> Dated<'a> {
@@ -121,18 +122,25 @@ impl<'a> Dated<'a> {
         ensures { OnlyFiles (world_of self.old.site) (world_of self.new.site) }
     {
         put(&mut self.site, path, content)?;
-        if self.random.one_in(2) {
-            return Ok(());
-        }
-        self.date(path, content)
+        let stamp = self.next_stamp();
+        self.date(path, content, stamp)
     }
 
-    /// The file that stands at the path has an old stamp.
-    fn date(&mut self, path: &str, content: &[u8]) -> Result<(), AllocError>
+    /// An old stamp, or none where the next write is to have its own.
+    fn next_stamp(&mut self) -> Option<u64>
         ensures { self.new.site ≡ self.old.site }
     {
+        if self.random.one_in(2) {
+            return None;
+        }
         self.given = self.given.wrapping_add(1);
-        let stamp = old_stamp(self.given);
+        Some(old_stamp(self.given))
+    }
+
+    /// The file that stands at the path has this stamp, or that of its write.
+    fn date(&mut self, path: &str, content: &[u8], stamp: Option<u64>) -> Result<(), AllocError>
+        ensures { self.new.site ≡ self.old.site }
+    {
         let path = String::from_str(self.alloc, path)?;
         let content = Bytes::from_slice(self.alloc, content)?;
         self.dates.push(Date {
@@ -211,7 +219,7 @@ impl<'a> Dated<'a> {
         let mut stamp = placed;
         for date in &self.dates {
             if date.path.as_str() == path && date.content.as_slice() == content {
-                stamp = date.stamp;
+                stamp = date.stamp.unwrap_or(placed);
             }
         }
         stamp
