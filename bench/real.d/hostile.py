@@ -211,7 +211,7 @@ def logs_of_other_kinds(place):
         case.is_right(ran, f"the log holds {held[:12]}")
         place.expect(len(ran.commands) == 4, case.where, f"a log without records runs all: {ran.commands}")
         case.rests()
-    for held in (b"", b"nj-seen 2", b"\0" * 4096, b"nj-seen 9\n", b"nj-log 2\n", b"nj-seen 2\ns\t1\t1\t0\tin/s2\nx\n"):
+    for held in (b"", b"nj-seen 2", b"\0" * 4096, b"nj-seen 9\n", b"nj-log 2\n", b"nj-seen 2\ns\tin/s2\t1\t1\t0\t.\nx\n"):
         with open(os.path.join(case.folder, ".nj_seen"), "wb") as it:
             it.write(held)
         case.put(1, f"noted {len(held)}\n")
