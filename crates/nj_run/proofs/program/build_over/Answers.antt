@@ -2,7 +2,7 @@ use Rattle.std.proofs.Common.{ap}
 use Rattle.nj_run.proofs.Passing.{builds_from, idle_at}
 use Rattle.nj_run.proofs.program.build_over.Goals as goal
 
-pub build_on-report-requires : goal.build_on-report-requires-clause-idle
+pub build_on-report-requires : goal.build_on-report-requires
 build_on-report-requires g c = idle_at _ _ (ap g.S.Texts.world c.new-seen.ensures) c.requires.idle
 
 pub returns : goal.returns
