@@ -5,6 +5,8 @@ import collections
 import glob
 import os
 import re
+import resource
+import shutil
 import subprocess
 import tempfile
 import time
@@ -46,17 +48,24 @@ KNOWN = [
 ]
 
 
-# A tree of Debian's: its name, the archive, how it is made ready, and what that needs. Beside it stand the names that made trees have.
+# A tree of Debian's: its name, its archive or the folder where a package puts it, how it is made ready, and what that needs. Beside it stand the
+# names that made trees have.
 Source = collections.namedtuple("Source", "name archive prepares wants build words", defaults=("build", ()))
+
+PACKAGES = ("libjsoncpp-dev", "libfribidi-dev")
 
 SOURCES = [
     Source("jsoncpp", "libjsoncpp_*.orig.tar.*", [["cmake", "-G", "Ninja", "-B", "build"]], ("cmake", "g++")),
     Source("fribidi", "fribidi_*.orig.tar.*", [["meson", "setup", "build"]], ("meson", "gcc")),
+    Source("googletest", "/usr/src/googletest", [["cmake", "-G", "Ninja", "-B", "build"]], ("cmake", "g++")),
 ]
 
 
 def filled(project, folder):
     """Puts the files of a project into a folder."""
+    if isinstance(project, Source) and os.path.isdir(project.archive):
+        shutil.copytree(project.archive, folder, symlinks=True)
+        return
     if isinstance(project, Source):
         os.makedirs(folder)
         subprocess.run(["tar", "-xf", project.archive, "--strip-components=1", "-C", folder], check=True)
@@ -77,50 +86,74 @@ def prepared(project, folder):
                for words in project.prepares)
 
 
+# What a build printed, how many seconds it took, and how many of a processor with all that it started.
+Timed = collections.namedtuple("Timed", "text wall busy")
+
+
 def timed(nj, project, folder, *words):
-    """What nj prints of the project, and how many seconds it takes."""
-    begun = time.monotonic()
-    done = subprocess.run([nj, "-C", project.build, *project.words, "-k0", *words], cwd=folder, stdin=subprocess.DEVNULL, stdout=subprocess.PIPE,
-                          stderr=subprocess.STDOUT, text=True, timeout=LONGEST, check=False)
-    return done.stdout, time.monotonic() - begun
+    """What nj does with the project. No cache answers in the place of a compiler."""
+    before, begun = resource.getrusage(resource.RUSAGE_CHILDREN), time.monotonic()
+    done = subprocess.run([nj, "-C", project.build, *project.words, "-k0", *words], cwd=folder, env={**os.environ, "CCACHE_DISABLE": "1"},
+                          stdin=subprocess.DEVNULL, stdout=subprocess.PIPE, stderr=subprocess.STDOUT, text=True, timeout=LONGEST, check=False)
+    after = resource.getrusage(resource.RUSAGE_CHILDREN)
+    return Timed(done.stdout, time.monotonic() - begun, after.ru_utime + after.ru_stime - before.ru_utime - before.ru_stime)
 
 
-def wrong_in_tree(nj, project):
+def why_known(project, line):
+    """Why a line is known of such a tree, if it is."""
+    return next((why for name, pattern, why in KNOWN if project.name.startswith(name) and re.fullmatch(pattern, line)), None)
+
+
+def wrong_in_tree(nj, project, is_listed=False):
     """What is wrong with a tree: lines that are not known, and commands that were not looked at."""
     with tempfile.TemporaryDirectory() as place:
-        folders = [os.path.join(os.path.realpath(place), name) for name in ("built", "audited")]
+        place = os.path.realpath(place)
+        folders = [os.path.join(place, name) for name in ("built", "audited")]
         if not all(prepared(project, folder) for folder in folders):
             yield "could not be made ready"
             return
-        _, plain = timed(nj, project, folders[0])
-        text, traced = timed(nj, project, folders[1], "--audit")
-    end = next((end for end in map(END.fullmatch, text.splitlines()) if end), None)
+        plain = timed(nj, project, folders[0])
+        traced = timed(nj, project, folders[1], "--audit")
+    end = next((end for end in map(END.fullmatch, traced.text.splitlines()) if end), None)
     if not end:
-        yield f"no last line: {text!r}"
+        yield f"no last line: {traced.text!r}"
         return
-    told = [line for line in text.splitlines() if re.match(r"\S+: (reads|lists|writes|removes|did not write|takes|its trace)", line)]
+    told = [line for line in traced.text.splitlines() if re.match(r"\S+: (reads|lists|writes|removes|did not write|takes|its trace)", line)]
     for line in told:
-        if not any(project.name.startswith(name) and re.fullmatch(pattern, line) for name, pattern, _ in KNOWN):
+        why = why_known(project, line)
+        if not why:
             yield f"not known: {line}"
+        elif is_listed:
+            print(f"    {line.replace(place, '')}\n        {why}")
     if end.group(1) != end.group(2):
         yield f"looked at {end.group(1)} of {end.group(2)}"
-    print(f"{project.name}: {end.group(1)} commands, {end.group(3)} keep all premises, {len(told)} lines; built in {plain:.1f} s, "
-          f"audited in {traced:.1f} s", flush=True)
+    print(f"{project.name}: {end.group(1)} commands, {end.group(3)} keep all premises, {len(told)} lines; built in {plain.wall:.1f} s, "
+          f"audited in {traced.wall:.1f} s ({traced.wall / plain.wall:.2f}); processor {plain.busy:.1f} s, {traced.busy:.1f} s "
+          f"({traced.busy / plain.busy:.2f})", flush=True)
+
+
+def fetched(folder):
+    """Whether apt-get puts the archives of Debian's trees into a folder, by the lists of sources that are there."""
+    done = subprocess.run(["apt-get", "source", "--download-only", *PACKAGES], cwd=folder, stdin=subprocess.DEVNULL, stdout=subprocess.PIPE,
+                          stderr=subprocess.STDOUT, text=True, timeout=LONGEST, check=False)
+    if done.returncode:
+        print(f"apt-get source {' '.join(PACKAGES)}: {done.stdout.strip().splitlines()[-1:]}")
+    return done.returncode == 0
 
 
 def sources_in(folder):
-    """Debian's trees whose archives stand in a folder."""
+    """Debian's trees whose archives stand in a folder, and those that packages have put in a place of their own."""
     for source in SOURCES:
         found = sorted(glob.glob(os.path.join(os.path.realpath(folder), source.archive)))
         if found:
             yield source._replace(archive=found[-1])
         else:
-            print(f"{source.name}: left out, there is no {source.archive} in {folder}")
+            print(f"{source.name}: left out, there is no {source.archive}" + ("" if source.archive.startswith("/") else f" in {folder}"))
 
 
 def run(place):
     """The part of bench/real."""
-    for project in (*projects.CMAKES, *projects.MESONS, *(sources_in(place.sources) if place.sources else ())):
+    for project in (*projects.CMAKES, *projects.MESONS, *sources_in(place.sources or place.folder)):
         if place.lacks(f"an audit of {project.name}", "strace", *project.wants):
             continue
         place.step(f"an audit of {project.name}")

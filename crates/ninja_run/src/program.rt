@@ -9,7 +9,7 @@ use ninja_asked::{Asking, default_jobs};
 use ninja_words::{
     Asked, Front, Heading, HeadingFault, Options as Given, Output, PATTERN, Shown, asked,
 };
-use seen::Seen;
+use seen::{Measured, Seen};
 use site::{Site, SiteFault};
 use stand_in::{
     Due, Ended, NoAnswer, Outcome, Patient, Place, answer, build_here, due_here, site_here,
@@ -233,13 +233,23 @@ fn build_at<'a, W: Write + Drop>(
     given: &Given<'_>,
     options: &Options,
 ) -> (Ended, Option<Trouble>) {
-    let mut seen = Seen::new(alloc, site);
-    let (ended, left) = build_there(alloc, &mut seen, given, options);
-    let site = seen.into_site();
+    let (ended, left, site) = build_over(alloc, site, given, options);
     let trouble = finish(site.into_site(), given.keep, &ended);
     // no build file is read any more: the program ends right after this, and then all goes at once
     forget(left);
     (ended, trouble)
+}
+
+/// The same on any site, which is given back.
+fn build_over<S: Place + Measured + Drop>(
+    alloc: Global,
+    site: S,
+    given: &Given<'_>,
+    options: &Options,
+) -> (Ended, Option<Declared>, S) {
+    let mut seen = Seen::new(alloc, site);
+    let (ended, left) = build_there(alloc, &mut seen, given, options);
+    (ended, left, seen.into_site())
 }
 
 /// The same by stamps alone.
@@ -300,16 +310,58 @@ fn due_in<'a, W: Write + Drop>(
     let alloc = rt.alloc();
     let options = build_options(alloc, given, 1)?;
     let front = front_of(given, lines, lines.around.output.undrawn(), 1);
-    let mut site = site_here(alloc, rt, out, front, None)?;
+    let site = site_here(alloc, rt, out, front, None)?;
     if lines.around.trusts_stamps {
-        let due = due_here(alloc, &mut site, given, &options);
-        let host = site.into_site();
-        return Ok((due, host.into_trouble()));
+        return Ok(due_by_stamps(alloc, site, given, &options));
     }
+    Ok(due_at(alloc, site, given, &options))
+}
+
+/// The same on a site, by what was seen there before.
+fn due_at<'a, W: Write + Drop>(
+    alloc: Global,
+    site: Patient<'a, W>,
+    given: &Given<'_>,
+    options: &Options,
+) -> (Result<Due, NoAnswer>, Option<Trouble>) {
+    let (due, site) = due_over(alloc, site, given, options);
+    let host = site.into_site();
+    (due, host.into_trouble())
+}
+
+/// The same on any site, which is given back.
+fn due_over<S: Place + Measured + Drop>(
+    alloc: Global,
+    site: S,
+    given: &Given<'_>,
+    options: &Options,
+) -> (Result<Due, NoAnswer>, S) {
     let mut seen = Seen::new(alloc, site);
-    let due = due_here(alloc, &mut seen, given, &options);
-    let host = seen.into_site().into_site();
-    Ok((due, host.into_trouble()))
+    let due = due_there(alloc, &mut seen, given, options);
+    (due, seen.into_site())
+}
+
+/// The same by stamps alone.
+fn due_by_stamps<'a, W: Write + Drop>(
+    alloc: Global,
+    mut site: Patient<'a, W>,
+    given: &Given<'_>,
+    options: &Options,
+) -> (Result<Due, NoAnswer>, Option<Trouble>) {
+    let due = due_there(alloc, &mut site, given, options);
+    let host = site.into_site();
+    (due, host.into_trouble())
+}
+
+/// The same as [`due_here`], from a start at which no command runs, and with nothing said of it.
+fn due_there<S: Place>(
+    alloc: Global,
+    site: &mut S,
+    given: &Given<'_>,
+    options: &Options,
+) -> Result<Due, NoAnswer> {
+    site.restart();
+    due_here(alloc, site, given, options)
 }
 
 fn front_of<'a>(given: &Given<'_>, lines: Lines<'a>, output: Output, jobs: u32) -> Front<'a> {
