@@ -17,6 +17,7 @@ mod number;
 mod process;
 mod rests;
 mod signals;
+mod slack;
 mod tracing;
 mod trouble;
 mod waiting;

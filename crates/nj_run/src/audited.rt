@@ -120,10 +120,7 @@ fn audit_here<W: Write>(
     recall(&mut host, asked.keep, &report);
     noted.waited(host.wait_for_clock());
     noted.built(&mut host, asked.file, &report);
-    let tally = match folder.to_str() {
-        Some(folder) => look(rt, &mut host, &options, targets.as_slice(), folder),
-        None => None,
-    };
+    let tally = look(rt, &mut host, &options, targets.as_slice(), folder.to_str());
     let trouble = host.into_trouble();
     Ok(Audited {
         report,

@@ -3,6 +3,7 @@
 ghost use Rattle.std.specs.Prelude.{◌≡◌, ◌⊎◌, [], false, IfErr, IfNone, IfOk, IfSome, OnOk};
 ghost use Rattle.model.specs.World.{World, IsIdle};
 ghost use Rattle.model.specs.Calls.{OnlyLooks};
+ghost use Rattle.builder.specs.Build.{IsBuild, limits_of};
 ghost use Rattle.ninja_asked.specs.Above.{AreEdges};
 ghost use Rattle.stand_in.specs.Moves.{EndsFirst, IsEndOf, IsReady, MayBeBuiltFirst, end_in, outcome_in};
 ghost use Rattle.stand_in.specs.Moves.{WasReadAlone, WasReadHere, WasUnreadAlone, WasUnreadHere};
@@ -176,7 +177,7 @@ fn before_build<S: Place>(
     ensures goes { OnOk result ((S.world site.new).stopped ≡ false) }
     ensures next { ComesNext S.tells S.outcome options.now declared.now (S.world site.old) (S.world site.new) result }
 {
-    match build_first(alloc, site, above, options) {
+    match build_first(alloc, site, declared, above, options) {
         Some(report) => Ok(Next::End(Outcome::NotRebuilt(Some(report)))),
         None => turn_generators(alloc, site, declared, above, options),
     }
@@ -222,6 +223,7 @@ fn where_nothing_ran(above: &Above) -> Next
 fn build_first<S: Place>(
     alloc: Global,
     site: &mut S,
+    declared: &Declared,
     above: &Above,
     options: &Options,
 ) -> Option<Report>
@@ -234,12 +236,27 @@ fn build_first<S: Place>(
     if above.first.is_empty() {
         return None;
     }
-    let report = build(alloc, site, options, above.first.as_slice());
+    let report = build_known(alloc, site, declared, options, above.first.as_slice());
     site.restart();
     match report {
         Report::Success { .. } => None,
         report => Some(report),
     }
+}
+
+/// Builds these targets, once it is told what commands of the file make, which was read.
+fn build_known<S: Place>(
+    alloc: Global,
+    site: &mut S,
+    declared: &Declared,
+    options: &Options,
+    targets: &[Text],
+) -> Report
+    requires { IsIdle (S.world site.old).events }
+    ensures { IsBuild S.tells S.outcome options.now.file (limits_of options.now) targets.now (S.world site.old) (S.world site.new) result }
+{
+    site.learn(alloc, &declared.graph.manifest, options.verbose);
+    build(alloc, site, options, targets)
 }
 
 /// Reads the build files once more, and builds what is asked for.

@@ -10,7 +10,7 @@ pub loop-whole-preserved : goal.loop-whole-preserved
 loop-whole-preserved c =
     let wholes = c.args.wholes.now in
     let place = c.loop-whole.whole-index in
-    let named = c.in_ok-renamed_by.result in
+    let named = c.in_ok-renamed_by.field-0 in
     let whole = get_or wholes place c.whole-item.result in
     let longer = take_more wholes place c.whole-item.result (omega arith) in
     let one : IsGiven whole named = subst (λ (w : Whole). IsGiven w named) c.whole-item.is c.in_ok-renamed_by.ensures in
