@@ -27,6 +27,9 @@ class History:
     def __init__(self, nj, folder, number):
         self.nj, self.place, self.folder = nj, folder, os.path.join(folder, "t")
         self.graph = Graph(number)
+        # one that leaves its work to others tells nobody that a header is absent, and has reported nothing then
+        for edge in self.graph.edges:
+            edge["late"] = False
         self.chance = random.Random(f"put back {number}")
         self.told, self.builds, self.kills = [], 0, 0
         # What sources held before, under which stamps.
