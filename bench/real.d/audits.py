@@ -11,6 +11,8 @@ import subprocess
 import tempfile
 import time
 
+import edits
+import made_up
 import projects
 
 # How long a build may take, in seconds.
@@ -35,6 +37,8 @@ KNOWN = [
      "Meson's dyndep file names no module of another target as an input"),
     ("meson", r"app: reads .*\.(o|obj), which is neither an input nor in its depfile.*", "a thin archive has the names of objects, and the linker reads these"),
     ("meson", r"app: reads libothers\.so\.1\.2\.3, .*", "Meson links anew where the symbols of a shared library are others, not where the library is"),
+    ("gn", r"app: reads libothers\.so, which is neither an input nor in its depfile.*",
+     "GN links anew where the symbols of a shared library are others, not where the library is"),
     ("jsoncpp", r".*: takes .*, which build lines name as .*, and as .* \(a path is the only name of its file\), commands: \d+",
      "CMake declares each of the three names of a shared library by a build line"),
     ("jsoncpp", r"bin/jsoncpp_test: reads lib/libjsoncpp\.so\.\d+, which is neither an input nor in its depfile.*",
@@ -132,6 +136,27 @@ def wrong_in_tree(nj, project, is_listed=False):
           f"({traced.busy / plain.busy:.2f})", flush=True)
 
 
+# How many trees are made up, whose commands keep all premises.
+KEEPING = 30
+
+
+def wrong_in_kept(nj, name, fill):
+    """What is wrong with the audit of a tree whose commands keep all premises."""
+    with tempfile.TemporaryDirectory() as folder:
+        folder = os.path.realpath(folder)
+        fill(folder)
+        done = subprocess.run([nj, "--audit"], cwd=folder, stdin=subprocess.DEVNULL, stdout=subprocess.PIPE, stderr=subprocess.STDOUT, text=True,
+                              timeout=LONGEST, check=False)
+    end = END.fullmatch(done.stdout.splitlines()[-1])
+    if not end or len(set(end.groups())) != 1 or done.returncode:
+        yield f"{name}, whose commands keep all premises: status {done.returncode}: {done.stdout}"
+
+
+def kept():
+    """Trees whose commands keep all premises: their names, and what fills a folder with them."""
+    return [("edits", edits.fill), *((f"made-up-{number}", made_up.Graph(number).write_all) for number in range(KEEPING))]
+
+
 def fetched(folder):
     """Whether apt-get puts the archives of Debian's trees into a folder, by the lists of sources that are there."""
     done = subprocess.run(["apt-get", "source", "--download-only", *PACKAGES], cwd=folder, stdin=subprocess.DEVNULL, stdout=subprocess.PIPE,
@@ -153,7 +178,11 @@ def sources_in(folder):
 
 def run(place):
     """The part of bench/real."""
-    for project in (*projects.CMAKES, *projects.MESONS, *sources_in(place.sources or place.folder)):
+    for name, fill in () if place.lacks("audits", "strace", "c++", "ar") else kept():
+        place.step(f"an audit of {name}")
+        for wrong in wrong_in_kept(place.nj, name, fill):
+            place.wrong(f"an audit of {name}", wrong)
+    for project in (*projects.ALL, *sources_in(place.sources or place.folder)):
         if place.lacks(f"an audit of {project.name}", "strace", *project.wants):
             continue
         place.step(f"an audit of {project.name}")

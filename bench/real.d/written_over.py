@@ -27,7 +27,7 @@ class History:
     def __init__(self, nj, folder, number):
         self.nj, self.place, self.folder = nj, folder, os.path.join(folder, "t")
         self.graph = Graph(number)
-        # A command whose child fails behind its end tells nothing of that, nor what it read.
+        # one that leaves its work to others tells nobody that a header is absent, and has reported nothing then
         for edge in self.graph.edges:
             edge["late"] = False
         self.chance = random.Random(f"put back {number}")
