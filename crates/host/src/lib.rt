@@ -17,7 +17,6 @@ mod number;
 mod process;
 mod rests;
 mod signals;
-mod slack;
 mod tracing;
 mod trouble;
 mod waiting;
