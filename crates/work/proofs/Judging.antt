@@ -37,7 +37,7 @@ use Rattle.judge.specs.Looking.{HasLooked}
 use Rattle.judge.specs.Seen.{look_at, look_of, is_asked, IfKept, AreSeenOf}
 use Rattle.plan.specs.declared.plan.Plan.{Plan}
 use Rattle.plan.specs.declared.step.Step.TheVariants.{Judge}
-use Rattle.plan.specs.Planned.{TakesStep}
+use Rattle.plan.specs.Planned.{TakesStep, IsNext}
 use Rattle.records.specs.Laws.{LogStays}
 use Rattle.records.specs.Known.{AreKnown}
 use Rattle.judge.specs.Facts.{flag_at}
@@ -45,7 +45,7 @@ use Rattle.judge.specs.Judged.{IsAnswer, IsReasonBy, MayBeJudgedBy, MayBeStaleBy
 use Rattle.work.specs.declared.state.State.{State}
 use Rattle.work.specs.Course.{Course, goes_on, Suits, edges_of, is_quiet, AreAnew, AreSeenBefore, AreStarted, IsOn}
 use Rattle.work.specs.Going.{IsSaid}
-use Rattle.work.proofs.Onward.{taken_judged, since_goes}
+use Rattle.work.proofs.Onward.{taken_judged, since_goes, said_next}
 use Rattle.work.proofs.Places.{phony_is}
 use Rattle.work.proofs.Quiet.{files_then, all_kept, quiet_less}
 use Rattle.work.proofs.Removed.{removed_steps}
@@ -79,7 +79,10 @@ judged_here e k true here =
 judged_here e k false here = absurd (false≢true here)
 
 module _ (tells : Bool) (course : Course) (graph : Graph) (stays : LogStays) (tick : List ℕ) (suits : Suits course tick graph) (state : State) (now new : World) (e : ℕ)
-    (on : IsOn tells course graph None state now) (said : IsSaid course graph on.steps (Judge e)) (looks : OnlyLooks tells now new) where
+    (on : IsOn tells course graph None state now) (goes : goes_on course ≡ true) (next : IsNext state.plan (Judge e)) (looks : OnlyLooks tells now new) where
+  abbrev said : IsSaid course graph on.steps (Judge e)
+  said = said_next course graph state.plan (Judge e) on.steps goes on.planned on.taken next
+
   abbrev pub edges : List Edge
   edges = edges_of course
 

@@ -11,7 +11,7 @@ ghost use Rattle.graph.specs.declared.graph.Graph.{Graph as GraphOf};
 ghost use Rattle.graph.specs.Links.{links_of};
 ghost use Rattle.graph.specs.Told.{declared_by};
 ghost use Rattle.plan.specs.declared.step.Step.TheVariants as step;
-ghost use Rattle.plan.specs.Planned.{IsOffered, IsDueNext};
+ghost use Rattle.plan.specs.Planned.{IsNext};
 ghost use Rattle.work.specs.declared.state.State.{State as StateOf};
 ghost use Rattle.work.specs.Course.{Course};
 ghost use Rattle.work.specs.Going.{IsCut, AreSet};
@@ -117,7 +117,7 @@ fn run_to_load<S: Site>(
 
 /// The dyndep file that is loaded next, if no edge makes it.
 pub fn source_to_load(graph: &Graph, plan: &Plan) -> Option<PathId>
-    ensures { MatchOption result (NoSourceIsDue graph.now plan.now) (λ file. IsOffered plan.now (step.Load file) × IsDueNext plan.now (step.Load file) × ((links_of graph.now).maker file ≡ None)) }
+    ensures { MatchOption result (NoSourceIsDue graph.now plan.now) (λ file. IsNext plan.now (step.Load file) × ((links_of graph.now).maker file ≡ None)) }
 {
     match plan.next() {
         Step::Load(file) => source(graph, file),

@@ -14,7 +14,7 @@ ghost use Rattle.plan.specs.Standing.{standing_at};
 ghost use Rattle.plan.specs.Planned.{IsPlanOver, TakesStep};
 ghost use Rattle.work.specs.After.{ComesAfter};
 ghost use Rattle.work.specs.Course.{Course, Suits, IsOn};
-ghost use Rattle.work.specs.Going.{IsGoing, MayTakeIn, IsCut, AreSet, IsSameBeside, HasEnded, failed_after, work_left};
+ghost use Rattle.work.specs.Going.{IsAwaiting, WaitsOn, WaitsCut, IsCut, AreSet, IsSameBeside, HasEnded, failed_after, work_left};
 ghost use Rattle.work.specs.Removing.{EndsByRemoving};
 ghost use Rattle.work.specs.Restat.{is_same_look, IsForgotten, LooksAnew};
 ghost use Rattle.work.specs.Starting.{IsTakenIn};
@@ -46,7 +46,7 @@ pub fn take_in<S: Site>(
     state: &mut State<'_>,
 ) -> Result<(), Cut>
     requires running { (S.world site.old).stopped ≡ false }
-    requires waits { (going : IsGoing S.tells setting.tick.now setting.graph.now state.old (S.world site.old)) × MayTakeIn going.course going.on.steps }
+    requires going { IsAwaiting S.tells setting.tick.now setting.graph.now state.old (S.world site.old) }
     requires enough { AreSet setting.graph.now state.old.set.items }
     ensures cuts { Cuts (S.world site.old) (S.world site.new) result }
     ensures grows { ComesAfter S.tells (S.world site.old) (S.world site.new) }
@@ -56,8 +56,8 @@ pub fn take_in<S: Site>(
     ensures set { state.new.set ≡ state.old.set }
     ensures kept { OnOk result (KnowsUnmade setting.entry.graph.now state.old state.new) }
     ensures removed { OnOk result ((i : ℕ) → (S.world site.new).events ≡ (S.world site.old).events ++ Finish i true ∷ [] → state.new.failed ≡ state.old.failed → EndsByRemoving S.tells (edge_at (declared_by setting.entry.graph.now).edges i).act (S.world site.old) (S.world site.new)) }
-    ensures on { OnOk result ((course : Course) → Suits course setting.entry.tick.now setting.entry.graph.now → (on : IsOn S.tells course setting.entry.graph.now None state.old (S.world site.old)) → MayTakeIn course on.steps → IsOn S.tells course setting.entry.graph.now None state.new (S.world site.new)) }
-    ensures cut { OnErr result ((course : Course) → Suits course setting.entry.tick.now setting.entry.graph.now → (on : IsOn S.tells course setting.entry.graph.now None state.old (S.world site.old)) → MayTakeIn course on.steps → IsCut S.tells course setting.entry.graph.now state.new.plan (S.world site.new)) }
+    ensures on { OnOk result (WaitsOn S.tells setting.entry (S.world site.old) (S.world site.new) state.old state.new) }
+    ensures cut { OnErr result (WaitsCut S.tells setting.entry (S.world site.old) (S.world site.new) state.old state.new) }
 {
     match site.wait_any() {
         Ok(finished) => {
