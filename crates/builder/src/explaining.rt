@@ -13,7 +13,6 @@ ghost use Rattle.judge.specs.Looking.{HasLooked};
 ghost use Rattle.manifest.specs.Answer.{IsGraph};
 ghost use Rattle.paths.specs.Told.{graph_of, text_at};
 ghost use Rattle.work.specs.Course.{Course};
-ghost use Rattle.work.specs.Going.{AreSet};
 ghost use Rattle.builder.specs.Explained.{AreSaid, IsSaid, SaysDue, TellsDue, Explains, ExplainsBuild};
 ghost use Rattle.work.specs.Standing.{BeginsAt};
 ghost use Rattle.builder.specs.Reports.{HasRead, IsLinked};
@@ -131,7 +130,6 @@ fn explain_state<S: Site>(
 ) -> Result<Explained, Report>
     requires running { (S.world site.old).stopped ≡ false }
     requires begins { (tick : List ℕ) × (course : Course) × (edges : List Edge) × (phases : List Phase) × BeginsAt S.tells tick course edges phases graph.old cone.old state.old (S.world site.old) }
-    requires enough { AreSet graph.old state.old.set.items }
     ensures looks { OnlyLooks S.tells (S.world site.old) (S.world site.new) }
     ensures explains { IfOk result (λ explained. (tick : List ℕ) (course : Course) (edges : List Edge) (phases : List Phase) → BeginsAt S.tells tick course edges phases graph.old cone.old state.old (S.world site.old) → Explains S.tells tick course (S.world site.old) (S.world site.new) explained.commands.items) }
 {
@@ -149,7 +147,6 @@ fn load_sources<S: Site>(
 ) -> Result<(), Stop>
     requires running { (S.world site.old).stopped ≡ false }
     requires begins { (tick : List ℕ) × (course : Course) × (edges : List Edge) × (phases : List Phase) × BeginsAt S.tells tick course edges phases graph.old cone.old state.old (S.world site.old) }
-    requires enough { AreSet graph.old state.old.set.items }
     ensures looks { OnlyLooks S.tells (S.world site.old) (S.world site.new) }
     ensures running { OnOk result ((S.world site.new).stopped ≡ false) }
     ensures begun { OnOk result ((tick : List ℕ) (course : Course) (edges : List Edge) (phases : List Phase) → BeginsAt S.tells tick course edges phases graph.old cone.old state.old (S.world site.old) → (many : List Edge) × (more : List Phase) × BeginsAt S.tells tick course many more graph.new cone.new state.new (S.world site.new)) }

@@ -207,7 +207,7 @@ module _ (tells : Bool) (tick : List ℕ) (course : Course) (edges : List Edge) 
 
     -- the state is as it was
     pub stopped_here : (refusal : Refusal) → IsRefusedBy tells course edges phases steps new refusal → IsStopped tells tick course edges phases graph cone state new refusal
-    stopped_here refusal cause = stopped_there state (record { plan = refl; looks = refl; logs = refl; starts = refl; failed = refl; set = refl }) (λ rs ds known. known) refusal cause
+    stopped_here refusal cause = stopped_there state (record { plan = refl; looks = refl; logs = refl; starts = refl; failed = refl }) (λ rs ds known. known) refusal cause
 
     -- ---- what the file held
 

@@ -34,7 +34,7 @@ use Rattle.work.proofs.Noticed.{with_looks}
 use Rattle.work.specs.declared.report.Refusal.{Refusal}
 use Rattle.work.specs.declared.stop.Stop.{Stop}
 use Rattle.work.specs.declared.stop.Stop.TheVariants as stop
-use Rattle.work.specs.Standing.{grown_course, task_over, StandsAt, HadAsked, BeginsAt, IsAtNextLoad, HasSourcesAt, IsLacking, IsMissingAfter, IsStopped, IsRefusedAt, IsCutThere, WasCut, StoppedThere, NoSourceIsDue, IsStopThere, IfRefused, IfFault}
+use Rattle.work.specs.Standing.{grown_course, task_over, StandsAt, HadAsked, BeginsAt, IsAtNextLoad, HasSourcesAt, IsLacking, IsMissingAfter, IsStopped, IsRefusedAt, IsCutThere, WasCut, StoppedThere, NoSourceIsDue, IsStopThere, IfFault}
 use Rattle.work.specs.Loads.{NamesSource}
 use Rattle.work.specs.Ends.{IsMissingFor}
 use Rattle.work.specs.Sources.{HasSources, LacksSource}
@@ -222,7 +222,3 @@ given_up_cut tells course grown state now new cut there left after rest = record
   where
     off : IsCutOff tells course.behaviour course.format course.own (asked_with course.asked grown) course.store there.phases there.cut.steps there.cut.met course.entry new
     off = rest (grown_course course grown there.phases) there.cut.steps there.cut.met there.cut.cut
-
-pub refused_both : (stopped : Stop) (P Q : Type 0) → IfRefused stopped (λ refusal. P) → IfRefused stopped (λ refusal. Q) → IfRefused stopped (λ refusal. P × Q)
-refused_both (stop.Refused refusal) P Q p q = (p, q)
-refused_both (stop.Fault fault) P Q p q = tt

@@ -62,9 +62,3 @@ refusal_halted tells tick course grown graph cone state now s refusal is there =
 
 pub refusal_no_fault : (s : Stop) (refusal : Refusal) (So : SiteFault → Type 0) → s ≡ stop.Refused refusal → IfFault s So
 refusal_no_fault s refusal So is = subst (λ (x : Stop). IfFault x So) (sym {A = Stop} is) tt
-
--- a refusal is the one that it was, and what was so of that is so of it
-pub refused_still : (s result : Stop) (So : Type 0) → IfRefused s (λ refusal. result ≡ s) → IfFault s (λ fault. IfRefused result (λ refusal. ⊥)) → IfRefused s (λ refusal. So) → IfRefused result (λ refusal. So)
-refused_still (stop.Refused refusal) result So same faults so = subst (λ (x : Stop). IfRefused x (λ r. So)) (sym {A = Stop} same) so
-refused_still (stop.Fault fault) (stop.Refused refusal) So same faults so = absurd faults
-refused_still (stop.Fault fault) (stop.Fault last) So same faults so = tt

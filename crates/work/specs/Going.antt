@@ -1,5 +1,5 @@
 -- A run that goes on, that has ended, or that a fault cuts off.
-use Rattle.std.specs.Prelude.{◌≡◌, ◌≢◌, ◌⊎◌, ℕ, suc, ◌≤◌, ◌<◌, ◌&&◌, Bool, true, false, List, [], ◌∷◌, ◌++◌, length, Option, Some, None, MatchOption}
+use Rattle.std.specs.Prelude.{◌≡◌, ◌≢◌, ◌⊎◌, ℕ, suc, ◌<◌, ◌&&◌, Bool, true, false, List, [], ◌∷◌, ◌++◌, length, Option, Some, None, MatchOption}
 use Rattle.std.specs.List.{sum_by}
 use Rattle.model.specs.World.{World}
 use Rattle.model.specs.Graph.{has_number, edge_at}
@@ -149,22 +149,12 @@ TakesAllIn tells setting old new before after = From tells false setting before 
 abbrev pub CutsTaking : Bool → Setting → World → World → State → State → Type 0
 CutsTaking tells setting old new before after = IsCutFrom tells false setting old new before after
 
--- no edge has more outputs
-abbrev pub AreEnough : Graph → ℕ → Type 0
-AreEnough graph count = (e : ℕ) → e < length graph.manifest.lines → length ((links_of graph).outputs e) ≤ count
-
--- as many flags as an edge may have outputs, and each is set
-pub record AreSet (graph : Graph) (all : List Bool) : Type 0 where
-  pub enough : AreEnough graph (length all)
-  pub set : (k : ℕ) → k < length all → flags.has all k ≡ true
-
 -- ---- the end of a command
 
 -- the end of a command changes nothing of these
 pub record IsSameBeside (old new : State) : Type 0 where
   pub records : new.records ≡ old.records
   pub starts : new.starts.items ≡ old.starts.items
-  pub set : new.set ≡ old.set
 
 -- What the end of the command of an edge changes beside its plan's steps: what was seen of its outputs is forgotten, and where it
 -- ended well and has `restat` they are looked at anew; an output counts as changed unless its stamp is seen to be the same.

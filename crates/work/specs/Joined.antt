@@ -160,4 +160,3 @@ pub record IsAsBefore (old new : State) : Type 0 where
   pub logs : new.records.logs ≡ old.records.logs
   pub starts : new.starts.items ≡ old.starts.items
   pub failed : new.failed.items ≡ old.failed.items
-  pub set : new.set ≡ old.set

@@ -7,7 +7,7 @@ ghost use Rattle.theory.specs.Seen.{IsSeen, Unrefused, StartsUnrefused};
 ghost use Rattle.work.specs.After.{ComesAfter, LooksUnlessMore};
 ghost use Rattle.work.specs.Cut.{fault_of, IsLeft};
 ghost use Rattle.work.specs.Cutting.{Cuts};
-ghost use Rattle.work.specs.Going.{IsGoing, TakesAllIn, CutsTaking, AreSet};
+ghost use Rattle.work.specs.Going.{IsGoing, TakesAllIn, CutsTaking};
 ghost use Rattle.work.specs.Ran.{EndsSo};
 
 use crate::cut::Cut;
@@ -22,7 +22,6 @@ use site::Site;
 pub fn finish<S: Site>(site: &mut S, setting: Setting<'_>, state: &mut State<'_>) -> Result<(), Cut>
     requires running { (S.world site.old).stopped ≡ false }
     requires going { IsGoing S.tells false setting.tick.now setting.graph.now state.old (S.world site.old) }
-    requires enough { AreSet setting.graph.now state.old.set.items }
     ensures ran { EndsSo S.tells setting.entry (S.world site.old) (S.world site.new) state.old state.new result }
     ensures grows { ComesAfter S.tells (S.world site.old) (S.world site.new) }
     ensures looked { OnOk result (LooksUnlessMore S.tells setting.entry.graph.now (S.world site.old) (S.world site.new) state.old.looks state.new.looks) }
@@ -46,7 +45,6 @@ fn take_in_running<S: Site>(
 ) -> Result<(), Cut>
     requires running { (S.world site.old).stopped ≡ false }
     requires going { IsGoing S.tells false setting.tick.now setting.graph.now state.old (S.world site.old) }
-    requires enough { AreSet setting.graph.now state.old.set.items }
     ensures cuts { Cuts (S.world site.old) (S.world site.new) result }
     ensures grows { ComesAfter S.tells (S.world site.old) (S.world site.new) }
     ensures looked { OnOk result (LooksUnlessMore S.tells setting.entry.graph.now (S.world site.old) (S.world site.new) state.old.looks state.new.looks) }

@@ -14,7 +14,7 @@ ghost use Rattle.plan.specs.declared.step.Step.TheVariants as step;
 ghost use Rattle.plan.specs.Planned.{IsNext};
 ghost use Rattle.work.specs.declared.state.State.{State as StateOf};
 ghost use Rattle.work.specs.Course.{Course};
-ghost use Rattle.work.specs.Going.{IsCut, AreSet};
+ghost use Rattle.work.specs.Going.{IsCut};
 ghost use Rattle.work.specs.Ran.{AreEdgesOf, IsPauseOf};
 ghost use Rattle.work.specs.Standing.{BeginsAt, IsAtNextLoad, HasSourcesAt, IsRefusedAt, HasBegun, HasDone, NoSourceIsDue, GoesWell, IsStopThere, IsStopOf, StoppedThere, HasHalted, HasPausedSo, HasEndedSo, IfRefused, IfFault, files_left, stop_answer};
 
@@ -48,7 +48,6 @@ pub fn run_graph<S: Site>(
 ) -> Result<Summary, Stop>
     requires running { (S.world site.old).stopped ≡ false }
     requires begins { (course : Course) × (edges : List Edge) × (phases : List Phase) × BeginsAt S.tells tick.now course edges phases graph.old cone.old state.old (S.world site.old) }
-    requires enough { AreSet graph.old state.old.set.items }
     ensures ended { (grown : List Edge) × ((course : Course) (edges : List Edge) (phases : List Phase) → BeginsAt S.tells tick.now course edges phases graph.old cone.old state.old (S.world site.old) → HasEndedSo S.tells course grown graph.new cone.new (S.world site.new) result) }
     ensures edges { IfOk result (AreEdgesOf graph.new) }
     ensures seen { IfErr result (λ stop. IfFault stop (IsSeen (S.world site.old) (S.world site.new))) }
@@ -71,12 +70,10 @@ fn run_and_load<S: Site>(
 ) -> Result<Summary, Stop>
     requires running { (S.world site.old).stopped ≡ false }
     requires begins { (course : Course) × (edges : List Edge) × (phases : List Phase) × BeginsAt S.tells tick.now course edges phases graph.old cone.old state.old (S.world site.old) }
-    requires enough { AreSet graph.old state.old.set.items }
     ensures done { IfOk result (λ summary. (course : Course) (edges : List Edge) (phases : List Phase) → BeginsAt S.tells tick.now course edges phases graph.old cone.old state.old (S.world site.old) → HasDone S.tells course (declared_by graph.new).edges graph.new cone.new (S.world site.new) summary) }
     ensures edges { IfOk result (AreEdgesOf graph.new) }
     ensures well { OnOk result (GoesWell (S.world site.old) (S.world site.new)) }
     ensures stop { IfErr result (IsStopOf (S.world site.old) (S.world site.new)) }
-    ensures enough { IfErr result (λ stop. IfRefused stop (λ refusal. AreSet graph.new state.new.set.items)) }
     ensures halted { IfErr result (λ stop. (grown : List Edge) × ((course : Course) (edges : List Edge) (phases : List Phase) → BeginsAt S.tells tick.now course edges phases graph.old cone.old state.old (S.world site.old) → HasHalted S.tells tick.now course grown graph.new cone.new state.new (S.world site.new) stop)) }
 {
     'run: loop {
@@ -98,8 +95,6 @@ fn run_to_load<S: Site>(
 ) -> Result<Pause, Stop>
     requires running { (S.world site.old).stopped ≡ false }
     requires begins { (course : Course) × (edges : List Edge) × (phases : List Phase) × BeginsAt S.tells tick.now course edges phases graph.now cone.now state.old (S.world site.old) }
-    requires enough { AreSet graph.now state.old.set.items }
-    ensures set { state.new.set ≡ state.old.set }
     ensures pause { IfOk result (IsPauseOf graph.now) }
     ensures well { OnOk result (GoesWell (S.world site.old) (S.world site.new)) }
     ensures paused { IfOk result (λ pause. (course : Course) (edges : List Edge) (phases : List Phase) → BeginsAt S.tells tick.now course edges phases graph.now cone.now state.old (S.world site.old) → HasPausedSo S.tells tick.now course edges phases graph.now cone.now state.new (S.world site.new) pause) }
@@ -149,7 +144,6 @@ fn ask_for_sources<S: Site>(
     requires running { (S.world site.old).stopped ≡ false }
     requires begins { (tick : List ℕ) × (course : Course) × (edges : List Edge) × (phases : List Phase) × BeginsAt S.tells tick course edges phases graph.now cone.now state.old (S.world site.old) }
     requires made { NoSourceIsDue graph.now state.old.plan }
-    ensures set { state.new.set ≡ state.old.set }
     ensures well { OnOk result (GoesWell (S.world site.old) (S.world site.new)) }
     ensures asked { OnOk result ((tick : List ℕ) (course : Course) (edges : List Edge) (phases : List Phase) → BeginsAt S.tells tick course edges phases graph.now cone.now state.old (S.world site.old) → HasSourcesAt S.tells tick course edges phases graph.now cone.now state.new (S.world site.new)) }
     ensures stop { IfErr result (IsStopOf (S.world site.old) (S.world site.new)) }
@@ -187,10 +181,8 @@ fn load_file<S: Site>(
     requires running { (S.world site.old).stopped ≡ false }
     requires stands { (tick : List ℕ) × (course : Course) × (edges : List Edge) × (phases : List Phase) × IsAtNextLoad S.tells tick course edges phases graph.old cone.old state.old file (S.world site.old) }
     ensures well { OnOk result (GoesWell (S.world site.old) (S.world site.new)) }
-    ensures set { OnOk result (AreSet graph.new state.new.set.items) }
     ensures fewer { OnOk result (files_left (declared_by graph.new).edges < files_left (declared_by graph.old).edges) }
     ensures begun { OnOk result ((tick : List ℕ) (course : Course) (edges : List Edge) (phases : List Phase) → IsAtNextLoad S.tells tick course edges phases graph.old cone.old state.old file (S.world site.old) → HasBegun S.tells tick course phases graph.new cone.new state.new (S.world site.new)) }
-    ensures same { IfErr result (λ stop. IfRefused stop (λ refusal. (graph.new ≡ graph.old) × (state.new.set ≡ state.old.set))) }
     ensures stop { IfErr result (IsStopOf (S.world site.old) (S.world site.new)) }
     ensures halted { IfErr result (λ stop. (grown : List Edge) × ((tick : List ℕ) (course : Course) (edges : List Edge) (phases : List Phase) → IsAtNextLoad S.tells tick course edges phases graph.old cone.old state.old file (S.world site.old) → HasHalted S.tells tick course grown graph.new cone.new state.new (S.world site.new) stop)) }
 {
@@ -218,7 +210,6 @@ fn given_up<S: Site>(site: &mut S, plan: &Plan, stop: Stop) -> Stop
 /// After a refusal what runs is taken in, recorded and shown, which may meet a fault; a fault stays as it is.
 fn finished<S: Site>(site: &mut S, setting: Setting<'_>, state: &mut State<'_>, stop: Stop) -> Stop
     requires refused { IfRefused stop (λ refusal. (course : Course) × (grown : List Edge) × (cone : ConeOf) × IsRefusedAt S.tells setting.tick.now course grown setting.graph.now cone state.old (S.world site.old) refusal) }
-    requires enough { IfRefused stop (λ refusal. AreSet setting.graph.now state.old.set.items) }
     requires stop { (entry : World) × IsStopOf entry (S.world site.old) stop }
     ensures stop { (entry : World) → IsStopOf entry (S.world site.old) stop → IsStopOf entry (S.world site.new) result }
     ensures ended { (course : Course) (grown : List Edge) (cone : ConeOf) → HasHalted S.tells setting.entry.tick.now course grown setting.entry.graph.now cone state.old (S.world site.old) stop → HasEndedSo S.tells course grown setting.entry.graph.now cone (S.world site.new) (Err result) }

@@ -36,7 +36,6 @@ pub fn judge<S: Site>(
     ensures looked { HasLooked S.tells setting.entry.graph.now (S.world site.old) (S.world site.new) state.old.looks state.new.looks }
     ensures cause { HasCause (S.world site.old) (S.world site.new) result }
     ensures nearer { OnOk result (work_left state.new.plan.standings.items < work_left state.old.plan.standings.items) }
-    ensures enough { state.new.set ≡ state.old.set }
     ensures on { OnOk result (GoesOn S.tells setting.entry (S.world site.old) (S.world site.new) state.old state.new) }
     ensures summed { AreSums setting.entry.graph.now state.new.plan.changed.items state.new.looks.seen.items sums.new }
     ensures marked { AreMarked setting.entry.graph.now state.new.plan.changed.items state.new.looks.seen.items sums.new }

@@ -20,7 +20,6 @@ ghost use Rattle.records.specs.Known.{IsOf, IsOfDeps, AreKnown};
 ghost use Rattle.plan.specs.Extended.{MayGoOn, GoesOn};
 ghost use Rattle.work.specs.Course.{Course};
 ghost use Rattle.work.specs.Cutting.{IsMet};
-ghost use Rattle.work.specs.Going.{AreSet};
 ghost use Rattle.work.specs.Standing.{StandsAt, HasAsked, IsLoadNext, HasBegun, IsStopped, IsCutThere, IfRefused, IfFault, files_left};
 ghost use Rattle.work.specs.Joined.{WasHeld, IsUnread, stop_of, IsMemory, IsUnfitBy, IsCircle, IsUnjoined, MayJoin, GoesOnWith, IsLeftWith, HasRoomIn, StayKnown, IsAsBefore};
 ghost use Rattle.work.specs.Loads.{IsSaying};
@@ -60,11 +59,9 @@ pub fn load<S: Site>(
     ensures earlier { (S.world site.new).earlier ≡ (S.world site.old).earlier }
     ensures unrefused { OnOk result (Unrefused (S.world site.old) (S.world site.new)) }
     ensures begun { OnOk result ((tick : List ℕ) (course : Course) (edges : List Edge) (phases : List Phase) → (stands : StandsAt S.tells tick course edges phases graph.old cone.old state.old (S.world site.old)) → IsLoadNext course edges graph.old state.old stands.on.steps file → HasAsked S.tells course edges phases (S.world site.old) → HasBegun S.tells tick course phases graph.new cone.new state.new (S.world site.new)) }
-    ensures set { OnOk result (AreSet graph.new state.new.set.items) }
     ensures fewer { OnOk result (files_left (declared_by graph.new).edges < files_left (declared_by graph.old).edges) }
     ensures refused { IfErr result (λ stop. IfRefused stop (λ refusal. Unrefused (S.world site.old) (S.world site.new))) }
     ensures graph { IfErr result (λ stop. IfRefused stop (λ refusal. graph.new ≡ graph.old)) }
-    ensures room { IfErr result (λ stop. IfRefused stop (λ refusal. state.new.set ≡ state.old.set)) }
     ensures plan { IfErr result (λ stop. IfRefused stop (λ refusal. state.new.plan ≡ state.old.plan)) }
     ensures stopped { IfErr result (λ stop. IfRefused stop (λ refusal. (tick : List ℕ) (course : Course) (edges : List Edge) (phases : List Phase) → (stands : StandsAt S.tells tick course edges phases graph.old cone.old state.old (S.world site.old)) → IsLoadNext course edges graph.old state.old stands.on.steps file → IsStopped S.tells tick course edges phases graph.new cone.new state.new (S.world site.new) refusal)) }
     ensures met { IfErr result (λ stop. IfFault stop (IsMet (S.world site.old) (S.world site.new))) }
@@ -100,7 +97,6 @@ fn join(
     ensures room { OnOk result (HasRoomIn graph.new state.old state.new) }
     ensures known { OnOk result (StayKnown graph.old graph.new state.old.records state.new.records) }
     ensures logs { OnOk result (state.new.records.logs ≡ state.old.records.logs) }
-    ensures set { OnOk result (AreSet graph.new state.new.set.items) }
     ensures graph { IfErr result (λ stop. IfRefused stop (λ refusal. graph.new ≡ graph.old)) }
     ensures cone { OnErr result (cone.new ≡ cone.old) }
     ensures back { IfErr result (λ stop. IfRefused stop (λ refusal. IsAsBefore state.old state.new)) }
@@ -191,11 +187,9 @@ fn grow(alloc: Global, graph: &Graph, cone: &Cone, state: &mut State<'_>) -> Res
     ensures left { OnErr result ((state.new.plan ≡ state.old.plan) ⊎ GoesOn graph.now cone.now state.old.plan state.new.plan) }
     ensures room { OnOk result (HasRoomIn graph.now state.old state.new) }
     ensures records { state.new.records ≡ state.old.records }
-    ensures set { OnOk result (AreSet graph.now state.new.set.items) }
 {
     state.plan.extend(alloc, graph, cone)?;
     state.looks.grow(graph)?;
-    state.grow(alloc, graph)?;
     Ok(())
 }
 

@@ -108,7 +108,6 @@ pub fn report<S: Site>(
     ensures writes { WritesAt S.tells state.old.records.logs.deps_log.path (S.world site.old) (S.world site.new) }
     ensures plan { state.new.plan ≡ state.old.plan }
     ensures starts { state.new.starts ≡ state.old.starts }
-    ensures set { state.new.set ≡ state.old.set }
     ensures looks { state.new.looks ≡ state.old.looks }
     ensures failed { state.new.failed ≡ state.old.failed }
     ensures on { OnOk result ((course : Course) → Suits course setting.entry.tick.now setting.entry.graph.now → IsTakenIn S.tells course setting.entry.graph.now (suc edge) start true told.now state.old (S.world site.old) → MayBeDone S.tells course setting.entry.graph.now (suc edge) start state.new (S.world site.new)) }

@@ -8,7 +8,7 @@ ghost use Rattle.theory.specs.Seen.{IsSeen, Unrefused, StartsUnrefused};
 ghost use Rattle.work.specs.Cut.{fault_of, IsLeft};
 ghost use Rattle.work.specs.After.{ComesAfter, LooksUnlessMore};
 ghost use Rattle.work.specs.Course.{Course};
-ghost use Rattle.work.specs.Going.{IsGoing, IsOver, IsHalted, Halts, CutsOff, AreSet};
+ghost use Rattle.work.specs.Going.{IsGoing, IsOver, IsHalted, Halts, CutsOff};
 ghost use Rattle.work.specs.Ran.{HasRun, HasPaused, PausesSo, AreEdgesOf, IsPauseOf};
 ghost use Rattle.work.specs.Cutting.{Cuts};
 ghost use Rattle.graph.specs.declared.graph.Graph.{Graph};
@@ -43,12 +43,10 @@ pub fn run_plan<S: Site>(
 ) -> Result<Pause, Cut>
     requires running { (S.world site.old).stopped ≡ false }
     requires going { IsGoing S.tells true setting.tick.now setting.graph.now state.old (S.world site.old) }
-    requires enough { AreSet setting.graph.now state.old.set.items }
     ensures ran { PausesSo S.tells setting.entry (S.world site.old) (S.world site.new) state.old state.new result }
     ensures pause { IfOk result (IsPauseOf setting.entry.graph.now) }
     ensures grows { ComesAfter S.tells (S.world site.old) (S.world site.new) }
     ensures looked { OnOk result (LooksUnlessMore S.tells setting.entry.graph.now (S.world site.old) (S.world site.new) state.old.looks state.new.looks) }
-    ensures set { state.new.set ≡ state.old.set }
     ensures calm { IfOk result (λ pause. Unrefused (S.world site.old) (S.world site.new)) }
     ensures starts { StartsUnrefused (S.world site.old) (S.world site.new) }
     ensures seen { IfErr result (λ cut. IsSeen (S.world site.old) (S.world site.new) (fault_of cut)) }
@@ -65,11 +63,9 @@ pub fn run_plan<S: Site>(
 fn run<S: Site>(site: &mut S, setting: Setting<'_>, state: &mut State<'_>) -> Result<Halt, Cut>
     requires running { (S.world site.old).stopped ≡ false }
     requires going { IsGoing S.tells true setting.tick.now setting.graph.now state.old (S.world site.old) }
-    requires enough { AreSet setting.graph.now state.old.set.items }
     ensures cuts { Cuts (S.world site.old) (S.world site.new) result }
     ensures grows { ComesAfter S.tells (S.world site.old) (S.world site.new) }
     ensures looked { OnOk result (LooksUnlessMore S.tells setting.entry.graph.now (S.world site.old) (S.world site.new) state.old.looks state.new.looks) }
-    ensures set { state.new.set ≡ state.old.set }
     ensures halts { IfOk result (Halts S.tells setting.entry (S.world site.old) (S.world site.new) state.old state.new) }
     ensures cut { OnErr result (CutsOff S.tells setting.entry (S.world site.old) (S.world site.new) state.old state.new) }
 {
@@ -84,7 +80,6 @@ fn run<S: Site>(site: &mut S, setting: Setting<'_>, state: &mut State<'_>) -> Re
 
 /// Why a run pauses that takes no step now. At its end the failed edges go to the summary.
 fn paused(alloc: Global, state: &mut State<'_>, halt: Halt) -> Pause
-    ensures set { state.new.set ≡ state.old.set }
     ensures looks { state.new.looks ≡ state.old.looks }
     ensures pauses { (tells : Bool) (course : Course) (graph : Graph) (now : World) → IsHalted tells course graph state.old now halt → HasPaused tells course graph state.new now (Ok result) × IsPauseOf graph result }
 {

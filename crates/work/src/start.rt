@@ -1,7 +1,6 @@
 //! Starting the command of an edge.
 
 ghost use Rattle.std.specs.Prelude.{◌≡◌, suc, ◌<◌, length, slice_set, true, false, OnOk, OnErr};
-ghost use Rattle.model.specs.World.{World};
 ghost use Rattle.model.specs.Schedule.{Started};
 ghost use Rattle.model.specs.Calls.{OnlyLooks, HasCause};
 ghost use Rattle.model.specs.Graph.{edge_at, IsCommand};
@@ -46,7 +45,6 @@ pub fn start_edge<S: Site>(
     ensures grows { ComesAfter S.tells (S.world site.old) (S.world site.new) }
     ensures some { OnOk result ((S.world site.new).events ≡ (S.world site.old).events → ⊥) }
     ensures nearer { OnOk result (work_left state.new.plan.standings.items < work_left state.old.plan.standings.items) }
-    ensures set { state.new.set ≡ state.old.set }
     ensures looks { state.new.looks ≡ state.old.looks }
     ensures changed { state.new.plan.changed ≡ state.old.plan.changed }
     ensures on { OnOk result (GoesOn S.tells setting.entry (S.world site.old) (S.world site.new) state.old state.new) }
@@ -93,7 +91,6 @@ fn launch<S: Site>(
     ensures grows { ComesAfter S.tells (S.world site.old) (S.world site.new) }
     ensures some { OnOk result ((S.world site.new).events ≡ (S.world site.old).events → ⊥) }
     ensures nearer { OnOk result (work_left state.new.plan.standings.items < work_left state.old.plan.standings.items) }
-    ensures set { state.new.set ≡ state.old.set }
     ensures looks { state.new.looks ≡ state.old.looks }
     ensures changed { state.new.plan.changed ≡ state.old.plan.changed }
     ensures on { OnOk result (LaunchesOn S.tells setting.entry edge (S.world site.old) (S.world site.new) state.old state.new) }

@@ -4,7 +4,7 @@ ghost use Rattle.std.specs.Prelude.{◌≡◌, true, false, IfOk, OnOk, OnErr};
 ghost use Rattle.work.specs.After.{ComesAfter, LooksUnlessMore};
 ghost use Rattle.judge.specs.Lasting.{AreMarked};
 ghost use Rattle.judge.specs.Summed.{AreSums};
-ghost use Rattle.work.specs.Going.{IsGoing, TurnsTo, CutsOff, IsNearer, AreSet};
+ghost use Rattle.work.specs.Going.{IsGoing, TurnsTo, CutsOff, IsNearer};
 ghost use Rattle.work.specs.Cutting.{Cuts};
 
 use crate::cut::Cut;
@@ -37,7 +37,6 @@ pub fn go_on<S: Site>(
 ) -> Result<Option<Halt>, Cut>
     requires running { (S.world site.old).stopped ≡ false }
     requires going { IsGoing S.tells true setting.tick.now setting.graph.now state.old (S.world site.old) }
-    requires enough { AreSet setting.graph.now state.old.set.items }
     requires summed { AreSums setting.graph.now state.old.plan.changed.items state.old.looks.seen.items sums.old }
     requires marked { AreMarked setting.graph.now state.old.plan.changed.items state.old.looks.seen.items sums.old }
     ensures cuts { Cuts (S.world site.old) (S.world site.new) result }
@@ -46,7 +45,6 @@ pub fn go_on<S: Site>(
     ensures nearer { IfOk result (λ halt. IsNearer state.old state.new halt) }
     ensures summed { OnOk result (AreSums setting.entry.graph.now state.new.plan.changed.items state.new.looks.seen.items sums.new) }
     ensures marked { OnOk result (AreMarked setting.entry.graph.now state.new.plan.changed.items state.new.looks.seen.items sums.new) }
-    ensures set { state.new.set ≡ state.old.set }
     ensures on { IfOk result (TurnsTo S.tells setting.entry (S.world site.old) (S.world site.new) state.old state.new) }
     ensures cut { OnErr result (CutsOff S.tells setting.entry (S.world site.old) (S.world site.new) state.old state.new) }
 {

@@ -31,9 +31,6 @@ explain_state-requires-clause-begins g c =
           fresh.looks state refl refl fresh.kept fresh.failed fresh.starts _ refl,
     )
 
-pub explain_state-requires-clause-enough : goal.explain_state-requires-clause-enough
-explain_state-requires-clause-enough g c = c.in_ok-state.ensures.enough
-
 pub returns-clause-explains : goal.returns-clause-explains
 returns-clause-explains g c =
     let tells = g.S.Texts.tells in

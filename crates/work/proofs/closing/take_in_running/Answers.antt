@@ -1,4 +1,4 @@
-use Rattle.std.proofs.Common.{◌∙◌, false}
+use Rattle.std.proofs.Common.{false}
 use Rattle.model.specs.SingleBuild.{task_of}
 use Rattle.theory.proofs.SiteCalls.{unrefused_call, unrefused_then}
 use Rattle.work.proofs.Cutting.{starts_then}
@@ -12,7 +12,6 @@ run-preserved g c = record {
   unrefused = unrefused_then (g.S.Texts.world c.args.site.now) (g.S.Texts.world c.run.site) (g.S.Texts.world c.take_in.new.site) c.run.invariant.unrefused
       (unrefused_call (g.S.Texts.world c.run.site) (g.S.Texts.world c.take_in.new.site) _ c.in_ok-take_in.ensures.cuts.cause);
   starts = starts_then (g.S.Texts.world c.args.site.now) (g.S.Texts.world c.run.site) (g.S.Texts.world c.take_in.new.site) c.run.invariant.unrefused c.run.invariant.starts c.in_ok-take_in.ensures.cuts.starts;
-  set = c.take_in.ensures.set ∙ c.run.invariant.set;
   grows = after_then g.S.Texts.tells (g.S.Texts.world c.args.site.now) (g.S.Texts.world c.run.site) (g.S.Texts.world c.take_in.new.site) c.run.invariant.grows c.take_in.ensures.grows;
   looked = λ same. absurd (some_after g.S.Texts.tells (g.S.Texts.world c.args.site.now) (g.S.Texts.world c.run.site) (g.S.Texts.world c.take_in.new.site) c.run.invariant.grows c.in_ok-take_in.ensures.some c.take_in.ensures.grows same);
   on = λ course suits ends was.

@@ -1,4 +1,4 @@
-use Rattle.std.proofs.Common.{◌≡◌, false}
+use Rattle.std.proofs.Common.{false}
 use Rattle.theory.specs.Seen.{Unrefused, StartsUnrefused}
 use Rattle.work.specs.After.{ComesAfter, LooksUnlessMore}
 use Rattle.work.specs.Going.{StandsOn, work_left}
@@ -8,7 +8,6 @@ abbrev pub invariant-run : goal.invariant-run
 invariant-run g l = record {
   unrefused : Unrefused (g.S.Texts.world l.fn.site) (g.S.Texts.world l.site);
   starts : StartsUnrefused (g.S.Texts.world l.fn.site) (g.S.Texts.world l.site);
-  set : l.state.set ≡ l.fn.state.set;
   grows : ComesAfter g.S.Texts.tells (g.S.Texts.world l.fn.site) (g.S.Texts.world l.site);
   looked : LooksUnlessMore g.S.Texts.tells l.setting.graph.now (g.S.Texts.world l.fn.site) (g.S.Texts.world l.site) l.fn.state.looks l.state.looks;
   on : StandsOn g.S.Texts.tells false l.setting (g.S.Texts.world l.fn.site) (g.S.Texts.world l.site) l.fn.state l.state;

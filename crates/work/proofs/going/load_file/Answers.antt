@@ -1,8 +1,6 @@
 use Rattle.std.proofs.Common.{refl}
 use Rattle.work.proofs.Faults.{well_looks}
 use Rattle.work.proofs.LoadEnds.{load_stop, load_met, load_there}
-use Rattle.work.proofs.Stops.{refused_still}
-use Rattle.work.proofs.Stopping.{refused_both}
 use Rattle.work.proofs.going.load_file.Goals as goal
 
 pub load-requires-clause-stands : goal.load-requires-clause-stands
@@ -23,10 +21,6 @@ given_up-requires-clause-met g c =
 pub given_up-requires-clause-stop : goal.given_up-requires-clause-stop
 given_up-requires-clause-stop g c =
     (g.S.Texts.world c.args.site.now, load_stop g.S.Texts.tells (g.S.Texts.world c.args.site.now) (g.S.Texts.world c.load.new.site) c.in-Err.stop c.load.ensures.looks c.load.ensures.earlier c.in-Err.ensures.refused c.in-Err.ensures.met c.in-Err.ensures.stop)
-
-pub returns-in-Err-clause-same : goal.returns-in-Err-clause-same
-returns-in-Err-clause-same g c =
-    refused_still c.in-Err.stop c.given_up.result _ c.given_up.ensures.same c.given_up.ensures.faults (refused_both c.in-Err.stop _ _ c.in-Err.ensures.graph c.in-Err.ensures.room)
 
 pub returns-in-Err-clause-stop : goal.returns-in-Err-clause-stop
 returns-in-Err-clause-stop g c =

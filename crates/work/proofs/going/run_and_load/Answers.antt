@@ -44,7 +44,6 @@ pub run-preserved : goal.run-preserved
 run-preserved g c = record {
   well = well_then (g.S.Texts.world c.args.site.now) (g.S.Texts.world c.run_to_load.new.site) (g.S.Texts.world c.load_file.new.site)
       (well_then (g.S.Texts.world c.args.site.now) (g.S.Texts.world c.run.site) (g.S.Texts.world c.run_to_load.new.site) c.run.invariant.well c.in_ok-summary.ensures.well) c.in_ok-load_file-in-Load.ensures.well;
-  enough = c.in_ok-load_file-in-Load.ensures.set;
   begins = λ course edges phases begins.
       let at = c.run.invariant.begins course edges phases begins in
       let next =

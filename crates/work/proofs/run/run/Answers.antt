@@ -1,4 +1,4 @@
-use Rattle.std.proofs.Common.{inl, refl, ◌∙◌}
+use Rattle.std.proofs.Common.{inl, refl}
 use Rattle.work.specs.Going.{GoesOn, Halts}
 use Rattle.work.proofs.Results.{some_of, on_err}
 use Rattle.work.proofs.Nothing.{none_of}
@@ -17,7 +17,6 @@ run-init g c =
       starts = inl refl;
       summed = c.new-sums.ensures.summed graph state.plan.changed.items state.looks.seen.items;
       marked = c.new-sums.ensures.marked graph state.plan.changed.items state.looks.seen.items;
-      set = refl;
       grows = after_same g.S.Texts.tells now;
       looked = λ same. (c.looks_follow.ensures.follow g.S.Texts.tells now now now).none graph state.looks;
       on = λ course suits goes on. on;
@@ -54,7 +53,6 @@ run-preserved g c = record {
   starts = starts_then (g.S.Texts.world c.args.site.now) (g.S.Texts.world c.run.site) (g.S.Texts.world c.go_on.new.site) c.run.invariant.unrefused c.run.invariant.starts c.in_ok-halt.ensures.cuts.starts;
   summed = c.in_ok-halt.ensures.summed;
   marked = c.in_ok-halt.ensures.marked;
-  set = c.go_on.ensures.set ∙ c.run.invariant.set;
   grows = after_then g.S.Texts.tells (g.S.Texts.world c.args.site.now) (g.S.Texts.world c.run.site) (g.S.Texts.world c.go_on.new.site) c.run.invariant.grows c.go_on.ensures.grows;
   looked = looks_then_looks g.S.Texts.tells c.args.setting.graph.now (g.S.Texts.world c.args.site.now) (g.S.Texts.world c.run.site) (g.S.Texts.world c.go_on.new.site)
       (c.looks_follow.ensures.follow g.S.Texts.tells (g.S.Texts.world c.args.site.now) (g.S.Texts.world c.run.site) (g.S.Texts.world c.go_on.new.site))

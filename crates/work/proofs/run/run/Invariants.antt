@@ -1,4 +1,3 @@
-use Rattle.std.proofs.Common.{◌≡◌, true}
 use Rattle.theory.specs.Seen.{Unrefused, StartsUnrefused}
 use Rattle.judge.specs.Lasting.{AreMarked}
 use Rattle.judge.specs.Summed.{AreSums}
@@ -12,7 +11,6 @@ invariant-run g l = record {
   starts : StartsUnrefused (g.S.Texts.world l.fn.site) (g.S.Texts.world l.site);
   summed : AreSums l.setting.graph.now l.state.plan.changed.items l.state.looks.seen.items l.sums;
   marked : AreMarked l.setting.graph.now l.state.plan.changed.items l.state.looks.seen.items l.sums;
-  set : l.state.set ≡ l.fn.state.set;
   grows : ComesAfter g.S.Texts.tells (g.S.Texts.world l.fn.site) (g.S.Texts.world l.site);
   looked : LooksUnlessMore g.S.Texts.tells l.setting.graph.now (g.S.Texts.world l.fn.site) (g.S.Texts.world l.site) l.fn.state.looks l.state.looks;
   on : GoesOn g.S.Texts.tells l.setting (g.S.Texts.world l.fn.site) (g.S.Texts.world l.site) l.fn.state l.state;
