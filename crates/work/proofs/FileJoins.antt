@@ -1,16 +1,18 @@
 -- What a dyndep file says joins a graph: what follows for recorded inputs, targets, records and the plan, and how it is taken back.
-use Rattle.std.proofs.Common.{◌≡◌, ◌⊎◌, inl, inr, ℕ, zero, suc, ◌<◌, ◌≤◌, cond, bytes_eq, Bool, true, false, List, [], ◌∷◌, ◌++◌, length, get_or, Option, Some, None, is_some, refl, sym, ◌∙◌, ap, subst, append_assoc, arith}
+use Rattle.std.proofs.Common.{◌≡◌, ◌⊎◌, inl, inr, ℕ, zero, suc, ◌<◌, ◌≤◌, cond, bytes_eq, Bool, true, false, List, [], ◌∷◌, ◌++◌, length, take, get_or, Option, Some, None, is_some, refl, sym, ◌∙◌, ap, subst, append_assoc, arith}
 use Rattle.std.specs.List.{All}
 use Rattle.std.specs.Option.{option_map}
 use Rattle.std.proofs.lemmas.Bool.{cases_Bool, false≢true, eqb-true, eq-eqb, or_left}
-use Rattle.std.proofs.lemmas.List.{length-append}
+use Rattle.std.proofs.lemmas.List.{length-append, take_all}
 use Rattle.std.proofs.lemmas.Option.{slice_get-get_or}
 use Rattle.model.specs.declared.graph.BuildGraph.{BuildGraph}
 use Rattle.model.specs.declared.graph.Edge.{Edge}
 use Rattle.model.specs.declared.graph.Pool.{Pool}
+use Rattle.model.specs.declared.record.Record.{Record}
+use Rattle.model.specs.declared.record.DepsRecord.{DepsRecord}
 use Rattle.model.specs.Graph.{has, has_number, edge_at, targets_of, IsMadeOnce, Addition}
 use Rattle.model.specs.Phases.{IsGrownBy}
-use Rattle.model.specs.Records.{Store, recorded_of, recorded_inputs}
+use Rattle.model.specs.Records.{Store, in_force, deps_in_force, recorded_of, recorded_inputs}
 use Rattle.model.specs.SingleBuild.{Asked, asked_with, declared_graph}
 use Rattle.theory.proofs.Lists.{same_some, some_none, bytes_same}
 use Rattle.paths.specs.declared.manifest.Action.{Action}
@@ -27,12 +29,18 @@ use Rattle.graph.specs.Held.{list_at, dyndep_of}
 use Rattle.graph.specs.LoadedEdges.{numbers_in}
 use Rattle.graph.specs.Statements.{is_place}
 use Rattle.graph.specs.Told.{declared_by, recorded_by, AreSameInputs}
+use Rattle.log_text.specs.BuildLog.{Keeps, makings}
+use Rattle.log_text.specs.DepsLog.{Keeps as KeepsDeps, tolds}
+use Rattle.records.specs.declared.logs.Logs.{Logs}
+use Rattle.records.specs.declared.records.Records.{Records}
+use Rattle.records.specs.Held.{ArePlaces}
+use Rattle.records.specs.Known.{IsOf, IsOfDeps, AreKnown, AreStillKnown}
 use Rattle.plan.specs.Extended.{MayGoOn}
 use Rattle.plan.proofs.Loaded.{file_within, namer_within}
 use Rattle.work.specs.declared.state.State.{State}
 use Rattle.work.specs.declared.report.Refusal.{Refusal}
-use Rattle.work.specs.Joined.{MayJoin, HasJoinedFile, IsCircle, IsUnjoined}
-use Rattle.work.specs.Recorded.{AreToJoin, HasJoinedOf}
+use Rattle.work.specs.Joined.{MayJoin, HasJoinedFile, IsCircle, IsUnjoined, StayKnown, MayShrink}
+use Rattle.work.specs.Recorded.{AreToJoin, HasGrownAt, HasJoinedOf}
 use Rattle.work.proofs.Joining.{recorded_kept, nothing_of}
 use Rattle.work.proofs.Telling.{edge_is}
 
@@ -129,6 +137,25 @@ module _ {asked : Asked} {store : Store} {graph : Graph} {cone : Cone} {state : 
     pub to_join : AreToJoin numbers loaded store.records store.deps
     to_join e there p is = absurd (none_recorded e (sym (undoes.edges e) ∙ there) p (ap (λ (l : List (List ℕ)). has l p) (sym (has_it.recorded (suc e))) ∙ is))
 
+    -- ---- taken back
+
+    pub may_take_back : {grown : Graph} → HasGrownAt numbers loaded grown → MayBeTakenBack graph loaded grown before
+    may_take_back so_far = record {
+      file = file;
+      undoes = undoes;
+      gained = record {
+        paths = record { added = so_far.grown.more; grows = so_far.grown.paths };
+        named = so_far.grown.named;
+        actions = so_far.grown.actions;
+        pools = ap (λ (b : BuildGraph). b.pools) so_far.grown.declared;
+        defaults = so_far.grown.defaults;
+        builddir = ap (λ (b : BuildGraph). b.builddir) so_far.grown.declared;
+        lines = so_far.grown.lines;
+        others = so_far.others;
+      };
+      none = λ e there. nothing_of graph.manifest.paths (list_at graph.recorded e) (nothing_in (recorded_by graph (suc e)) (none_recorded e (sym (undoes.edges e) ∙ there)));
+    }
+
     module _ {grown : Graph} (joined : HasJoinedOf numbers loaded grown store.records store.deps) where
       abbrev next : List Edge
       next = (declared_by grown).edges
@@ -208,21 +235,41 @@ module _ {asked : Asked} {store : Store} {graph : Graph} {cone : Cone} {state : 
       pub seen_fits : length state.looks.seen.items ≤ length grown.manifest.paths
       seen_fits = let was = may.seen in omega (arith, was, longer)
 
-      -- ---- taken back
+-- ---- records that shrink again
 
-      pub may_take_back : MayBeTakenBack graph loaded grown before
-      may_take_back = record {
-        file = file;
-        undoes = undoes;
-        gained = record {
-          paths = record { added = joined.grown.more; grows = joined.grown.paths };
-          named = joined.grown.named;
-          actions = joined.grown.actions;
-          pools = ap (λ (b : BuildGraph). b.pools) joined.grown.declared;
-          defaults = joined.grown.defaults;
-          builddir = ap (λ (b : BuildGraph). b.builddir) joined.grown.declared;
-          lines = joined.grown.lines;
-          others = joined.others;
-        };
-        none = λ e there. nothing_of graph.manifest.paths (list_at graph.recorded e) (nothing_in (recorded_by graph (suc e)) (none_recorded e (sym (undoes.edges e) ∙ there)));
-      }
+-- they are known of the graph for which they were, whatever was looked up on the way
+pub known_alike : (graph : Graph) (rs : List Record) (ds : List DepsRecord) (old new : Records) → new.logs ≡ old.logs → new.places.items ≡ old.places.items → new.deps_places.items ≡ old.deps_places.items → AreKnown graph rs ds old → AreKnown graph rs ds new
+known_alike graph rs ds old new logs places deps_places known = record {
+  paths = known.paths;
+  more = known.more;
+  grown = known.grown;
+  outputs = known.outputs;
+  known = record {
+    keeps = subst (λ (l : Logs). Keeps rs l.build_log.log) (sym {A = Logs} logs) known.known.keeps;
+    fits = subst (λ (l : List (Option ℕ)). length l ≤ length known.paths) (sym places) known.known.fits;
+    made = subst (λ (l : List (Option ℕ)). ArePlaces makings in_force rs known.paths l) (sym places) known.known.made;
+  };
+  told = record {
+    keeps = subst (λ (l : Logs). KeepsDeps ds l.deps_log.log) (sym {A = Logs} logs) known.told.keeps;
+    fits = subst (λ (l : List (Option ℕ)). length l ≤ length known.paths) (sym deps_places) known.told.fits;
+    told = subst (λ (l : List (Option ℕ)). ArePlaces tolds deps_in_force ds known.paths l) (sym deps_places) known.told.told;
+  };
+}
+
+-- what was looked up for these paths stands within them
+pub taken_whole : (n : ℕ) (was now shrunk : List (Option ℕ)) → shrunk ≡ take n now → now ≡ was → length was ≤ n → shrunk ≡ was
+taken_whole n was now shrunk is same low = is ∙ (ap (take n) same ∙ take_all n was low)
+
+module _ (graph : Graph) (added : List (List ℕ)) (loaded : Graph) (grows : loaded.manifest.paths ≡ graph.manifest.paths ++ added) (was now shrunk : Records) where
+  pub known_shrunk : MayShrink loaded was now → shrunk.logs ≡ was.logs → shrunk.places.items ≡ take (length graph.manifest.paths) now.places.items → shrunk.deps_places.items ≡ take (length graph.manifest.paths) now.deps_places.items
+      → AreStillKnown graph now shrunk → StayKnown graph graph was shrunk
+  known_shrunk (inl same) logs places deps_places still rs ds known =
+      let long = ap length known.grown ∙ length-append known.paths known.more in
+      let few = known.known.fits in
+      let few_deps = known.told.fits in
+      known_alike graph rs ds was shrunk logs
+      (taken_whole (length graph.manifest.paths) was.places.items now.places.items shrunk.places.items places same.places (omega (arith, long, few)))
+      (taken_whole (length graph.manifest.paths) was.deps_places.items now.deps_places.items shrunk.deps_places.items deps_places same.deps_places (omega (arith, long, few_deps))) known
+  known_shrunk (inr all) logs places deps_places still rs ds known =
+      let both = all graph added grows rs ds known in
+      still added rs ds (subst (λ (l : List (List ℕ)). IsOf rs l now) grows both.0) (subst (λ (l : List (List ℕ)). IsOfDeps ds l now) grows both.1)

@@ -93,6 +93,15 @@ pub record HasJoinedOf (edges : List ℕ) (old new : Graph) (rs : List Record) (
   pub joined : (e : ℕ) → has_number edges e ≡ true → IsJoined new rs ds e
   pub others : (e : ℕ) → has_number edges e ≡ false → list_at new.recorded e ≡ list_at old.recorded e
 
+-- the graph has more paths, and only these edges may have got recorded inputs
+pub record HasGrownAt (edges : List ℕ) (old new : Graph) : Type 0 where
+  pub grown : HasMorePaths old new
+  pub others : (e : ℕ) → has_number edges e ≡ false → list_at new.recorded e ≡ list_at old.recorded e
+
+-- so they did, of whatever records these are
+abbrev pub Joins : List ℕ → Graph → Graph → Records → Type 0
+Joins edges old new records = (rs : List Record) (ds : List DepsRecord) → AreKnown old rs ds records → AreToJoin edges old rs ds → HasJoinedOf edges old new rs ds
+
 -- Of each of these edges the recorded inputs of the graph are those in use by these records; the others have none.
 pub record AreJoined (graph : Graph) (rs : List Record) (ds : List DepsRecord) (count : ℕ) : Type 0 where
   pub joined : (e : ℕ) → e < count → (p : List ℕ) → has (recorded_by graph (suc e)) p ≡ has (recorded_inputs (record { records = rs; deps = ds }) (declared_by graph).edges (suc e)) p

@@ -16,7 +16,7 @@ ghost use Rattle.work.specs.declared.state.State.{State as StateOf};
 ghost use Rattle.work.specs.Course.{Course};
 ghost use Rattle.work.specs.Going.{IsCut};
 ghost use Rattle.work.specs.Ran.{AreEdgesOf, IsPauseOf};
-ghost use Rattle.work.specs.Standing.{BeginsAt, IsAtNextLoad, HasSourcesAt, IsRefusedAt, HasBegun, HasDone, NoSourceIsDue, GoesWell, IsStopThere, IsStopOf, StoppedThere, HasHalted, HasPausedSo, HasEndedSo, IfRefused, IfFault, files_left, stop_answer};
+ghost use Rattle.work.specs.Standing.{BeginsAt, HasSourcesAt, IsRefusedAt, NoSourceIsDue, GoesWell, IsStopThere, IsStopOf, StoppedThere, HasHalted, HasPausedSo, HasEndedSo, IsBeginning, EndsFrom, DoneFrom, HaltsFrom, IsLoading, Loads, HaltsAt, IfRefused, IfFault, files_left, stop_answer};
 
 use crate::closing::finish;
 use crate::commands::unstarted_commands;
@@ -47,8 +47,8 @@ pub fn run_graph<S: Site>(
     state: &mut State<'_>,
 ) -> Result<Summary, Stop>
     requires running { (S.world site.old).stopped ≡ false }
-    requires begins { (course : Course) × (edges : List Edge) × (phases : List Phase) × BeginsAt S.tells tick.now course edges phases graph.old cone.old state.old (S.world site.old) }
-    ensures ended { (grown : List Edge) × ((course : Course) (edges : List Edge) (phases : List Phase) → BeginsAt S.tells tick.now course edges phases graph.old cone.old state.old (S.world site.old) → HasEndedSo S.tells course grown graph.new cone.new (S.world site.new) result) }
+    requires begins { IsBeginning S.tells tick.now graph.old cone.old state.old (S.world site.old) }
+    ensures ended { EndsFrom S.tells tick.now graph.old cone.old state.old (S.world site.old) graph.new cone.new (S.world site.new) result }
     ensures edges { IfOk result (AreEdgesOf graph.new) }
     ensures seen { IfErr result (λ stop. IfFault stop (IsSeen (S.world site.old) (S.world site.new))) }
     ensures faults { PassesNoFault (S.world site.old) (S.world site.new) (stop_answer result) }
@@ -69,12 +69,12 @@ fn run_and_load<S: Site>(
     state: &mut State<'_>,
 ) -> Result<Summary, Stop>
     requires running { (S.world site.old).stopped ≡ false }
-    requires begins { (course : Course) × (edges : List Edge) × (phases : List Phase) × BeginsAt S.tells tick.now course edges phases graph.old cone.old state.old (S.world site.old) }
-    ensures done { IfOk result (λ summary. (course : Course) (edges : List Edge) (phases : List Phase) → BeginsAt S.tells tick.now course edges phases graph.old cone.old state.old (S.world site.old) → HasDone S.tells course (declared_by graph.new).edges graph.new cone.new (S.world site.new) summary) }
+    requires begins { IsBeginning S.tells tick.now graph.old cone.old state.old (S.world site.old) }
+    ensures done { IfOk result (DoneFrom S.tells tick.now graph.old cone.old state.old (S.world site.old) graph.new cone.new (S.world site.new)) }
     ensures edges { IfOk result (AreEdgesOf graph.new) }
     ensures well { OnOk result (GoesWell (S.world site.old) (S.world site.new)) }
     ensures stop { IfErr result (IsStopOf (S.world site.old) (S.world site.new)) }
-    ensures halted { IfErr result (λ stop. (grown : List Edge) × ((course : Course) (edges : List Edge) (phases : List Phase) → BeginsAt S.tells tick.now course edges phases graph.old cone.old state.old (S.world site.old) → HasHalted S.tells tick.now course grown graph.new cone.new state.new (S.world site.new) stop)) }
+    ensures halted { IfErr result (HaltsFrom S.tells tick.now graph.old cone.old state.old (S.world site.old) graph.new cone.new state.new (S.world site.new)) }
 {
     'run: loop {
         match run_to_load(alloc, site, graph, cone, tick, state)? {
@@ -94,7 +94,7 @@ fn run_to_load<S: Site>(
     state: &mut State<'_>,
 ) -> Result<Pause, Stop>
     requires running { (S.world site.old).stopped ≡ false }
-    requires begins { (course : Course) × (edges : List Edge) × (phases : List Phase) × BeginsAt S.tells tick.now course edges phases graph.now cone.now state.old (S.world site.old) }
+    requires begins { IsBeginning S.tells tick.now graph.now cone.now state.old (S.world site.old) }
     ensures pause { IfOk result (IsPauseOf graph.now) }
     ensures well { OnOk result (GoesWell (S.world site.old) (S.world site.new)) }
     ensures paused { IfOk result (λ pause. (course : Course) (edges : List Edge) (phases : List Phase) → BeginsAt S.tells tick.now course edges phases graph.now cone.now state.old (S.world site.old) → HasPausedSo S.tells tick.now course edges phases graph.now cone.now state.new (S.world site.new) pause) }
@@ -179,12 +179,12 @@ fn load_file<S: Site>(
     file: PathId,
 ) -> Result<(), Stop>
     requires running { (S.world site.old).stopped ≡ false }
-    requires stands { (tick : List ℕ) × (course : Course) × (edges : List Edge) × (phases : List Phase) × IsAtNextLoad S.tells tick course edges phases graph.old cone.old state.old file (S.world site.old) }
+    requires at { IsLoading S.tells graph.old cone.old state.old file (S.world site.old) }
     ensures well { OnOk result (GoesWell (S.world site.old) (S.world site.new)) }
     ensures fewer { OnOk result (files_left (declared_by graph.new).edges < files_left (declared_by graph.old).edges) }
-    ensures begun { OnOk result ((tick : List ℕ) (course : Course) (edges : List Edge) (phases : List Phase) → IsAtNextLoad S.tells tick course edges phases graph.old cone.old state.old file (S.world site.old) → HasBegun S.tells tick course phases graph.new cone.new state.new (S.world site.new)) }
+    ensures begun { OnOk result (Loads S.tells file graph.old cone.old state.old (S.world site.old) graph.new cone.new state.new (S.world site.new)) }
     ensures stop { IfErr result (IsStopOf (S.world site.old) (S.world site.new)) }
-    ensures halted { IfErr result (λ stop. (grown : List Edge) × ((tick : List ℕ) (course : Course) (edges : List Edge) (phases : List Phase) → IsAtNextLoad S.tells tick course edges phases graph.old cone.old state.old file (S.world site.old) → HasHalted S.tells tick course grown graph.new cone.new state.new (S.world site.new) stop)) }
+    ensures halted { IfErr result (HaltsAt S.tells file graph.old cone.old state.old (S.world site.old) graph.new cone.new state.new (S.world site.new)) }
 {
     match load(alloc, site, graph, cone, state, file) {
         Ok(()) => Ok(()),

@@ -1,13 +1,9 @@
 //! Loading dyndep files (manual: "Dynamic Dependencies").
 
-ghost use Rattle.std.specs.Prelude.{◌≡◌, ◌<◌, ◌≤◌, ◌++◌, ◌⊎◌, List, ℕ, true, false, All, map, length, vec_len, IfOk, IfErr, OnOk, OnErr, Ok, Err};
-ghost use Rattle.model.specs.declared.graph.Edge.{Edge};
-ghost use Rattle.model.specs.declared.record.Record.{Record};
-ghost use Rattle.model.specs.declared.record.DepsRecord.{DepsRecord};
+ghost use Rattle.std.specs.Prelude.{◌≡◌, ◌<◌, ◌≤◌, ℕ, true, false, take, All, map, length, vec_len, List, IfOk, IfErr, OnOk, OnErr, Ok, Err};
 ghost use Rattle.model.specs.Graph.{Addition as Added, has_number, targets_of};
 ghost use Rattle.model.specs.Records.{Store, recorded_inputs};
 ghost use Rattle.model.specs.SingleBuild.{Asked, declared_graph};
-ghost use Rattle.model.specs.Phases.{Phase};
 ghost use Rattle.model.specs.Calls.{OnlyLooks, is_stop};
 ghost use Rattle.theory.specs.Seen.{Unrefused};
 ghost use Rattle.paths.specs.Told.{text_at, texts_at};
@@ -16,14 +12,12 @@ ghost use Rattle.graph.specs.Extended.{HasLoaded, IsRefusedLoad, addition_of};
 ghost use Rattle.graph.specs.LoadedEdges.{numbers_in};
 ghost use Rattle.graph.specs.Targets.{IsConeOfNumbers, IsNoConeAgain};
 ghost use Rattle.graph.specs.Told.{declared_by, recorded_by, AreSameInputs};
-ghost use Rattle.records.specs.Known.{IsOf, IsOfDeps, AreKnown};
 ghost use Rattle.plan.specs.Extended.{MayGoOn, GoesOn};
-ghost use Rattle.work.specs.Course.{Course};
 ghost use Rattle.work.specs.Cutting.{IsMet};
-ghost use Rattle.work.specs.Standing.{StandsAt, HasAsked, IsLoadNext, HasBegun, IsStopped, IsCutThere, IfRefused, IfFault, files_left};
-ghost use Rattle.work.specs.Joined.{WasHeld, IsUnread, stop_of, IsMemory, IsUnfitBy, IsCircle, IsUnjoined, MayJoin, GoesOnWith, IsLeftWith, HasRoomIn, StayKnown, IsAsBefore};
+ghost use Rattle.work.specs.Standing.{IsLoading, Loads, StopsAt, IsStopThere, IfRefused, IfFault, files_left};
+ghost use Rattle.work.specs.Joined.{WasHeld, IsUnread, stop_of, IsMemory, IsUnfitBy, IsCircle, MayJoin, HasRoomIn, StayKnown, IsUndone, IsLoaded, GoesOnBy, GoesOnOver, UnjoinedBy, UnjoinedOver, OfShorter, JoinsOf, WereKnown, MayShrink, KeepsRest};
 ghost use Rattle.work.specs.Loads.{IsSaying};
-ghost use Rattle.work.specs.Recorded.{AreToJoin, HasJoinedOf};
+ghost use Rattle.work.specs.Recorded.{HasGrownAt};
 
 use crate::names::{path_text, path_texts};
 use crate::recorded::join_loaded;
@@ -43,8 +37,7 @@ use text::{Items, Path};
 /// Loads the dyndep file, which is to be loaded next: what it says joins the graph, with the recorded inputs of the edges that name
 /// it, and the run goes on over that. `cone` becomes the cone of the same targets over it. Commands may run meanwhile.
 ///
-/// Where it is refused, or what it adds is, the graph, its cone and the plan are as before. After a fault the plan is, or it is that of
-/// the graph with what the file adds.
+/// Where it is refused, or what it adds is, and after a fault, all is as before, but for how the records are kept.
 pub fn load<S: Site>(
     alloc: Global,
     site: &mut S,
@@ -54,19 +47,14 @@ pub fn load<S: Site>(
     file: PathId,
 ) -> Result<(), Stop>
     requires running { (S.world site.old).stopped ≡ false }
-    requires stands { (tick : List ℕ) × (course : Course) × (edges : List Edge) × (phases : List Phase) × (stands : StandsAt S.tells tick course edges phases graph.old cone.old state.old (S.world site.old)) × IsLoadNext course edges graph.old state.old stands.on.steps file }
+    requires at { IsLoading S.tells graph.old cone.old state.old file (S.world site.old) }
     ensures looks { OnlyLooks S.tells (S.world site.old) (S.world site.new) }
-    ensures earlier { (S.world site.new).earlier ≡ (S.world site.old).earlier }
-    ensures unrefused { OnOk result (Unrefused (S.world site.old) (S.world site.new)) }
-    ensures begun { OnOk result ((tick : List ℕ) (course : Course) (edges : List Edge) (phases : List Phase) → (stands : StandsAt S.tells tick course edges phases graph.old cone.old state.old (S.world site.old)) → IsLoadNext course edges graph.old state.old stands.on.steps file → HasAsked S.tells course edges phases (S.world site.old) → HasBegun S.tells tick course phases graph.new cone.new state.new (S.world site.new)) }
+    ensures well { OnOk result (Unrefused (S.world site.old) (S.world site.new)) }
+    ensures begun { OnOk result (Loads S.tells file graph.old cone.old state.old (S.world site.old) graph.new cone.new state.new (S.world site.new)) }
     ensures fewer { OnOk result (files_left (declared_by graph.new).edges < files_left (declared_by graph.old).edges) }
-    ensures refused { IfErr result (λ stop. IfRefused stop (λ refusal. Unrefused (S.world site.old) (S.world site.new))) }
-    ensures graph { IfErr result (λ stop. IfRefused stop (λ refusal. graph.new ≡ graph.old)) }
-    ensures plan { IfErr result (λ stop. IfRefused stop (λ refusal. state.new.plan ≡ state.old.plan)) }
-    ensures stopped { IfErr result (λ stop. IfRefused stop (λ refusal. (tick : List ℕ) (course : Course) (edges : List Edge) (phases : List Phase) → (stands : StandsAt S.tells tick course edges phases graph.old cone.old state.old (S.world site.old)) → IsLoadNext course edges graph.old state.old stands.on.steps file → IsStopped S.tells tick course edges phases graph.new cone.new state.new (S.world site.new) refusal)) }
-    ensures met { IfErr result (λ stop. IfFault stop (IsMet (S.world site.old) (S.world site.new))) }
-    ensures stop { IfErr result (λ stop. IfFault stop (λ fault. (S.world site.new).stopped ≡ is_stop {T = Unit {0}} (Err fault))) }
-    ensures cut { IfErr result (λ stop. IfFault stop (λ fault. (grown : List Edge) × ((tick : List ℕ) (course : Course) (edges : List Edge) (phases : List Phase) → (stands : StandsAt S.tells tick course edges phases graph.old cone.old state.old (S.world site.old)) → IsLoadNext course edges graph.old state.old stands.on.steps file → HasAsked S.tells course edges phases (S.world site.old) → IsCutThere S.tells course grown state.new (S.world site.new)))) }
+    ensures stop { IfErr result (IsStopThere (S.world site.old) (S.world site.new)) }
+    ensures undone { OnErr result (IsUndone graph.old graph.new cone.old cone.new state.old state.new) }
+    ensures halted { IfErr result (StopsAt S.tells file graph.old cone.old state.old (S.world site.old) graph.new cone.new state.new (S.world site.new)) }
 {
     log_stays();
     one_answer();
@@ -83,7 +71,7 @@ pub fn load<S: Site>(
 
 /// What the file says joins the graph, with the recorded inputs of its edges that are in use, and the run goes on over that.
 ///
-/// Where it is refused, the graph, its cone and the state are as before, but for how the records are kept.
+/// Where it does not, all is as before, but for how the records are kept.
 fn join(
     alloc: Global,
     graph: &mut Graph,
@@ -93,33 +81,56 @@ fn join(
     additions: &[Addition],
 ) -> Result<(), Stop>
     requires may { (asked : Asked) × (store : Store) × MayJoin asked store graph.old cone.old state.old file }
-    ensures goes { OnOk result ((asked : Asked) (store : Store) → MayJoin asked store graph.old cone.old state.old file → GoesOnWith store graph.old graph.new cone.old.targets.items cone.new state.old.plan state.new.plan (text_at graph.old.manifest.paths file) (map addition_of additions.now)) }
+    ensures goes { OnOk result (GoesOnBy file (map addition_of additions.now) graph.old cone.old state.old graph.new cone.new state.new) }
     ensures room { OnOk result (HasRoomIn graph.new state.old state.new) }
     ensures known { OnOk result (StayKnown graph.old graph.new state.old.records state.new.records) }
     ensures logs { OnOk result (state.new.records.logs ≡ state.old.records.logs) }
-    ensures graph { IfErr result (λ stop. IfRefused stop (λ refusal. graph.new ≡ graph.old)) }
-    ensures cone { OnErr result (cone.new ≡ cone.old) }
-    ensures back { IfErr result (λ stop. IfRefused stop (λ refusal. IsAsBefore state.old state.new)) }
-    ensures records { IfErr result (λ stop. IfRefused stop (λ refusal. StayKnown graph.old graph.new state.old.records state.new.records)) }
-    ensures cause { IfErr result (λ stop. IfRefused stop (λ refusal. (asked : Asked) (store : Store) → MayJoin asked store graph.old cone.old state.old file → IsUnjoined asked store (text_at graph.old.manifest.paths file) (map addition_of additions.now) refusal)) }
+    ensures undone { OnErr result (IsUndone graph.old graph.new cone.old cone.new state.old state.new) }
+    ensures cause { IfErr result (λ stop. IfRefused stop (UnjoinedBy file (map addition_of additions.now) graph.old cone.old state.old)) }
     ensures memory { IfErr result IsMemory }
-    ensures left { IfErr result (λ stop. IfFault stop (λ fault. IsLeftWith graph.old graph.new cone.old state.old state.new file (text_at graph.old.manifest.paths file) (map addition_of additions.now))) }
 {
-    loads_go_on();
     let before = extend(alloc, graph, file, additions)?;
-    join_inputs(alloc, graph, &mut state.records, &before)?;
-    match cone_again(alloc, graph, cone) {
-        Ok(grown) => {
-            grow(alloc, graph, &grown, state)?;
-            *cone = grown;
-            Ok(())
-        }
+    match join_parts(alloc, graph, cone, state, &before) {
+        Ok(()) => Ok(()),
         Err(stop) => {
             graph.take_back(alloc, before);
             state.records.shrink(graph);
+            state.looks.shrink(graph);
             Err(stop)
         }
     }
+}
+
+/// The recorded inputs of the edges whose file was loaded join the graph, and the run goes on over that and the cone of the same
+/// targets.
+///
+/// Where that fails, the cone and the plan are as before, and what else was done can be undone.
+fn join_parts(
+    alloc: Global,
+    graph: &mut Graph,
+    cone: &mut Cone,
+    state: &mut State<'_>,
+    before: &Before,
+) -> Result<(), Stop>
+    requires loaded { IsLoaded graph.old cone.old state.old before.now }
+    ensures goes { OnOk result (GoesOnOver before.now graph.old cone.old state.old graph.new cone.new state.new) }
+    ensures room { OnOk result (HasRoomIn graph.new state.old state.new) }
+    ensures known { OnOk result (OfShorter graph.old (λ was. StayKnown was graph.new state.old.records state.new.records)) }
+    ensures beside { KeepsRest state.old state.new }
+    ensures grown { OnErr result (HasGrownAt (numbers_in before.now.edges.items) graph.old graph.new) }
+    ensures cone { OnErr result (cone.new ≡ cone.old) }
+    ensures plan { OnErr result (state.new.plan ≡ state.old.plan) }
+    ensures looks { OnErr result (take (length state.old.looks.seen.items) state.new.looks.seen.items ≡ state.old.looks.seen.items) }
+    ensures kept { OnErr result (MayShrink graph.old state.old.records state.new.records) }
+    ensures cause { IfErr result (λ stop. IfRefused stop (UnjoinedOver before.now graph.old cone.old state.old)) }
+    ensures memory { IfErr result IsMemory }
+{
+    loads_go_on();
+    join_inputs(alloc, graph, &mut state.records, before)?;
+    let grown = cone_again(alloc, graph, cone)?;
+    grow(alloc, graph, &grown, state)?;
+    *cone = grown;
+    Ok(())
 }
 
 /// What the file says joins the graph; what undoes that.
@@ -151,11 +162,12 @@ fn join_inputs(
     before: &Before,
 ) -> Result<(), AllocError>
     requires edges { (e : ℕ) → has_number (numbers_in before.now.edges.items) e ≡ true → e < length graph.old.manifest.lines }
-    requires known { (old : Graph) × (more : List (List ℕ)) × (rs : List Record) × (ds : List DepsRecord) × (graph.old.manifest.paths ≡ old.manifest.paths ++ more) × AreKnown old rs ds records.old }
+    requires known { WereKnown graph.old records.old }
     ensures logs { records.new.logs ≡ records.old.logs }
-    ensures joined { OnOk result ((old : Graph) (more : List (List ℕ)) (rs : List Record) (ds : List DepsRecord) → graph.old.manifest.paths ≡ old.manifest.paths ++ more → AreKnown old rs ds records.old → AreToJoin (numbers_in before.now.edges.items) graph.old rs ds → HasJoinedOf (numbers_in before.now.edges.items) graph.old graph.new rs ds) }
-    ensures known { OnOk result ((old : Graph) (more : List (List ℕ)) (rs : List Record) (ds : List DepsRecord) → graph.old.manifest.paths ≡ old.manifest.paths ++ more → AreKnown old rs ds records.old → AreKnown graph.old rs ds records.new) }
-    ensures all { OnOk result ((old : Graph) (more : List (List ℕ)) (rs : List Record) (ds : List DepsRecord) → graph.old.manifest.paths ≡ old.manifest.paths ++ more → AreKnown old rs ds records.old → IsOf rs graph.old.manifest.paths records.new × IsOfDeps ds graph.old.manifest.paths records.new) }
+    ensures grown { HasGrownAt (numbers_in before.now.edges.items) graph.old graph.new }
+    ensures joined { OnOk result (OfShorter graph.old (λ was. JoinsOf (numbers_in before.now.edges.items) was graph.old graph.new records.old)) }
+    ensures known { OnOk result (OfShorter graph.old (λ was. StayKnown was graph.old records.old records.new)) }
+    ensures kept { MayShrink graph.old records.old records.new }
 {
     records.grow(graph)?;
     join_loaded(alloc, graph, records, &before.edges)?;
@@ -184,12 +196,14 @@ fn grow(alloc: Global, graph: &Graph, cone: &Cone, state: &mut State<'_>) -> Res
     requires may { MayGoOn graph.now state.old.plan }
     requires fits { length state.old.looks.seen.items ≤ length graph.now.manifest.paths }
     ensures planned { OnOk result (GoesOn graph.now cone.now state.old.plan state.new.plan) }
-    ensures left { OnErr result ((state.new.plan ≡ state.old.plan) ⊎ GoesOn graph.now cone.now state.old.plan state.new.plan) }
     ensures room { OnOk result (HasRoomIn graph.now state.old state.new) }
     ensures records { state.new.records ≡ state.old.records }
+    ensures beside { KeepsRest state.old state.new }
+    ensures plan { OnErr result (state.new.plan ≡ state.old.plan) }
+    ensures looks { take (length state.old.looks.seen.items) state.new.looks.seen.items ≡ state.old.looks.seen.items }
 {
-    state.plan.extend(alloc, graph, cone)?;
     state.looks.grow(graph)?;
+    state.plan.extend(alloc, graph, cone)?;
     Ok(())
 }
 

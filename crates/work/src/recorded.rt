@@ -13,7 +13,7 @@ ghost use Rattle.graph.specs.Told.{declared_by};
 ghost use Rattle.log_text.specs.Kept.{if_some, texts_at as logged_at};
 ghost use Rattle.records.specs.Known.{IsOf, IsOfDeps, AreKnown};
 ghost use Rattle.judge.specs.Facts.{AreKnownOf};
-ghost use Rattle.work.specs.Recorded.{IsUnrecorded, are_known, is_in_use, HasMorePaths, HasOnlyMorePaths, IsJoined, MayBeJoined, AreToJoin, HasJoinedOf, AreNumbered, IsNumberedToo, HaveJust, IsShared, HasJoined, deps_place, named_by, texts_of};
+ghost use Rattle.work.specs.Recorded.{IsUnrecorded, are_known, is_in_use, HasMorePaths, HasOnlyMorePaths, IsJoined, MayBeJoined, HasGrownAt, Joins, AreNumbered, IsNumberedToo, HaveJust, IsShared, HasJoined, deps_place, named_by, texts_of};
 
 use graph::{Graph, LoadedEdge, PathSet};
 use log_text::Deps;
@@ -36,7 +36,7 @@ pub fn join_recorded(alloc: Global, graph: &mut Graph, records: &Records) -> Res
     Ok(())
 }
 
-/// The same of these edges alone, whose dyndep file was loaded.
+/// The same of these edges alone, whose dyndep file was loaded. Where memory is refused, some of them may have got theirs.
 pub fn join_loaded(
     alloc: Global,
     graph: &mut Graph,
@@ -45,7 +45,8 @@ pub fn join_loaded(
 ) -> Result<(), AllocError>
     requires edges { (e : ℕ) → has_number (numbers_in edges.now) e ≡ true → e < length graph.old.manifest.lines }
     requires known { (rs : List Record) × (ds : List DepsRecord) × AreKnown graph.old rs ds records.now }
-    ensures { OnOk result ((rs : List Record) (ds : List DepsRecord) → AreKnown graph.old rs ds records.now → AreToJoin (numbers_in edges.now) graph.old rs ds → HasJoinedOf (numbers_in edges.now) graph.old graph.new rs ds) }
+    ensures grown { HasGrownAt (numbers_in edges.now) graph.old graph.new }
+    ensures joined { OnOk result (Joins (numbers_in edges.now) graph.old graph.new records.now) }
 {
     let mut numbers = Vec::new(alloc);
     for loaded in edges {
@@ -87,10 +88,10 @@ fn join_edge(
     requires edge { edge < length graph.old.manifest.lines }
     requires known { (rs : List Record) × (ds : List DepsRecord) × AreKnown graph.old rs ds records.now }
     requires numbered { AreNumbered graph.old (texts_of records.now) numbers.old.items }
-    ensures grown { OnOk result (HasMorePaths graph.old graph.new) }
+    ensures grown { HasMorePaths graph.old graph.new }
     ensures numbered { OnOk result (AreNumbered graph.new (texts_of records.now) numbers.new.items) }
     ensures joined { OnOk result ((rs : List Record) (ds : List DepsRecord) → AreKnown graph.old rs ds records.now → MayBeJoined graph.old rs ds edge → IsJoined graph.new rs ds edge) }
-    ensures others { OnOk result ((e : ℕ) → (e ≡ edge → ⊥) → list_at graph.new.recorded e ≡ list_at graph.old.recorded e) }
+    ensures others { (e : ℕ) → (e ≡ edge → ⊥) → list_at graph.new.recorded e ≡ list_at graph.old.recorded e }
 {
     if !is_in_use(graph, records, edge) {
         return Ok(());
