@@ -1,6 +1,5 @@
 -- What was read of the logs, and what it is known for afterwards.
 use Rattle.std.proofs.Common.{◌≡◌, ◌≢◌, ℕ, Bool, false, IsTrue, List, [], Option, None, refl, sym, ◌∙◌, ap, subst}
-use Rattle.model.specs.declared.event.Moment.{Moment}
 use Rattle.model.specs.declared.graph.Edge.{Edge}
 use Rattle.model.specs.declared.record.Record.{Record}
 use Rattle.model.specs.declared.record.DepsRecord.{DepsRecord}
@@ -38,9 +37,8 @@ use Rattle.work.specs.Loads.{ReadsDyndeps}
 use Rattle.work.specs.Recorded.{HasJoined}
 use Rattle.builder.specs.Reports.{HasRead}
 use Rattle.builder.proofs.Builds.{looked_more}
-use Rattle.builder.proofs.Looking.{IsFoundAt, course_of}
+use Rattle.builder.proofs.Looking.{IsFoundAt, course_of, left_before}
 use Rattle.builder.proofs.Folders.{logs_apart}
-use Rattle.work.proofs.Unedited.{left_before}
 
 -- a fault has its cause since the entry, as no call was refused before
 pub cause_since : (entry old new : World) (stop : Stop) → old.failures ≡ entry.failures → IfFault stop (IsSeen old new) → IfFault stop (IsSeen entry new)

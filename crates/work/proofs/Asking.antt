@@ -34,7 +34,7 @@ use Rattle.graph.specs.Cone.{mark_at, is_listed}
 use Rattle.graph.specs.Linked.{IsConeOf}
 use Rattle.graph.proofs.Texts.{length-edges}
 use Rattle.graph.specs.declared.cone.Mark.{Mark}
-use Rattle.judge.proofs.Numbers.{item_has}
+use Rattle.work.proofs.Noting.{item_has}
 use Rattle.graph.specs.Told.{declared_by, recorded_by}
 use Rattle.judge.specs.Seen.{AreKept, AreSeenOf}
 use Rattle.records.specs.Known.{AreKnown}

@@ -48,7 +48,6 @@ use Rattle.graph.specs.Links.{links_of}
 use Rattle.graph.specs.Told.{declared_by}
 use Rattle.judge.specs.declared.looks.Look.{Look}
 use Rattle.judge.specs.Seen.{look_at, look_of, is_asked, AreKept, AreSeenOf}
-use Rattle.judge.proofs.Kept.{seen_kept}
 use Rattle.plan.specs.declared.plan.Plan.{Plan}
 use Rattle.plan.specs.Planned.{IsDeclaredTask, IsTaskOf, IsPlanned}
 use Rattle.records.specs.declared.logs.Logs.{Logs}
@@ -58,7 +57,7 @@ use Rattle.records.specs.Logging.{IsLogging}
 use Rattle.work.specs.declared.state.State.{State}
 use Rattle.work.specs.Course.{Course, edges_of, goes_on, IsOn, is_quiet}
 use Rattle.work.specs.Going.{IsInHand}
-use Rattle.work.proofs.Keeping.{looks_quiet, on_looks}
+use Rattle.work.proofs.Keeping.{seen_kept, looks_quiet, on_looks}
 use Rattle.work.proofs.Loaded.{HasMore, HasRoomFor, loaded_course, on_loaded, suits_loaded}
 use Rattle.work.proofs.Quiet.{quiet_from}
 use Rattle.work.proofs.Settled.{settled_rests}
@@ -149,7 +148,7 @@ module _ (tells : Bool) (tick : List ℕ) (course : Course) (edges : List Edge) 
       looks = looks_then tells course.entry now new was.looks looks;
       seen = λ tell free edits.
           let call = looks.history tell in
-          seen_kept (is_bound free) now.history new.history call.more call.grows (bound_kept tells course.own course.entry now new stands.suits.idle was.looks looks tell free edits) graph.manifest.paths state.looks.seen.items
+          seen_kept (is_bound free) graph.manifest.paths state.looks.seen.items now.history new.history call.more call.grows (bound_kept tells course.own course.entry now new stands.suits.idle was.looks looks tell free edits)
           (was.seen tell free (edits_before free course.entry.history now.history new.history call.more call.grows edits));
     }
       where

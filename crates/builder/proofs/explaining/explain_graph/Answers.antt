@@ -5,7 +5,7 @@ use Rattle.graph.specs.Told.{declared_by}
 use Rattle.builder.specs.Build.{asked_of}
 use Rattle.builder.proofs.Beginning.{begins_this}
 use Rattle.builder.proofs.Looking.{course_of}
-use Rattle.work.proofs.CountedSlices.{if_ok_then}
+use Rattle.builder.proofs.Values.{if_ok_then}
 use Rattle.builder.proofs.explaining.explain_graph.Goals as goal
 
 pub returns-in_err-cone-clause-looks : goal.returns-in_err-cone-clause-looks
