@@ -68,6 +68,12 @@ PausesSo tells setting old new before after result = From tells true setting bef
 abbrev pub EndsSo : Bool → Setting → World → World → State → State → Result (Unit {0}) Cut → Type 0
 EndsSo tells setting old new before after result = From tells false setting before old (λ course. HasFinished tells course setting.graph.now after new result)
 
+-- what had cut a run off, whatever its course, its steps and the edge that met it, has cut it off still
+abbrev pub CutsStay : Bool → World → World → Type 0
+CutsStay tells old new =
+    (course : Course) (steps : List Step) (met : Option ℕ) → IsCutOff tells course.behaviour course.format course.own course.asked course.store course.phases steps met course.entry old
+    → IsCutOff tells course.behaviour course.format course.own course.asked course.store course.phases steps met course.entry new
+
 -- a pause names a path of the graph, or edges of it
 abbrev pub IsPauseOf : Graph → Pause → Type 0
 IsPauseOf graph (Load file) = file < length graph.manifest.paths

@@ -365,6 +365,46 @@ abbrev pub HaltsFrom : Bool → List ℕ → Graph → Cone → State → World 
 HaltsFrom tells tick graph cone state old grown next after new stop =
     (course : Course) (edges : List Edge) (phases : List Phase) → BeginsAt tells tick course edges phases graph cone state old → HasHalted tells tick course (declared_by grown).edges grown next after new stop
 
+-- it pauses so,
+abbrev pub PausesFrom : Bool → List ℕ → Graph → Cone → State → World → State → World → Pause → Type 0
+PausesFrom tells tick graph cone state old after new pause =
+    (course : Course) (edges : List Edge) (phases : List Phase) → BeginsAt tells tick course edges phases graph cone state old → HasPausedSo tells tick course edges phases graph cone after new pause
+
+-- or has halted, over the same edges
+abbrev pub HaltsOver : Bool → List ℕ → Graph → Cone → State → World → State → World → Stop → Type 0
+HaltsOver tells tick graph cone state old after new stop =
+    (course : Course) (edges : List Edge) (phases : List Phase) → BeginsAt tells tick course edges phases graph cone state old → HasHalted tells tick course edges graph cone after new stop
+
+-- a phase begins of some build, whatever its ticks,
+abbrev pub IsBeginningBy : Bool → Graph → Cone → State → World → Type 0
+IsBeginningBy tells graph cone state now = (tick : List ℕ) × (course : Course) × (edges : List Edge) × (phases : List Phase) × BeginsAt tells tick course edges phases graph cone state now
+
+-- and of each such build the sources were asked for,
+abbrev pub AsksFrom : Bool → Graph → Cone → State → World → State → World → Type 0
+AsksFrom tells graph cone state old after new =
+    (tick : List ℕ) (course : Course) (edges : List Edge) (phases : List Phase) → BeginsAt tells tick course edges phases graph cone state old → HasSourcesAt tells tick course edges phases graph cone after new
+
+-- or it has halted
+abbrev pub HaltsAsking : Bool → Graph → Cone → State → World → State → World → Stop → Type 0
+HaltsAsking tells graph cone state old after new stop =
+    (tick : List ℕ) (course : Course) (edges : List Edge) (phases : List Phase) → BeginsAt tells tick course edges phases graph cone state old → HasHalted tells tick course edges graph cone after new stop
+
+-- ---- behind a stop
+
+-- wherever a build with this plan was stopped, it has halted so
+abbrev pub HaltsBehind : Bool → Plan → World → World → Stop → Stop → Type 0
+HaltsBehind tells plan old new first last =
+    (tick : List ℕ) (course : Course) (grown : List Edge) (graph : Graph) (cone : Cone) (state : State) → state.plan ≡ plan → StoppedThere tells tick course grown graph cone state old first → HasHalted tells tick course grown graph cone state new last
+
+-- it is refused where some build stands
+abbrev pub IsRefusedOf : Bool → List ℕ → Graph → State → World → Refusal → Type 0
+IsRefusedOf tells tick graph state now refusal = (course : Course) × (grown : List Edge) × (cone : Cone) × IsRefusedAt tells tick course grown graph cone state now refusal
+
+-- each build that has halted there has ended so
+abbrev pub EndsHalted : Bool → List ℕ → Graph → State → World → World → Stop → Stop → Type 0
+EndsHalted tells tick graph state old new first last =
+    (course : Course) (grown : List Edge) (cone : Cone) → HasHalted tells tick course grown graph cone state old first → HasEndedSo tells course grown graph cone new (Err last)
+
 -- what it answers, as far as faults go
 abbrev pub stop_answer : Result Summary Stop → Answer
 stop_answer (Ok summary) = answer.Refused

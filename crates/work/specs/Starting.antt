@@ -1,5 +1,5 @@
 -- An edge in hand, on its way to its start, and behind its end.
-use Rattle.std.specs.Prelude.{◌≡◌, ◌++◌, ◌∷◌, [], ℕ, suc, Bool, true, if◌then◌else◌, Option, Some, None, List}
+use Rattle.std.specs.Prelude.{◌≡◌, ◌++◌, ◌∷◌, [], ℕ, suc, Bool, true, if◌then◌else◌, Option, Some, None, List, get_or}
 use Rattle.model.specs.World.{World}
 use Rattle.model.specs.Schedule.{Step as Done, Started, Ended, IsLawfulStep}
 use Rattle.model.specs.Phases.{NoLoadIsDue}
@@ -55,3 +55,31 @@ pub record MayBeDone (tells : Bool) (course : Course) (graph : Graph) (i stamp :
   pub before : List Done
   pub last : on.steps ≡ before ++ Ended i true ∷ []
   pub well : EndedWell tells course.behaviour course.format course.own (edges_of course) on.steps i stamp course.entry now
+
+-- ---- what is left of it
+
+-- its command was taken in, of some course
+abbrev pub IsTakenInOf : Bool → List ℕ → Graph → ℕ → ℕ → Bool → Told → State → World → Type 0
+IsTakenInOf tells tick graph edge stamp ok told state now = (course : Course) × Suits course tick graph × IsTakenIn tells course graph (suc edge) stamp ok told state now
+
+-- of each such course, by the stamp that is noted for the edge, the run goes on once that is recorded,
+abbrev pub RecordsOn : Bool → Setting → ℕ → Bool → Told → World → World → State → State → Type 0
+RecordsOn tells setting edge ok told old new before after =
+    (course : Course) → Suits course setting.tick.now setting.graph.now → IsTakenIn tells course setting.graph.now (suc edge) (get_or before.starts.items edge 0) ok told before old
+    → IsOn tells course setting.graph.now None after new
+
+-- or a fault has cut it off
+abbrev pub CutsRecord : Bool → Setting → ℕ → Bool → Told → World → World → State → State → Type 0
+CutsRecord tells setting edge ok told old new before after =
+    (course : Course) → Suits course setting.tick.now setting.graph.now → IsTakenIn tells course setting.graph.now (suc edge) (get_or before.starts.items edge 0) ok told before old
+    → IsCut tells course setting.graph.now after.plan new
+
+-- where it ended well, it may be recorded that it is done once what it told is,
+abbrev pub MayBeDoneThen : Bool → Setting → ℕ → ℕ → Told → World → World → State → State → Type 0
+MayBeDoneThen tells setting edge stamp told old new before after =
+    (course : Course) → Suits course setting.tick.now setting.graph.now → IsTakenIn tells course setting.graph.now (suc edge) stamp true told before old → MayBeDone tells course setting.graph.now (suc edge) stamp after new
+
+-- or a fault has cut the run off
+abbrev pub CutsTelling : Bool → Setting → ℕ → ℕ → Told → World → World → State → State → Type 0
+CutsTelling tells setting edge stamp told old new before after =
+    (course : Course) → Suits course setting.tick.now setting.graph.now → IsTakenIn tells course setting.graph.now (suc edge) stamp true told before old → IsCut tells course setting.graph.now after.plan new

@@ -1,22 +1,18 @@
 //! Running a graph, and the dyndep files that are loaded on the way.
 
-ghost use Rattle.std.specs.Prelude.{◌≡◌, ◌<◌, List, ℕ, Option, None, false, Some, Err, IfOk, IfErr, OnOk, MatchOption};
-ghost use Rattle.model.specs.declared.graph.Edge.{Edge};
+ghost use Rattle.std.specs.Prelude.{◌≡◌, ◌<◌, ℕ, Option, None, false, Some, Err, IfOk, IfErr, OnOk, MatchOption};
 ghost use Rattle.model.specs.World.{World};
-ghost use Rattle.model.specs.Phases.{Phase};
 ghost use Rattle.model.specs.SingleBuild.{PassesNoFault};
 ghost use Rattle.theory.specs.Seen.{IsSeen};
-ghost use Rattle.graph.specs.declared.cone.Cone.{Cone as ConeOf};
 ghost use Rattle.graph.specs.declared.graph.Graph.{Graph as GraphOf};
 ghost use Rattle.graph.specs.Links.{links_of};
 ghost use Rattle.graph.specs.Told.{declared_by};
 ghost use Rattle.plan.specs.declared.step.Step.TheVariants as step;
 ghost use Rattle.plan.specs.Planned.{IsNext};
-ghost use Rattle.work.specs.declared.state.State.{State as StateOf};
 ghost use Rattle.work.specs.Course.{Course};
 ghost use Rattle.work.specs.Going.{IsCut};
 ghost use Rattle.work.specs.Ran.{AreEdgesOf, IsPauseOf};
-ghost use Rattle.work.specs.Standing.{BeginsAt, HasSourcesAt, IsRefusedAt, NoSourceIsDue, GoesWell, IsStopThere, IsStopOf, StoppedThere, HasHalted, HasPausedSo, HasEndedSo, IsBeginning, EndsFrom, DoneFrom, HaltsFrom, IsLoading, Loads, HaltsAt, IfRefused, IfFault, files_left, stop_answer};
+ghost use Rattle.work.specs.Standing.{NoSourceIsDue, GoesWell, IsStopThere, IsStopOf, IsBeginning, EndsFrom, DoneFrom, HaltsFrom, PausesFrom, HaltsOver, IsBeginningBy, AsksFrom, HaltsAsking, HaltsBehind, IsRefusedOf, EndsHalted, IsLoading, Loads, HaltsAt, IfRefused, IfFault, files_left, stop_answer};
 
 use crate::closing::finish;
 use crate::commands::unstarted_commands;
@@ -97,9 +93,9 @@ fn run_to_load<S: Site>(
     requires begins { IsBeginning S.tells tick.now graph.now cone.now state.old (S.world site.old) }
     ensures pause { IfOk result (IsPauseOf graph.now) }
     ensures well { OnOk result (GoesWell (S.world site.old) (S.world site.new)) }
-    ensures paused { IfOk result (λ pause. (course : Course) (edges : List Edge) (phases : List Phase) → BeginsAt S.tells tick.now course edges phases graph.now cone.now state.old (S.world site.old) → HasPausedSo S.tells tick.now course edges phases graph.now cone.now state.new (S.world site.new) pause) }
+    ensures paused { IfOk result (PausesFrom S.tells tick.now graph.now cone.now state.old (S.world site.old) state.new (S.world site.new)) }
     ensures stop { IfErr result (IsStopOf (S.world site.old) (S.world site.new)) }
-    ensures halted { IfErr result (λ stop. (course : Course) (edges : List Edge) (phases : List Phase) → BeginsAt S.tells tick.now course edges phases graph.now cone.now state.old (S.world site.old) → HasHalted S.tells tick.now course edges graph.now cone.now state.new (S.world site.new) stop) }
+    ensures halted { IfErr result (HaltsOver S.tells tick.now graph.now cone.now state.old (S.world site.old) state.new (S.world site.new)) }
 {
     match source_to_load(graph, &state.plan) {
         Some(file) => Ok(Pause::Load(file)),
@@ -142,12 +138,12 @@ fn ask_for_sources<S: Site>(
     state: &mut State<'_>,
 ) -> Result<(), Stop>
     requires running { (S.world site.old).stopped ≡ false }
-    requires begins { (tick : List ℕ) × (course : Course) × (edges : List Edge) × (phases : List Phase) × BeginsAt S.tells tick course edges phases graph.now cone.now state.old (S.world site.old) }
+    requires begins { IsBeginningBy S.tells graph.now cone.now state.old (S.world site.old) }
     requires made { NoSourceIsDue graph.now state.old.plan }
     ensures well { OnOk result (GoesWell (S.world site.old) (S.world site.new)) }
-    ensures asked { OnOk result ((tick : List ℕ) (course : Course) (edges : List Edge) (phases : List Phase) → BeginsAt S.tells tick course edges phases graph.now cone.now state.old (S.world site.old) → HasSourcesAt S.tells tick course edges phases graph.now cone.now state.new (S.world site.new)) }
+    ensures asked { OnOk result (AsksFrom S.tells graph.now cone.now state.old (S.world site.old) state.new (S.world site.new)) }
     ensures stop { IfErr result (IsStopOf (S.world site.old) (S.world site.new)) }
-    ensures halted { IfErr result (λ stop. (tick : List ℕ) (course : Course) (edges : List Edge) (phases : List Phase) → BeginsAt S.tells tick course edges phases graph.now cone.now state.old (S.world site.old) → HasHalted S.tells tick course edges graph.now cone.now state.new (S.world site.new) stop) }
+    ensures halted { IfErr result (HaltsAsking S.tells graph.now cone.now state.old (S.world site.old) state.new (S.world site.new)) }
 {
     log_stays();
     match check_sources(
@@ -199,7 +195,7 @@ fn given_up<S: Site>(site: &mut S, plan: &Plan, stop: Stop) -> Stop
     ensures stop { (entry : World) → IsStopThere entry (S.world site.old) stop → IsStopOf entry (S.world site.new) result }
     ensures same { IfRefused stop (λ refusal. result ≡ stop) }
     ensures faults { IfFault stop (λ fault. IfRefused result (λ refusal. ⊥)) }
-    ensures halted { (tick : List ℕ) (course : Course) (grown : List Edge) (graph : GraphOf) (cone : ConeOf) (state : StateOf) → state.plan ≡ plan.now → StoppedThere S.tells tick course grown graph cone state (S.world site.old) stop → HasHalted S.tells tick course grown graph cone state (S.world site.new) result }
+    ensures halted { HaltsBehind S.tells plan.now (S.world site.old) (S.world site.new) stop result }
 {
     match stop {
         Stop::Fault(fault) => Stop::Fault(give_up(site, plan, fault).fault()),
@@ -209,10 +205,10 @@ fn given_up<S: Site>(site: &mut S, plan: &Plan, stop: Stop) -> Stop
 
 /// After a refusal what runs is taken in, recorded and shown, which may meet a fault; a fault stays as it is.
 fn finished<S: Site>(site: &mut S, setting: Setting<'_>, state: &mut State<'_>, stop: Stop) -> Stop
-    requires refused { IfRefused stop (λ refusal. (course : Course) × (grown : List Edge) × (cone : ConeOf) × IsRefusedAt S.tells setting.tick.now course grown setting.graph.now cone state.old (S.world site.old) refusal) }
+    requires refused { IfRefused stop (IsRefusedOf S.tells setting.tick.now setting.graph.now state.old (S.world site.old)) }
     requires stop { (entry : World) × IsStopOf entry (S.world site.old) stop }
     ensures stop { (entry : World) → IsStopOf entry (S.world site.old) stop → IsStopOf entry (S.world site.new) result }
-    ensures ended { (course : Course) (grown : List Edge) (cone : ConeOf) → HasHalted S.tells setting.entry.tick.now course grown setting.entry.graph.now cone state.old (S.world site.old) stop → HasEndedSo S.tells course grown setting.entry.graph.now cone (S.world site.new) (Err result) }
+    ensures ended { EndsHalted S.tells setting.entry.tick.now setting.entry.graph.now state.old (S.world site.old) (S.world site.new) stop result }
 {
     match stop {
         Stop::Fault(fault) => Stop::Fault(fault),

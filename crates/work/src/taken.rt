@@ -15,13 +15,12 @@ ghost use Rattle.plan.specs.Changed.{AreSetAt};
 ghost use Rattle.plan.specs.Planned.{IsPlanOver, TakesStep};
 ghost use Rattle.plan.specs.Settling.{outputs_in};
 ghost use Rattle.work.specs.After.{ComesAfter};
-ghost use Rattle.work.specs.Course.{Course, Suits, IsOn};
-ghost use Rattle.work.specs.Going.{IsAwaiting, WaitsOn, WaitsCut, IsCut, IsSameBeside, HasEnded, failed_after, work_left};
+ghost use Rattle.work.specs.Going.{IsAwaiting, WaitsOn, WaitsCut, IsSameBeside, HasEnded, failed_after, work_left};
 ghost use Rattle.work.specs.Removing.{EndsByRemoving};
 ghost use Rattle.work.specs.Restat.{is_same_look, IsForgotten, LooksAnew};
-ghost use Rattle.work.specs.Starting.{IsTakenIn};
+ghost use Rattle.work.specs.Starting.{IsTakenInOf, RecordsOn, CutsRecord};
 ghost use Rattle.work.specs.Cutting.{Cuts, IfWaiting, IsOfWait};
-ghost use Rattle.work.specs.Telling.{IsEnding, ended_well};
+ghost use Rattle.work.specs.Telling.{IsEndingOf, EndsOn, CutsEnd, ended_well};
 ghost use Rattle.work.specs.Unmade.{KnowsUnmade};
 
 use crate::counts::progress;
@@ -92,7 +91,7 @@ fn take_in_told<S: Site>(
     told: &Told<'_>,
 ) -> Result<(), Cut>
     requires running { (S.world site.old).stopped ≡ false }
-    requires ending { (course : Course) × Suits course setting.tick.now setting.graph.now × IsEnding S.tells course setting.graph.now (suc edge) finished.ok told.now state.old (S.world site.old) }
+    requires ending { IsEndingOf S.tells setting.tick.now setting.graph.now edge finished.ok told.now state.old (S.world site.old) }
     ensures cuts { Cuts (S.world site.old) (S.world site.new) result }
     ensures grows { ComesAfter S.tells (S.world site.old) (S.world site.new) }
     ensures events { (S.world site.new).events ≡ (S.world site.old).events }
@@ -101,8 +100,8 @@ fn take_in_told<S: Site>(
     ensures kept { OnOk result (KnowsUnmade setting.entry.graph.now state.old state.new) }
     ensures noted { OnOk result (state.new.failed.items ≡ failed_after state.old.failed.items edge (ended_well finished.ok told.now)) }
     ensures removed { OnOk result (ended_well finished.ok told.now ≡ true → EndsByRemoving S.tells (edge_at (declared_by setting.entry.graph.now).edges (suc edge)).act (S.world site.old) (S.world site.new)) }
-    ensures on { OnOk result ((course : Course) → Suits course setting.entry.tick.now setting.entry.graph.now → IsEnding S.tells course setting.entry.graph.now (suc edge) finished.ok told.now state.old (S.world site.old) → IsOn S.tells course setting.entry.graph.now None state.new (S.world site.new)) }
-    ensures cut { OnErr result ((course : Course) → Suits course setting.entry.tick.now setting.entry.graph.now → IsEnding S.tells course setting.entry.graph.now (suc edge) finished.ok told.now state.old (S.world site.old) → IsCut S.tells course setting.entry.graph.now state.new.plan (S.world site.new)) }
+    ensures on { OnOk result (EndsOn S.tells setting.entry edge finished.ok told.now (S.world site.old) (S.world site.new) state.old state.new) }
+    ensures cut { OnErr result (CutsEnd S.tells setting.entry edge finished.ok told.now (S.world site.old) (S.world site.new) state.old state.new) }
 {
     lists_stand(setting.graph);
     log_stays();
@@ -233,7 +232,7 @@ fn record_end<S: Site>(
     told: &Told<'_>,
 ) -> Result<(), SiteFault>
     requires running { (S.world site.old).stopped ≡ false }
-    requires taken_in { (course : Course) × Suits course setting.tick.now setting.graph.now × IsTakenIn S.tells course setting.graph.now (suc edge) (get_or state.old.starts.items edge 0) ok told.now state.old (S.world site.old) }
+    requires taken_in { IsTakenInOf S.tells setting.tick.now setting.graph.now edge (get_or state.old.starts.items edge 0) ok told.now state.old (S.world site.old) }
     ensures cause { HasCause (S.world site.old) (S.world site.new) result }
     ensures grows { ComesAfter S.tells (S.world site.old) (S.world site.new) }
     ensures events { (S.world site.new).events ≡ (S.world site.old).events }
@@ -242,8 +241,8 @@ fn record_end<S: Site>(
     ensures looks { state.new.looks ≡ state.old.looks }
     ensures failed { state.new.failed ≡ state.old.failed }
     ensures removed { OnOk result (ok ≡ true → EndsByRemoving S.tells (edge_at (declared_by setting.entry.graph.now).edges (suc edge)).act (S.world site.old) (S.world site.new)) }
-    ensures on { OnOk result ((course : Course) → Suits course setting.entry.tick.now setting.entry.graph.now → IsTakenIn S.tells course setting.entry.graph.now (suc edge) (get_or state.old.starts.items edge 0) ok told.now state.old (S.world site.old) → IsOn S.tells course setting.entry.graph.now None state.new (S.world site.new)) }
-    ensures cut { OnErr result ((course : Course) → Suits course setting.entry.tick.now setting.entry.graph.now → IsTakenIn S.tells course setting.entry.graph.now (suc edge) (get_or state.old.starts.items edge 0) ok told.now state.old (S.world site.old) → IsCut S.tells course setting.entry.graph.now state.new.plan (S.world site.new)) }
+    ensures on { OnOk result (RecordsOn S.tells setting.entry edge ok told.now (S.world site.old) (S.world site.new) state.old state.new) }
+    ensures cut { OnErr result (CutsRecord S.tells setting.entry edge ok told.now (S.world site.old) (S.world site.new) state.old state.new) }
 {
     if !ok {
         return Ok(());
