@@ -1,3 +1,4 @@
+pub mod EdgeIn
 pub mod Shown
 pub mod Cut
 pub mod Removing

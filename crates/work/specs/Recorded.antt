@@ -1,5 +1,5 @@
 -- The recorded inputs that are in use, in the graph.
-use Rattle.std.specs.Prelude.{◌≡◌, ◌<◌, ◌==◌, ℕ, suc, Bool, false, true, List, [], ◌++◌, length, take, Option, Some, None, is_some, slice_get, get_or, if◌then◌else◌}
+use Rattle.std.specs.Prelude.{◌≡◌, ◌<◌, ◌==◌, ◌+◌, ℕ, suc, Bool, false, true, List, [], ◌++◌, length, take, Option, Some, None, is_some, slice_get, get_or, if◌then◌else◌}
 use Rattle.std.specs.List.{list_all}
 use Rattle.model.specs.declared.act.Act.{Act}
 use Rattle.model.specs.declared.graph.Edge.{Edge}
@@ -14,6 +14,7 @@ use Rattle.graph.specs.Told.{declared_by, recorded_by, AreSameInputs}
 use Rattle.log_text.specs.Kept.{joined}
 use Rattle.records.specs.declared.records.Records.{Records}
 use Rattle.records.specs.Known.{AreKnown}
+use Rattle.judge.specs.Facts.{AreKnownOf}
 
 -- each of these outputs has a record of this act in force, and a deps record of the same start
 abbrev pub are_known : List Record → List DepsRecord → Act → List (List ℕ) → Bool
@@ -117,3 +118,41 @@ pub record HasJoined (old new : Graph) (rs : List Record) (ds : List DepsRecord)
 -- no edge has a recorded input
 abbrev pub IsUnrecorded : Graph → Type 0
 IsUnrecorded graph = (i : ℕ) → recorded_by graph i ≡ []
+
+-- ---- what the functions of this crate leave
+
+-- the records are known of the graph, and no edge of it has a recorded input: then those that are in use join it
+abbrev pub JoinsAll : Graph → Graph → Records → Type 0
+JoinsAll old new records = (rs : List Record) (ds : List DepsRecord) → AreKnown old rs ds records → IsUnrecorded old → HasJoined old new rs ds records
+
+-- the recorded inputs of the edge are those in use, where what it had are among them
+abbrev pub JoinsEdge : Graph → Graph → Records → ℕ → Type 0
+JoinsEdge old new records edge = (rs : List Record) (ds : List DepsRecord) → AreKnown old rs ds records → MayBeJoined old rs ds edge → IsJoined new rs ds edge
+
+-- paths of the deps log keep the numbers that they have
+abbrev pub StayNumbered : Graph → Graph → Records → List (Option ℕ) → List (Option ℕ) → Type 0
+StayNumbered old new records was now = AreNumbered old (texts_of records) was → AreNumbered new (texts_of records) now
+
+-- these paths come behind just those that the numbers had
+abbrev pub AddsJust : Graph → Graph → Records → List (Option ℕ) → List ℕ → List ℕ → List (List ℕ) → Type 0
+AddsJust old new records numbers before after added = (paths : List (List ℕ)) → AreNumbered old (texts_of records) numbers → HaveJust old before paths → HaveJust new after (paths ++ added)
+
+-- what the records in force of the outputs name, up to one output more
+abbrev pub AddsNamed : Graph → Graph → Records → List (Option ℕ) → List ℕ → List ℕ → List ℕ → ℕ → Type 0
+AddsNamed old new records numbers before after outputs place =
+    (paths : List (List ℕ)) (rs : List Record) (ds : List DepsRecord) → AreKnownOf paths outputs rs ds records → AreNumbered old (texts_of records) numbers
+    → HaveJust old before (named_by paths ds outputs place) → HaveJust new after (named_by paths ds outputs (place + 1))
+
+-- all that they name
+abbrev pub PutsNamed : Graph → Graph → Records → List (Option ℕ) → List ℕ → List (List ℕ) → Type 0
+PutsNamed old new records numbers inputs outputs =
+    (rs : List Record) (ds : List DepsRecord) → AreKnown old rs ds records → AreNumbered old (texts_of records) numbers → HaveJust new inputs (all_paths_in ds outputs)
+
+-- of whatever texts of the deps log, of which this path has this text, paths keep the numbers that they have,
+abbrev pub StayNumberedBy : Graph → Graph → ℕ → List ℕ → List (Option ℕ) → List (Option ℕ) → Type 0
+StayNumberedBy old new path text was now = (texts : List (List ℕ)) → slice_get texts path ≡ Some text → AreNumbered old texts was → AreNumbered new texts now
+
+-- and this is the number of the path
+abbrev pub IsNumberBy : Graph → Graph → ℕ → List ℕ → List (Option ℕ) → ℕ → Type 0
+IsNumberBy old new path text was number =
+    (texts : List (List ℕ)) → slice_get texts path ≡ Some text → AreNumbered old texts was → (number < length new.manifest.paths) × (text_at new.manifest.paths number ≡ text)

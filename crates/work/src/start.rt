@@ -3,12 +3,13 @@
 ghost use Rattle.std.specs.Prelude.{◌≡◌, suc, ◌<◌, length, slice_set, true, false, OnOk, OnErr};
 ghost use Rattle.model.specs.Schedule.{Started};
 ghost use Rattle.model.specs.Calls.{OnlyLooks, HasCause};
-ghost use Rattle.model.specs.Graph.{edge_at, IsCommand};
+ghost use Rattle.model.specs.Graph.{IsCommand};
 ghost use Rattle.theory.specs.Seen.{StartsUnrefused};
 ghost use Rattle.graph.specs.Told.{declared_by};
 ghost use Rattle.plan.specs.declared.step.Standing.{Standing};
 ghost use Rattle.plan.specs.declared.step.Step.TheVariants as step;
 ghost use Rattle.plan.specs.Planned.{TakesStep, IsOffered, IsNext};
+ghost use Rattle.work.specs.EdgeIn.{edge_in};
 ghost use Rattle.work.specs.After.{ComesAfter};
 ghost use Rattle.work.specs.Going.{IsGoing, GoesOn, CutsOff, work_left};
 ghost use Rattle.work.specs.Starting.{IsBegunOf, LaunchesOn, CutsLaunch};
@@ -112,7 +113,7 @@ fn launch<S: Site>(
 /// What the command of an edge does.
 pub fn act(graph: &Graph, edge: EdgeId) -> &Act
     requires { IsCommand (declared_by graph.now).edges (suc edge) }
-    ensures { result.now ≡ (edge_at (declared_by graph.now).edges (suc edge)).act }
+    ensures { result.now ≡ (edge_in graph.now edge).act }
 {
     &command(graph, edge).act
 }
@@ -120,8 +121,8 @@ pub fn act(graph: &Graph, edge: EdgeId) -> &Act
 /// The command of an edge.
 pub fn command(graph: &Graph, edge: EdgeId) -> &Command
     requires { IsCommand (declared_by graph.now).edges (suc edge) }
-    ensures act { result.now.act ≡ (edge_at (declared_by graph.now).edges (suc edge)).act }
-    ensures deps { result.now.deps ≡ (edge_at (declared_by graph.now).edges (suc edge)).deps }
+    ensures act { result.now.act ≡ (edge_in graph.now edge).act }
+    ensures deps { result.now.deps ≡ (edge_in graph.now edge).deps }
 {
     match graph.manifest.action(edge) {
         Action::Alias => unreachable!(),

@@ -14,6 +14,7 @@ ghost use Rattle.plan.specs.Standing.{standing_at};
 ghost use Rattle.plan.specs.Changed.{AreSetAt};
 ghost use Rattle.plan.specs.Planned.{IsPlanOver, TakesStep};
 ghost use Rattle.plan.specs.Settling.{outputs_in};
+ghost use Rattle.work.specs.EdgeIn.{edge_in};
 ghost use Rattle.work.specs.After.{ComesAfter};
 ghost use Rattle.work.specs.Going.{IsAwaiting, WaitsOn, WaitsCut, IsSameBeside, HasEnded, failed_after, work_left};
 ghost use Rattle.work.specs.Removing.{EndsByRemoving};
@@ -99,7 +100,7 @@ fn take_in_told<S: Site>(
     ensures nearer { OnOk result (work_left state.new.plan.standings.items < work_left state.old.plan.standings.items) }
     ensures kept { OnOk result (KnowsUnmade setting.entry.graph.now state.old state.new) }
     ensures noted { OnOk result (state.new.failed.items ≡ failed_after state.old.failed.items edge (ended_well finished.ok told.now)) }
-    ensures removed { OnOk result (ended_well finished.ok told.now ≡ true → EndsByRemoving S.tells (edge_at (declared_by setting.entry.graph.now).edges (suc edge)).act (S.world site.old) (S.world site.new)) }
+    ensures removed { OnOk result (ended_well finished.ok told.now ≡ true → EndsByRemoving S.tells (edge_in setting.entry.graph.now edge).act (S.world site.old) (S.world site.new)) }
     ensures on { OnOk result (EndsOn S.tells setting.entry edge finished.ok told.now (S.world site.old) (S.world site.new) state.old state.new) }
     ensures cut { OnErr result (CutsEnd S.tells setting.entry edge finished.ok told.now (S.world site.old) (S.world site.new) state.old state.new) }
 {
@@ -240,7 +241,7 @@ fn record_end<S: Site>(
     ensures plan { state.new.plan ≡ state.old.plan }
     ensures looks { state.new.looks ≡ state.old.looks }
     ensures failed { state.new.failed ≡ state.old.failed }
-    ensures removed { OnOk result (ok ≡ true → EndsByRemoving S.tells (edge_at (declared_by setting.entry.graph.now).edges (suc edge)).act (S.world site.old) (S.world site.new)) }
+    ensures removed { OnOk result (ok ≡ true → EndsByRemoving S.tells (edge_in setting.entry.graph.now edge).act (S.world site.old) (S.world site.new)) }
     ensures on { OnOk result (RecordsOn S.tells setting.entry edge ok told.now (S.world site.old) (S.world site.new) state.old state.new) }
     ensures cut { OnErr result (CutsRecord S.tells setting.entry edge ok told.now (S.world site.old) (S.world site.new) state.old state.new) }
 {
