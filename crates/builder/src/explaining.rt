@@ -23,7 +23,7 @@ use crate::one_build::{cone_of, read_records, state_of};
 use crate::reading::{Reading, read};
 use depfile::has_reading;
 use dyndep_law::has_reading as has_dyndeps;
-use graph::{Cone, Graph};
+use graph::{Cone, Graph, lists_stand};
 use judge::Looks;
 use log_text::has_format;
 use model::{Act, Reason, SiteFault};
@@ -172,6 +172,7 @@ fn explain_run<S: Site>(
     ensures looks { OnlyLooks S.tells (S.world site.old) (S.world site.new) }
     ensures tells { IfOk result (λ explained. TellsDue S.tells graph.now cone.now state.old.plan state.old.records (S.world site.old) (S.world site.new) state.old.looks state.new.looks explained.commands.items) }
 {
+    lists_stand(graph);
     let due = check_sources(
         alloc,
         site,

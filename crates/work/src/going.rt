@@ -24,7 +24,7 @@ use crate::sources::check_sources;
 use crate::state::State;
 use crate::stop::Stop;
 use crate::summary::{Pause, Summary};
-use graph::{Cone, Graph};
+use graph::{Cone, Graph, lists_stand};
 use paths::PathId;
 use plan::{Plan, Step};
 use records::log_stays;
@@ -146,6 +146,7 @@ fn ask_for_sources<S: Site>(
     ensures halted { IfErr result (HaltsAsking S.tells graph.now cone.now state.old (S.world site.old) state.new (S.world site.new)) }
 {
     log_stays();
+    lists_stand(graph);
     match check_sources(
         alloc,
         site,
