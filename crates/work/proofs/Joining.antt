@@ -31,7 +31,7 @@ use Rattle.graph.specs.LoadedEdges.{numbers_in}
 use Rattle.graph.specs.declared.back.LoadedEdge.{LoadedEdge}
 use Rattle.graph.specs.Links.{links_of}
 use Rattle.graph.specs.Told.{declared_by, recorded_by}
-use Rattle.graph.proofs.Texts.{has_text, number_of}
+use Rattle.theory.proofs.Mapped.{has_mapped, mapped_has}
 use Rattle.records.specs.declared.records.Records.{Records}
 use Rattle.records.specs.Known.{AreKnown}
 use Rattle.judge.specs.Facts.{AreKnownOf}
@@ -213,8 +213,8 @@ same_texts paths ms ns same p = by_test (cases_Bool (has (texts_at paths ms) p))
   where
     one_way : (xs ys : List ℕ) → ((n : ℕ) → has_number xs n ≡ has_number ys n) → has (texts_at paths xs) p ≡ true → has (texts_at paths ys) p ≡ true
     one_way xs ys same h =
-        let found = number_of paths xs p h in
-        subst (λ (t : List ℕ). has (texts_at paths ys) t ≡ true) found.2 (has_text paths ys found.0 (sym (same found.0) ∙ found.1))
+        let found = mapped_has (text_at paths) xs p h in
+        subst (λ (t : List ℕ). has (texts_at paths ys) t ≡ true) found.2 (has_mapped (text_at paths) ys found.0 (sym (same found.0) ∙ found.1))
 
     by_test : (has (texts_at paths ms) p ≡ true) ⊎ (has (texts_at paths ms) p ≡ false) → has (texts_at paths ms) p ≡ has (texts_at paths ns) p
     by_test (inl there) = there ∙ sym (one_way ms ns same there)
