@@ -1,6 +1,7 @@
 //! Laws of graphs in numbers.
 
 ghost use Rattle.std.specs.Prelude.{◌≡◌, ℕ};
+ghost use Rattle.graph.specs.Extended.{FilesStand};
 ghost use Rattle.graph.specs.Links.{links_of, NeedsArePaths};
 ghost use Rattle.graph.specs.Linked.{StandFor};
 ghost use Rattle.graph.specs.ReadingOf.{ReadingStands};
@@ -27,4 +28,9 @@ pub fn lists_stand(graph: &Graph)
 /// A law, which runs nothing: what an edge reads, by its own inputs and by one phony edge among their makers.
 pub fn reading_stands(graph: &Graph)
     ensures { ReadingStands graph.now }
+{}
+
+/// A law, which runs nothing: what names a dyndep file is an edge of the graph, and the file one of its paths.
+pub fn files_stand()
+    ensures { FilesStand }
 {}

@@ -24,7 +24,7 @@ use Rattle.graph.specs.declared.back.Before.{Before}
 use Rattle.graph.specs.declared.cone.Cone.{Cone}
 use Rattle.graph.specs.declared.graph.Graph.{Graph}
 use Rattle.graph.specs.Back.{Undoes, MayBeTakenBack}
-use Rattle.graph.specs.Extended.{HasLoaded, dyndep_at}
+use Rattle.graph.specs.Extended.{HasLoaded, FilesStand, dyndep_at}
 use Rattle.graph.specs.Held.{list_at, dyndep_of}
 use Rattle.graph.specs.LoadedEdges.{numbers_in}
 use Rattle.graph.specs.Statements.{is_place}
@@ -36,7 +36,6 @@ use Rattle.records.specs.declared.records.Records.{Records}
 use Rattle.records.specs.Held.{ArePlaces}
 use Rattle.records.specs.Known.{IsOf, IsOfDeps, AreKnown, AreStillKnown}
 use Rattle.plan.specs.Extended.{MayGoOn}
-use Rattle.plan.proofs.Loaded.{file_within, namer_within}
 use Rattle.work.specs.declared.state.State.{State}
 use Rattle.work.specs.declared.report.Refusal.{Refusal}
 use Rattle.work.specs.Joined.{MayJoin, HasJoinedFile, IsCircle, IsUnjoined, StayKnown, MayShrink}
@@ -60,8 +59,8 @@ names_it graph e file is = dyndep_is graph e ∙ by_dyndep (dyndep_at graph e) i
     by_dyndep None is = absurd (false≢true is)
     by_dyndep (Some p) is = ap (λ (n : ℕ). Some (text_at graph.manifest.paths n)) (eqb-true p file is)
 
-names_other : (graph : Graph) (e file : ℕ) → file < length graph.manifest.paths → is_place (dyndep_at graph e) file ≡ false → (edge_at (declared_by graph).edges (suc e)).dyndep ≡ Some (text_at graph.manifest.paths file) → ⊥
-names_other graph e file within other is = by_dyndep (dyndep_at graph e) refl
+names_other : FilesStand → (graph : Graph) (e file : ℕ) → file < length graph.manifest.paths → is_place (dyndep_at graph e) file ≡ false → (edge_at (declared_by graph).edges (suc e)).dyndep ≡ Some (text_at graph.manifest.paths file) → ⊥
+names_other stand graph e file within other is = by_dyndep (dyndep_at graph e) refl
   where
     by_dyndep : (d : Option ℕ) → dyndep_at graph e ≡ d → ⊥
     by_dyndep None none = some_none (text_at graph.manifest.paths file) (sym is ∙ (dyndep_is graph e ∙ ap (option_map (text_at graph.manifest.paths)) none))
@@ -71,7 +70,7 @@ names_other graph e file within other is = by_dyndep (dyndep_at graph e) refl
         same = same_some (text_at graph.manifest.paths p) (text_at graph.manifest.paths file) (sym (dyndep_is graph e ∙ ap (option_map (text_at graph.manifest.paths)) some) ∙ is)
 
         number : p ≡ file
-        number = graph.apart p file (text_at graph.manifest.paths p) (slice_get-get_or graph.manifest.paths p [] (file_within graph e p some))
+        number = graph.apart p file (text_at graph.manifest.paths p) (slice_get-get_or graph.manifest.paths p [] (stand graph e p some).1)
             (slice_get-get_or graph.manifest.paths file [] within ∙ ap (λ (t : List ℕ). Some t) (sym {A = List ℕ} same))
 
 -- an edge with a file that is not loaded has no recorded inputs in use
@@ -127,12 +126,12 @@ module _ {asked : Asked} {store : Store} {graph : Graph} {cone : Cone} {state : 
     numbers = numbers_in before.edges.items
 
     -- the edges of the file are edges, and nothing is recorded of them
-    pub numbers_within : (e : ℕ) → has_number numbers e ≡ true → e < length loaded.manifest.lines
-    numbers_within e there = by_dyndep (dyndep_at graph e) refl (sym (undoes.edges e) ∙ there)
+    pub numbers_within : FilesStand → (e : ℕ) → has_number numbers e ≡ true → e < length loaded.manifest.lines
+    numbers_within stand e there = by_dyndep (dyndep_at graph e) refl (sym (undoes.edges e) ∙ there)
       where
         by_dyndep : (d : Option ℕ) → dyndep_at graph e ≡ d → is_place d file ≡ true → e < length loaded.manifest.lines
         by_dyndep None none is = absurd (false≢true is)
-        by_dyndep (Some p) some is = subst (λ (n : ℕ). e < n) (sym {A = ℕ} has_it.lines) (namer_within graph e p some)
+        by_dyndep (Some p) some is = subst (λ (n : ℕ). e < n) (sym {A = ℕ} has_it.lines) (stand graph e p some).0
 
     pub to_join : AreToJoin numbers loaded store.records store.deps
     to_join e there p is = absurd (none_recorded e (sym (undoes.edges e) ∙ there) p (ap (λ (l : List (List ℕ)). has l p) (sym (has_it.recorded (suc e))) ∙ is))
@@ -156,7 +155,7 @@ module _ {asked : Asked} {store : Store} {graph : Graph} {cone : Cone} {state : 
       none = λ e there. nothing_of graph.manifest.paths (list_at graph.recorded e) (nothing_in (recorded_by graph (suc e)) (none_recorded e (sym (undoes.edges e) ∙ there)));
     }
 
-    module _ {grown : Graph} (joined : HasJoinedOf numbers loaded grown store.records store.deps) where
+    module _ (stand : FilesStand) {grown : Graph} (joined : HasJoinedOf numbers loaded grown store.records store.deps) where
       abbrev next : List Edge
       next = (declared_by grown).edges
 
@@ -164,7 +163,7 @@ module _ {asked : Asked} {store : Store} {graph : Graph} {cone : Cone} {state : 
       by_place e p (inl there) = sym (joined.joined e there p)
       by_place e p (inr absent) =
           ap (λ (b : BuildGraph). has (recorded_inputs store b.edges (suc e)) p) joined.grown.declared
-          ∙ (ap (λ (x : Edge). has (cond x.phony [] (cond (is_some x.dyndep) [] (recorded_of store x))) p) (has_it.grown.others (suc e) (names_other graph e file may.within (sym (undoes.edges e) ∙ absent)))
+          ∙ (ap (λ (x : Edge). has (cond x.phony [] (cond (is_some x.dyndep) [] (recorded_of store x))) p) (has_it.grown.others (suc e) (names_other stand graph e file may.within (sym (undoes.edges e) ∙ absent)))
           ∙ (was_recorded (suc e) p
           ∙ ap (λ (l : List (List ℕ)). has l p) (sym (recorded_kept loaded grown joined.grown e (joined.others e absent) ∙ has_it.recorded (suc e)))))
 

@@ -25,7 +25,7 @@ use crate::report::{Refusal, Unfit};
 use crate::state::State;
 use crate::stop::Stop;
 use dyndep::{Addition, DynFault, ReadError, one_answer, parse};
-use graph::{Before, Cone, ConeFault, ExtendFault, Graph, lists_stand};
+use graph::{Before, Cone, ConeFault, ExtendFault, Graph, files_stand, lists_stand};
 use model::SiteFault;
 use paths::PathId;
 use plan::{loads_go_on, task_of};
@@ -126,6 +126,7 @@ fn join_parts(
     ensures memory { IfErr result IsMemory }
 {
     loads_go_on();
+    files_stand();
     join_inputs(alloc, graph, &mut state.records, before)?;
     let grown = cone_again(alloc, graph, cone)?;
     grow(alloc, graph, &grown, state)?;

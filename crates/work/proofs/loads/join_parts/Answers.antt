@@ -16,7 +16,7 @@ use Rattle.work.proofs.loads.join_parts.Goals as goal
 pub join_inputs-requires-clause-edges : goal.join_inputs-requires-clause-edges
 join_inputs-requires-clause-edges c e there =
     let j = c.requires.loaded.3 in
-    numbers_within j.may j.undoes j.has e there
+    numbers_within j.may j.undoes j.has c.files_stand.ensures e there
 
 pub join_inputs-requires-clause-known : goal.join_inputs-requires-clause-known
 join_inputs-requires-clause-known c =
@@ -44,7 +44,7 @@ cone_again-requires-clause-targets c k d lt =
     let store = c.requires.loaded.1 in
     let j = c.requires.loaded.3 in
     let joined = c.in_ok-join_inputs.ensures.joined graph j.has.added j.has.paths store.records store.deps j.may.known (to_join j.may j.undoes j.has) in
-    targets_within j.may j.undoes j.has joined k d lt
+    targets_within j.may j.undoes j.has c.files_stand.ensures joined k d lt
 
 pub cone_again-requires-clause-asked : goal.cone_again-requires-clause-asked
 cone_again-requires-clause-asked c =
@@ -52,11 +52,11 @@ cone_again-requires-clause-asked c =
     let store = c.requires.loaded.1 in
     let j = c.requires.loaded.3 in
     let joined = c.in_ok-join_inputs.ensures.joined graph j.has.added j.has.paths store.records store.deps j.may.known (to_join j.may j.undoes j.has) in (
-      asked_now j.may j.undoes j.has joined,
+      asked_now j.may j.undoes j.has c.files_stand.ensures joined,
       store,
-      asked_same j.may j.undoes j.has joined,
-      targets_are j.may j.undoes j.has joined,
-      recorded_now j.may j.undoes j.has joined,
+      asked_same j.may j.undoes j.has c.files_stand.ensures joined,
+      targets_are j.may j.undoes j.has c.files_stand.ensures joined,
+      recorded_now j.may j.undoes j.has c.files_stand.ensures joined,
     )
 
 pub returns-in_err-grown-clause-beside : goal.returns-in_err-grown-clause-beside
@@ -79,8 +79,8 @@ returns-in_err-grown-clause-cause c =
     passed (λ s. IfRefused s (UnjoinedOver c.args.before.now c.args.graph.now c.args.cone.now c.args.state.now)) c.in_err-grown.field-0.0 c.from_residual-in_err-grown.result c.from_residual-in_err-grown.ensures.1
     (refused_then c.in_err-grown.field-0.0 c.in_err-grown.ensures.refused (λ refusal circle asked store graph j.
     let joined = c.in_ok-join_inputs.ensures.joined graph j.has.added j.has.paths store.records store.deps j.may.known (to_join j.may j.undoes j.has) in
-    circle_by j.may j.undoes j.has joined refusal
-    (circle (asked_now j.may j.undoes j.has joined) store (asked_same j.may j.undoes j.has joined) (targets_are j.may j.undoes j.has joined) (recorded_now j.may j.undoes j.has joined))))
+    circle_by j.may j.undoes j.has c.files_stand.ensures joined refusal
+    (circle (asked_now j.may j.undoes j.has c.files_stand.ensures joined) store (asked_same j.may j.undoes j.has c.files_stand.ensures joined) (targets_are j.may j.undoes j.has c.files_stand.ensures joined) (recorded_now j.may j.undoes j.has c.files_stand.ensures joined))))
 
 pub grow-requires-clause-may : goal.grow-requires-clause-may
 grow-requires-clause-may c =
@@ -88,7 +88,7 @@ grow-requires-clause-may c =
     let store = c.requires.loaded.1 in
     let j = c.requires.loaded.3 in
     let joined = c.in_ok-join_inputs.ensures.joined graph j.has.added j.has.paths store.records store.deps j.may.known (to_join j.may j.undoes j.has) in
-    may_go_on j.may j.undoes j.has joined (c.loads_go_on.ensures graph c.args.graph.now (text_at graph.manifest.paths j.file) j.additions c.args.state.now.plan j.may.over j.may.some j.has)
+    may_go_on j.may j.undoes j.has c.files_stand.ensures joined (c.loads_go_on.ensures graph c.args.graph.now (text_at graph.manifest.paths j.file) j.additions c.args.state.now.plan j.may.over j.may.some j.has)
 
 pub grow-requires-clause-fits : goal.grow-requires-clause-fits
 grow-requires-clause-fits c =
@@ -96,7 +96,7 @@ grow-requires-clause-fits c =
     let store = c.requires.loaded.1 in
     let j = c.requires.loaded.3 in
     let joined = c.in_ok-join_inputs.ensures.joined graph j.has.added j.has.paths store.records store.deps j.may.known (to_join j.may j.undoes j.has) in
-    seen_fits j.may j.undoes j.has joined
+    seen_fits j.may j.undoes j.has c.files_stand.ensures joined
 
 pub returns-in_err-grow-clause-beside : goal.returns-in_err-grow-clause-beside
 returns-in_err-grow-clause-beside c = record {
@@ -122,8 +122,8 @@ returns-in_err-grow-clause-kept c =
 pub returns-clause-goes : goal.returns-clause-goes
 returns-clause-goes c asked store graph j =
     let joined = c.in_ok-join_inputs.ensures.joined graph j.has.added j.has.paths store.records store.deps j.may.known (to_join j.may j.undoes j.has) in
-    let recorded = recorded_now j.may j.undoes j.has joined in
-    record { joined = joined_file j.may j.undoes j.has joined; cone_of = c.in_ok-grown.ensures.cone (recorded_inputs store (declared_by c.join_inputs.new.graph).edges) recorded; planned = c.in_ok-grow.ensures.planned }
+    let recorded = recorded_now j.may j.undoes j.has c.files_stand.ensures joined in
+    record { joined = joined_file j.may j.undoes j.has c.files_stand.ensures joined; cone_of = c.in_ok-grown.ensures.cone (recorded_inputs store (declared_by c.join_inputs.new.graph).edges) recorded; planned = c.in_ok-grow.ensures.planned }
 
 pub returns-clause-room : goal.returns-clause-room
 returns-clause-room c =
