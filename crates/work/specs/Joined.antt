@@ -231,3 +231,20 @@ pub record KeepsRest (old new : State) : Type 0 where
   pub logs : new.records.logs ≡ old.records.logs
   pub starts : new.starts.items ≡ old.starts.items
   pub failed : new.failed.items ≡ old.failed.items
+
+-- ---- the cone of the same targets
+
+-- this was asked, with the edges of the graph and these targets, and its recorded inputs are in use
+abbrev pub IsAskedOver : Graph → List ℕ → Type 0
+IsAskedOver graph targets =
+    (asked : Asked) × (store : Store) × (asked.graph ≡ declared_by graph) × (targets_of (declared_graph asked) asked.targets ≡ texts_at graph.manifest.paths targets) × AreSameInputs (recorded_inputs store asked.graph.edges) (recorded_by graph)
+
+-- their cone, by each function of recorded inputs that has the same paths
+abbrev pub IsConeAgain : Graph → List ℕ → Cone → Type 0
+IsConeAgain graph targets grown = (recorded : ℕ → List (List ℕ)) → AreSameInputs recorded (recorded_by graph) → IsConeOfNumbers graph recorded targets grown
+
+-- of whatever was asked so, edges need one another in a circle
+abbrev pub IsCircleOver : Graph → List ℕ → Refusal → Type 0
+IsCircleOver graph targets refusal =
+    (asked : Asked) (store : Store) → asked.graph ≡ declared_by graph → targets_of (declared_graph asked) asked.targets ≡ texts_at graph.manifest.paths targets → AreSameInputs (recorded_inputs store asked.graph.edges) (recorded_by graph)
+    → IsCircle asked store refusal

@@ -10,6 +10,8 @@ use Rattle.judge.specs.declared.looks.Look.TheVariants.{Unasked, Absent, Stamp}
 use Rattle.judge.specs.declared.looks.Looks.{Looks}
 use Rattle.judge.specs.Looking.{HasLooked}
 use Rattle.judge.specs.Seen.{look_at, is_asked}
+use Rattle.work.specs.declared.state.State.{State}
+use Rattle.work.specs.EdgeIn.{edge_in}
 
 -- both show a file, of one stamp
 abbrev pub is_same_look : Look → Look → Bool
@@ -23,6 +25,19 @@ is_same_look (Stamp before) (Stamp after) = before == after
 pub record AreChangesOf (before after : List Look) (paths : List ℕ) (given : List Bool) : Type 0 where
   pub fits : length given ≡ length paths
   pub are : (k : ℕ) → k < length paths → flags.has given k ≡ not (is_same_look (look_at before (slice_index paths k)) (look_at after (slice_index paths k)))
+
+-- with `restat` each output of the edge was asked for
+abbrev pub AreAskedBefore : Graph → ℕ → Looks → Type 0
+AreAskedBefore graph e looks = (edge_in graph e).restat ≡ true → (p : ℕ) → has_number ((links_of graph).outputs e) p ≡ true → is_asked (look_at looks.seen.items p) ≡ true
+
+-- of each output of the edge the flag says whether what is seen of it differs from what was,
+abbrev pub FlagsDiffer : Graph → ℕ → State → State → Type 0
+FlagsDiffer graph e before after =
+    (p : ℕ) → has_number ((links_of graph).outputs e) p ≡ true → flags.has after.plan.changed.items p ≡ not (is_same_look (look_at before.looks.seen.items p) (look_at after.looks.seen.items p))
+
+-- and of other paths it is as it was
+abbrev pub FlagsStay : Graph → ℕ → State → State → Type 0
+FlagsStay graph e before after = (p : ℕ) → has_number ((links_of graph).outputs e) p ≡ false → flags.has after.plan.changed.items p ≡ flags.has before.plan.changed.items p
 
 -- Whether the flag of an output is right, by what was seen of it before and is now: where these are compared it tells whether the stamp
 -- differs, else it is set.

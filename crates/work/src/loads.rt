@@ -1,21 +1,21 @@
 //! Loading dyndep files (manual: "Dynamic Dependencies").
 
 ghost use Rattle.std.specs.Prelude.{◌≡◌, ◌<◌, ◌≤◌, ℕ, true, false, take, All, map, length, vec_len, List, IfOk, IfErr, OnOk, OnErr, Ok, Err};
-ghost use Rattle.model.specs.Graph.{Addition as Added, has_number, targets_of};
-ghost use Rattle.model.specs.Records.{Store, recorded_inputs};
-ghost use Rattle.model.specs.SingleBuild.{Asked, declared_graph};
+ghost use Rattle.model.specs.Graph.{Addition as Added, has_number};
+ghost use Rattle.model.specs.Records.{Store};
+ghost use Rattle.model.specs.SingleBuild.{Asked};
 ghost use Rattle.model.specs.Calls.{OnlyLooks, is_stop};
 ghost use Rattle.theory.specs.Seen.{Unrefused};
-ghost use Rattle.paths.specs.Told.{text_at, texts_at};
+ghost use Rattle.paths.specs.Told.{text_at};
 ghost use Rattle.graph.specs.Back.{Undoes};
 ghost use Rattle.graph.specs.Extended.{HasLoaded, IsRefusedLoad, addition_of};
 ghost use Rattle.graph.specs.LoadedEdges.{numbers_in};
-ghost use Rattle.graph.specs.Targets.{IsConeOfNumbers, IsNoConeAgain};
-ghost use Rattle.graph.specs.Told.{declared_by, recorded_by, AreSameInputs};
+ghost use Rattle.graph.specs.Targets.{IsNoConeAgain};
+ghost use Rattle.graph.specs.Told.{declared_by};
 ghost use Rattle.plan.specs.Extended.{MayGoOn, GoesOn};
 ghost use Rattle.work.specs.Cutting.{IsMet};
 ghost use Rattle.work.specs.Standing.{IsLoading, Loads, StopsAt, IsStopThere, IfRefused, IfFault, files_left};
-ghost use Rattle.work.specs.Joined.{WasHeld, IsUnread, stop_of, IsMemory, IsUnfitBy, IsCircle, MayJoin, HasRoomIn, StayKnown, IsUndone, IsLoaded, GoesOnBy, GoesOnOver, UnjoinedBy, UnjoinedOver, OfShorter, JoinsOf, WereKnown, MayShrink, KeepsRest};
+ghost use Rattle.work.specs.Joined.{WasHeld, IsUnread, stop_of, IsMemory, IsUnfitBy, IsCircle, MayJoin, HasRoomIn, StayKnown, IsUndone, IsLoaded, GoesOnBy, GoesOnOver, IsAskedOver, IsConeAgain, IsCircleOver, UnjoinedBy, UnjoinedOver, OfShorter, JoinsOf, WereKnown, MayShrink, KeepsRest};
 ghost use Rattle.work.specs.Loads.{IsSaying};
 ghost use Rattle.work.specs.Recorded.{HasGrownAt};
 
@@ -178,10 +178,10 @@ fn join_inputs(
 /// The cone of the same targets over the graph as it is now.
 fn cone_again(alloc: Global, graph: &Graph, cone: &Cone) -> Result<Cone, Stop>
     requires targets { All (λ p. p < length graph.now.manifest.paths) cone.now.targets.items }
-    requires asked { (asked : Asked) × (store : Store) × (asked.graph ≡ declared_by graph.now) × (targets_of (declared_graph asked) asked.targets ≡ texts_at graph.now.manifest.paths cone.now.targets.items) × AreSameInputs (recorded_inputs store asked.graph.edges) (recorded_by graph.now) }
+    requires asked { IsAskedOver graph.now cone.now.targets.items }
     ensures marks { IfOk result (λ grown. vec_len grown.marks ≡ length graph.now.manifest.lines) }
-    ensures cone { IfOk result (λ grown. (recorded : ℕ → List (List ℕ)) → AreSameInputs recorded (recorded_by graph.now) → IsConeOfNumbers graph.now recorded cone.now.targets.items grown) }
-    ensures refused { IfErr result (λ stop. IfRefused stop (λ refusal. (asked : Asked) (store : Store) → asked.graph ≡ declared_by graph.now → targets_of (declared_graph asked) asked.targets ≡ texts_at graph.now.manifest.paths cone.now.targets.items → AreSameInputs (recorded_inputs store asked.graph.edges) (recorded_by graph.now) → IsCircle asked store refusal)) }
+    ensures cone { IfOk result (IsConeAgain graph.now cone.now.targets.items) }
+    ensures refused { IfErr result (λ stop. IfRefused stop (IsCircleOver graph.now cone.now.targets.items)) }
     ensures memory { IfErr result IsMemory }
 {
     let targets = cone.targets.as_slice().to_vec(alloc)?;

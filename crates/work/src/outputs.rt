@@ -1,16 +1,16 @@
 //! What becomes of the outputs of a command with `restat` (manual: "Rule variables", `restat`).
 
-ghost use Rattle.std.specs.Prelude.{◌≡◌, ◌<◌, not, ℕ, IfOk, OnOk, true, false, suc, length, slice_index, slice_index_or};
+ghost use Rattle.std.specs.Prelude.{◌≡◌, ◌<◌, not, ℕ, IfOk, OnOk, false, suc, length, slice_index, slice_index_or};
 ghost use Rattle.model.specs.Calls.{OnlyLooks, HasCause};
-ghost use Rattle.model.specs.Graph.{has_number, IsCommand};
+ghost use Rattle.model.specs.Graph.{IsCommand};
 ghost use Rattle.plan.specs.Flags.{has};
 ghost use Rattle.graph.specs.Links.{links_of};
 ghost use Rattle.graph.specs.Told.{declared_by};
 ghost use Rattle.judge.specs.declared.looks.Look.TheVariants.{Unasked};
 ghost use Rattle.judge.specs.Looking.{HasLooked};
-ghost use Rattle.judge.specs.Seen.{look_at, is_asked};
+ghost use Rattle.judge.specs.Seen.{look_at};
 ghost use Rattle.work.specs.EdgeIn.{edge_in};
-ghost use Rattle.work.specs.Restat.{is_same_look, AreChangesOf, LooksAnew};
+ghost use Rattle.work.specs.Restat.{is_same_look, AreChangesOf, AreAskedBefore, LooksAnew};
 
 use crate::setting::Setting;
 use graph::{Graph, lists_stand};
@@ -44,7 +44,7 @@ pub fn ask_before<S: Site>(
     requires command { IsCommand (declared_by setting.graph.now).edges (suc edge) }
     ensures looked { HasLooked S.tells setting.entry.graph.now (S.world site.old) (S.world site.new) looks.old looks.new }
     ensures cause { HasCause (S.world site.old) (S.world site.new) result }
-    ensures asked { OnOk result ((edge_in setting.entry.graph.now edge).restat ≡ true → (p : ℕ) → has_number ((links_of setting.entry.graph.now).outputs edge) p ≡ true → is_asked (look_at looks.new.seen.items p) ≡ true) }
+    ensures asked { OnOk result (AreAskedBefore setting.entry.graph.now edge looks.new) }
 {
     if !has_restat(setting.graph, edge) {
         return Ok(());

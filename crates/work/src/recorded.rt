@@ -1,6 +1,6 @@
 //! Recorded inputs, which commands of earlier builds told in their depfiles (manual: "Depfile").
 
-ghost use Rattle.std.specs.Prelude.{◌≡◌, ◌<◌, [], ℕ, true, List, None, Some, IfOk, OnOk, OnErr, length, get_or, slice_get};
+ghost use Rattle.std.specs.Prelude.{◌≡◌, ◌<◌, [], ℕ, true, List, None, IfOk, OnOk, OnErr, length, get_or, slice_get};
 ghost use Rattle.model.specs.declared.record.Record.{Record};
 ghost use Rattle.model.specs.declared.record.DepsRecord.{DepsRecord};
 ghost use Rattle.model.specs.Graph.{has_number, outputs};

@@ -1,14 +1,10 @@
 //! Taking in a command that has ended.
 
-ghost use Rattle.std.specs.Prelude.{◌≡◌, ◌<◌, ◌++◌, ◌∷◌, [], not, ℕ, suc, None, true, false, length, get_or, IfErr, OnOk, OnErr};
-ghost use Rattle.model.specs.declared.event.Event.TheVariants.{Finish};
+ghost use Rattle.std.specs.Prelude.{◌≡◌, ◌<◌, suc, true, false, length, get_or, IfErr, OnOk, OnErr};
 ghost use Rattle.model.specs.Calls.{OnlyLooks, HasCause};
-ghost use Rattle.model.specs.Graph.{edge_at, has_number, IsCommand};
+ghost use Rattle.model.specs.Graph.{IsCommand};
 ghost use Rattle.model.specs.Schedule.{Ended};
-ghost use Rattle.plan.specs.Flags.{has};
-ghost use Rattle.graph.specs.Links.{links_of};
 ghost use Rattle.graph.specs.Told.{declared_by};
-ghost use Rattle.judge.specs.Seen.{look_at};
 ghost use Rattle.plan.specs.declared.step.Standing.{Standing};
 ghost use Rattle.plan.specs.Standing.{standing_at};
 ghost use Rattle.plan.specs.Changed.{AreSetAt};
@@ -18,10 +14,10 @@ ghost use Rattle.work.specs.EdgeIn.{edge_in};
 ghost use Rattle.work.specs.After.{ComesAfter};
 ghost use Rattle.work.specs.Going.{IsAwaiting, WaitsOn, WaitsCut, IsSameBeside, HasEnded, failed_after, work_left};
 ghost use Rattle.work.specs.Removing.{EndsByRemoving};
-ghost use Rattle.work.specs.Restat.{is_same_look, IsForgotten, LooksAnew};
+ghost use Rattle.work.specs.Restat.{FlagsDiffer, FlagsStay, IsForgotten, LooksAnew};
 ghost use Rattle.work.specs.Starting.{IsTakenInOf, RecordsOn, CutsRecord};
 ghost use Rattle.work.specs.Cutting.{Cuts, IfWaiting, IsOfWait};
-ghost use Rattle.work.specs.Telling.{IsEndingOf, EndsOn, CutsEnd, ended_well};
+ghost use Rattle.work.specs.Telling.{IsEndingOf, EndsOn, CutsEnd, RemovesWhatEnded, ended_well};
 ghost use Rattle.work.specs.Unmade.{KnowsUnmade};
 
 use crate::counts::progress;
@@ -56,7 +52,7 @@ pub fn take_in<S: Site>(
     ensures of_wait { IfErr result (IsOfWait (S.world site.old) (S.world site.new)) }
     ensures nearer { OnOk result (work_left state.new.plan.standings.items < work_left state.old.plan.standings.items) }
     ensures kept { OnOk result (KnowsUnmade setting.entry.graph.now state.old state.new) }
-    ensures removed { OnOk result ((i : ℕ) → (S.world site.new).events ≡ (S.world site.old).events ++ Finish i true ∷ [] → state.new.failed ≡ state.old.failed → EndsByRemoving S.tells (edge_at (declared_by setting.entry.graph.now).edges i).act (S.world site.old) (S.world site.new)) }
+    ensures removed { OnOk result (RemovesWhatEnded S.tells setting.entry.graph.now (S.world site.old) (S.world site.new) state.old state.new) }
     ensures on { OnOk result (WaitsOn S.tells setting.entry (S.world site.old) (S.world site.new) state.old state.new) }
     ensures cut { OnErr result (WaitsCut S.tells setting.entry (S.world site.old) (S.world site.new) state.old state.new) }
 {
@@ -202,8 +198,8 @@ fn note_compared<S: Site>(
     ensures looks { OnlyLooks S.tells (S.world site.old) (S.world site.new) }
     ensures cause { HasCause (S.world site.old) (S.world site.new) result }
     ensures nearer { work_left state.new.plan.standings.items < work_left state.old.plan.standings.items }
-    ensures changed { OnOk result ((p : ℕ) → has_number ((links_of setting.entry.graph.now).outputs edge) p ≡ true → has state.new.plan.changed.items p ≡ not (is_same_look (look_at state.old.looks.seen.items p) (look_at state.new.looks.seen.items p))) }
-    ensures unchanged { OnOk result ((p : ℕ) → has_number ((links_of setting.entry.graph.now).outputs edge) p ≡ false → has state.new.plan.changed.items p ≡ has state.old.plan.changed.items p) }
+    ensures changed { OnOk result (FlagsDiffer setting.entry.graph.now edge state.old state.new) }
+    ensures unchanged { OnOk result (FlagsStay setting.entry.graph.now edge state.old state.new) }
     ensures anew { OnOk result (LooksAnew S.tells setting.entry.graph.now edge (S.world site.old) (S.world site.new) state.old.looks state.new.looks) }
     ensures beside { IsSameBeside state.old state.new }
     ensures planned { TakesStep setting.entry.graph.now state.old.plan state.new.plan (Ended (suc edge) true) }
