@@ -23,7 +23,7 @@ use crate::one_build::{cone_of, read_records, state_of};
 use crate::reading::{Reading, read};
 use depfile::has_reading;
 use dyndep_law::has_reading as has_dyndeps;
-use graph::{Cone, Graph, lists_stand};
+use graph::{Cone, Graph};
 use judge::Looks;
 use log_text::has_format;
 use model::{Act, Reason, SiteFault};
@@ -34,8 +34,8 @@ use site::Site;
 use std::alloc::{AllocError, Global};
 use text::{Path, Text};
 use work::{
-    Options, Report, State, Stop, check_sources, first_output, join_recorded, load, path_text,
-    source_to_load,
+    Options, Report, State, Stop, check_sources, first_output, join_recorded, load, orders_stand,
+    path_text, source_to_load, sources_load,
 };
 
 /// Why commands are due that [`crate::build`] would start, by what the build files, the logs and the files say now. It takes the same
@@ -151,6 +151,7 @@ fn load_sources<S: Site>(
     ensures running { OnOk result ((S.world site.new).stopped ≡ false) }
     ensures begun { OnOk result ((tick : List ℕ) (course : Course) (edges : List Edge) (phases : List Phase) → BeginsAt S.tells tick course edges phases graph.old cone.old state.old (S.world site.old) → (many : List Edge) × (more : List Phase) × BeginsAt S.tells tick course many more graph.new cone.new state.new (S.world site.new)) }
 {
+    sources_load();
     'sources: loop {
         match source_to_load(graph, &state.plan) {
             Some(file) => load(alloc, site, graph, cone, state, file)?,
@@ -172,7 +173,7 @@ fn explain_run<S: Site>(
     ensures looks { OnlyLooks S.tells (S.world site.old) (S.world site.new) }
     ensures tells { IfOk result (λ explained. TellsDue S.tells graph.now cone.now state.old.plan state.old.records (S.world site.old) (S.world site.new) state.old.looks state.new.looks explained.commands.items) }
 {
-    lists_stand(graph);
+    orders_stand(graph);
     let due = check_sources(
         alloc,
         site,

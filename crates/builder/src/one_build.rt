@@ -41,7 +41,7 @@ use std::alloc::{AllocError, Global};
 use text::Text;
 use work::{
     Display, Options, Refusal, Report, State, Summary, first_outputs, join_recorded, path_texts,
-    run_graph,
+    phonies_record_none, run_graph,
 };
 
 /// Builds the targets, or the default ones where none is given (manual: "Default target statements").
@@ -301,6 +301,7 @@ fn plan_of(alloc: Global, graph: &Graph, cone: &Cone, limits: Limits) -> Result<
     ensures { IfOk result (IsPlanFor graph.now cone.now limits) }
 {
     task_of(graph);
+    phonies_record_none();
     Plan::new(
         alloc,
         graph,
