@@ -1,5 +1,5 @@
 -- What a graph and its run become when what a dyndep file says joins them, and why it does not.
-use Rattle.std.specs.Prelude.{◌≡◌, ◌⊎◌, ◌<◌, ◌++◌, ℕ, Bool, IsTrue, List, length, Option, None, All, Err}
+use Rattle.std.specs.Prelude.{◌≡◌, ◌⊎◌, ◌<◌, ◌++◌, ℕ, Bool, IsTrue, List, length, Option, None, All, Ok, Err}
 use Rattle.model.specs.declared.fault.SiteFault.TheVariants.{Memory}
 use Rattle.model.specs.declared.graph.Edge.{Edge}
 use Rattle.model.specs.declared.record.Record.{Record}
@@ -10,17 +10,20 @@ use Rattle.model.specs.Graph.{Addition, targets_of, IsMadeOnce}
 use Rattle.model.specs.Phases.{IsGrownBy}
 use Rattle.model.specs.Records.{Store, recorded_inputs}
 use Rattle.model.specs.SingleBuild.{Asked, IsShownCycle, asked_with, declared_graph}
+use Rattle.dyndep.specs.declared.addition.Addition.{Addition as Statement}
 use Rattle.dyndep.specs.declared.fault.DynFault.TheVariants as said
 use Rattle.dyndep.specs.declared.fault.ReadError.{ReadError}
 use Rattle.dyndep.specs.declared.fault.ReadError.TheVariants as unread
 use Rattle.plan.specs.Flags.{has}
 use Rattle.paths.specs.Told.{text_at, texts_at}
 use Rattle.graph.specs.declared.cone.Cone.{Cone}
+use Rattle.graph.specs.declared.cone.ConeFault.{ConeFault}
+use Rattle.graph.specs.declared.fault.ExtendFault.{ExtendFault}
 use Rattle.graph.specs.declared.graph.Graph.{Graph}
 use Rattle.graph.specs.Back.{Undoes}
 use Rattle.graph.specs.declared.back.Before.{Before}
-use Rattle.graph.specs.Extended.{HasLoaded, IsUnfit, IsRemadeBy}
-use Rattle.graph.specs.Targets.{IsConeOfNumbers}
+use Rattle.graph.specs.Extended.{HasLoaded, IsUnfit, IsRemadeBy, IsRefusedLoad}
+use Rattle.graph.specs.Targets.{IsConeOfNumbers, IsNoConeAgain}
 use Rattle.graph.specs.Told.{declared_by, recorded_by, AreSameInputs}
 use Rattle.judge.specs.Seen.{look_at}
 use Rattle.records.specs.declared.records.Records.{Records}
@@ -248,3 +251,21 @@ abbrev pub IsCircleOver : Graph → List ℕ → Refusal → Type 0
 IsCircleOver graph targets refusal =
     (asked : Asked) (store : Store) → asked.graph ≡ declared_by graph → targets_of (declared_graph asked) asked.targets ≡ texts_at graph.manifest.paths targets → AreSameInputs (recorded_inputs store asked.graph.edges) (recorded_by graph)
     → IsCircle asked store refusal
+
+-- ---- what a fault of the graph says
+
+-- the additions do not fit the edges of the graph, or make a path anew
+abbrev pub IsUnfitAt : ℕ → List Addition → Graph → Refusal → Type 0
+IsUnfitAt file additions graph refusal = IsUnfitBy (declared_by graph).edges (text_at graph.manifest.paths file) additions refusal
+
+-- so it is of each load that ended by the fault
+abbrev pub IsUnfitOf : List ℕ → ExtendFault → Refusal → Type 0
+IsUnfitOf path fault refusal = (of : Graph) (additions : List Addition) → IsRefusedLoad of path additions fault → IsUnfitBy (declared_by of).edges path additions refusal
+
+-- edges need one another in a circle, of whatever was asked, if by that there is no cone again
+abbrev pub IsCircleOf : List (List ℕ) → ConeFault → Refusal → Type 0
+IsCircleOf paths fault refusal = (asked : Asked) (store : Store) → IsNoConeAgain asked store paths fault → IsCircle asked store refusal
+
+-- the file at the path said this
+abbrev pub WasSaid : Bool → List ℕ → World → World → List Statement → Type 0
+WasSaid tells path old new additions = WasHeld tells path (IsSaying (Ok additions)) old new

@@ -7,6 +7,7 @@ use Rattle.model.specs.SingleBuild.{task_of}
 use Rattle.theory.specs.Run.{IsRun}
 use Rattle.graph.specs.declared.graph.Graph.{Graph}
 use Rattle.theory.specs.Ledger.{IsCutOff}
+use Rattle.plan.specs.declared.plan.Plan.{Plan}
 use Rattle.plan.specs.declared.step.End.TheVariants as ending
 use Rattle.plan.specs.declared.step.Step.TheVariants.{Ended as Over}
 use Rattle.plan.specs.Planned.{IsNextOf}
@@ -17,8 +18,9 @@ use Rattle.work.specs.declared.summary.Pause.{Pause}
 use Rattle.work.specs.declared.summary.Pause.TheVariants.{Load, Ended}
 use Rattle.work.specs.declared.summary.Summary.{Summary}
 use Rattle.work.specs.declared.summary.Summary.TheVariants.{Well, Failed}
+use Rattle.work.specs.declared.turn.Halt.{Halt}
 use Rattle.work.specs.Course.{Course, edges_of, IsSince}
-use Rattle.work.specs.Going.{IsInHand, IsAtLoad, IsFinished, From}
+use Rattle.work.specs.Going.{IsInHand, IsAtLoad, IsFinished, IsHalted, IsCut, From}
 use Rattle.work.specs.Removing.{AreRemoved}
 
 -- a run that was not cut off went on until nothing was left to do
@@ -78,3 +80,14 @@ CutsStay tells old new =
 abbrev pub IsPauseOf : Graph → Pause → Type 0
 IsPauseOf graph (Load file) = file < length graph.manifest.paths
 IsPauseOf graph (Ended summary) = AreEdgesOf graph summary
+
+-- ---- why a run pauses
+
+-- each run that halted so has paused so
+abbrev pub Pauses : State → State → Halt → Pause → Type 0
+Pauses old new halt pause =
+    (tells : Bool) (course : Course) (graph : Graph) (now : World) → IsHalted tells course graph old now halt → HasPaused tells course graph new now (Ok pause) × IsPauseOf graph pause
+
+-- of each run that the fault cut off, it has ended so
+abbrev pub EndsCut : Bool → Plan → World → World → Cut → Type 0
+EndsCut tells plan old new cut = (course : Course) (graph : Graph) → IsCut tells course graph plan old → HasRun tells course new (Err cut)

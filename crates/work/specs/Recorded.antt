@@ -13,7 +13,7 @@ use Rattle.graph.specs.Held.{list_at}
 use Rattle.graph.specs.Told.{declared_by, recorded_by, AreSameInputs}
 use Rattle.log_text.specs.Kept.{joined}
 use Rattle.records.specs.declared.records.Records.{Records}
-use Rattle.records.specs.Known.{AreKnown}
+use Rattle.records.specs.Known.{IsOf, IsOfDeps, AreKnown}
 use Rattle.judge.specs.Facts.{AreKnownOf}
 
 -- each of these outputs has a record of this act in force, and a deps record of the same start
@@ -156,3 +156,16 @@ StayNumberedBy old new path text was now = (texts : List (List ℕ)) → slice_g
 abbrev pub IsNumberBy : Graph → Graph → ℕ → List ℕ → List (Option ℕ) → ℕ → Type 0
 IsNumberBy old new path text was number =
     (texts : List (List ℕ)) → slice_get texts path ≡ Some text → AreNumbered old texts was → (number < length new.manifest.paths) × (text_at new.manifest.paths number ≡ text)
+
+-- ---- what is known of outputs
+
+-- whether the output is known to be of this act, by whatever records these are
+abbrev pub IsKnownBy : Act → ℕ → Records → Bool → Type 0
+IsKnownBy act output records known =
+    (paths : List (List ℕ)) (rs : List Record) (ds : List DepsRecord) → IsOf rs paths records → IsOfDeps ds paths records → output < length paths
+    → known ≡ is_known act (in_force rs (text_at paths output)) (deps_in_force ds (text_at paths output))
+
+-- whether each of them is
+abbrev pub AreKnownBy : Act → List ℕ → Records → Bool → Type 0
+AreKnownBy act outputs records known =
+    (paths : List (List ℕ)) (rs : List Record) (ds : List DepsRecord) → AreKnownOf paths outputs rs ds records → known ≡ are_known rs ds act (texts_at paths outputs)

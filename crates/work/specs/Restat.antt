@@ -1,5 +1,5 @@
 -- Outputs of commands with `restat` (manual: "Rule variables"): which of them count as changed.
-use Rattle.std.specs.Prelude.{◌≡◌, ◌<◌, ◌==◌, not, ℕ, Bool, true, false, List, length, slice_index}
+use Rattle.std.specs.Prelude.{◌≡◌, ◌<◌, ◌==◌, not, ℕ, Bool, true, false, List, length, slice_index, slice_index_or}
 use Rattle.plan.specs.Flags as flags
 use Rattle.model.specs.World.{World}
 use Rattle.model.specs.Graph.{has_number}
@@ -25,6 +25,15 @@ is_same_look (Stamp before) (Stamp after) = before == after
 pub record AreChangesOf (before after : List Look) (paths : List ℕ) (given : List Bool) : Type 0 where
   pub fits : length given ≡ length paths
   pub are : (k : ℕ) → k < length paths → flags.has given k ≡ not (is_same_look (look_at before (slice_index paths k)) (look_at after (slice_index paths k)))
+
+-- this was seen of each of these paths
+abbrev pub AreLooksOf : List Look → List ℕ → List Look → Type 0
+AreLooksOf looks paths seen = (length seen ≡ length paths) × ((k : ℕ) → k < length paths → slice_index_or seen k Unasked ≡ look_at looks (slice_index paths k))
+
+-- each flag says whether what is seen of the path at its place differs from what was
+abbrev pub AreFlagsOf : List Look → List ℕ → List Look → List Bool → Type 0
+AreFlagsOf looks paths before given =
+    (length given ≡ length paths) × ((k : ℕ) → k < length paths → flags.has given k ≡ not (is_same_look (slice_index_or before k Unasked) (look_at looks (slice_index paths k))))
 
 -- with `restat` each output of the edge was asked for
 abbrev pub AreAskedBefore : Graph → ℕ → Looks → Type 0

@@ -1,22 +1,21 @@
 //! Loading dyndep files (manual: "Dynamic Dependencies").
 
-ghost use Rattle.std.specs.Prelude.{◌≡◌, ◌<◌, ◌≤◌, ℕ, true, false, take, All, map, length, vec_len, List, IfOk, IfErr, OnOk, OnErr, Ok, Err};
-ghost use Rattle.model.specs.Graph.{Addition as Added, has_number};
+ghost use Rattle.std.specs.Prelude.{◌≡◌, ◌<◌, ◌≤◌, ℕ, true, false, take, All, map, length, vec_len, IfOk, IfErr, OnOk, OnErr, Ok, Err};
+ghost use Rattle.model.specs.Graph.{has_number};
 ghost use Rattle.model.specs.Records.{Store};
 ghost use Rattle.model.specs.SingleBuild.{Asked};
 ghost use Rattle.model.specs.Calls.{OnlyLooks, is_stop};
 ghost use Rattle.theory.specs.Seen.{Unrefused};
 ghost use Rattle.paths.specs.Told.{text_at};
 ghost use Rattle.graph.specs.Back.{Undoes};
-ghost use Rattle.graph.specs.Extended.{HasLoaded, IsRefusedLoad, addition_of};
+ghost use Rattle.graph.specs.Extended.{HasLoaded, addition_of};
 ghost use Rattle.graph.specs.LoadedEdges.{numbers_in};
 ghost use Rattle.graph.specs.Targets.{IsNoConeAgain};
 ghost use Rattle.graph.specs.Told.{declared_by};
 ghost use Rattle.plan.specs.Extended.{MayGoOn, GoesOn};
 ghost use Rattle.work.specs.Cutting.{IsMet};
 ghost use Rattle.work.specs.Standing.{IsLoading, Loads, StopsAt, IsStopThere, IfRefused, IfFault, files_left};
-ghost use Rattle.work.specs.Joined.{WasHeld, IsUnread, stop_of, IsMemory, IsUnfitBy, IsCircle, MayJoin, HasRoomIn, StayKnown, IsUndone, IsLoaded, GoesOnBy, GoesOnOver, IsAskedOver, IsConeAgain, IsCircleOver, UnjoinedBy, UnjoinedOver, OfShorter, JoinsOf, WereKnown, MayShrink, KeepsRest};
-ghost use Rattle.work.specs.Loads.{IsSaying};
+ghost use Rattle.work.specs.Joined.{IsUnread, stop_of, IsMemory, MayJoin, HasRoomIn, StayKnown, IsUndone, IsLoaded, GoesOnBy, GoesOnOver, IsAskedOver, IsConeAgain, IsCircleOver, IsUnfitAt, IsUnfitOf, IsCircleOf, WasSaid, UnjoinedBy, UnjoinedOver, OfShorter, JoinsOf, WereKnown, MayShrink, KeepsRest};
 ghost use Rattle.work.specs.Recorded.{HasGrownAt};
 
 use crate::names::{path_text, path_texts};
@@ -145,7 +144,7 @@ fn extend(
     ensures loaded { OnOk result (HasLoaded graph.old graph.new (text_at graph.old.manifest.paths file) (map addition_of additions.now)) }
     ensures before { IfOk result (λ before. Undoes graph.old graph.new file before) }
     ensures err { OnErr result (graph.new ≡ graph.old) }
-    ensures refused { IfErr result (λ stop. IfRefused stop (IsUnfitBy (declared_by graph.old).edges (text_at graph.old.manifest.paths file) (map addition_of additions.now))) }
+    ensures refused { IfErr result (λ stop. IfRefused stop (IsUnfitAt file (map addition_of additions.now) graph.old)) }
     ensures memory { IfErr result IsMemory }
 {
     match graph.extend(alloc, additions, file) {
@@ -219,7 +218,7 @@ fn additions_in<S: Site>(
     ensures looks { OnlyLooks S.tells (S.world site.old) (S.world site.new) }
     ensures earlier { (S.world site.new).earlier ≡ (S.world site.old).earlier }
     ensures unrefused { OnOk result (Unrefused (S.world site.old) (S.world site.new)) }
-    ensures read { IfOk result (λ additions. WasHeld S.tells (text_at graph.now.manifest.paths file) (IsSaying (Ok additions)) (S.world site.old) (S.world site.new)) }
+    ensures read { IfOk result (WasSaid S.tells (text_at graph.now.manifest.paths file) (S.world site.old) (S.world site.new)) }
     ensures calm { IfErr result (λ stop. IfRefused stop (λ refusal. Unrefused (S.world site.old) (S.world site.new))) }
     ensures refused { IfErr result (λ stop. IfRefused stop (IsUnread S.tells (text_at graph.now.manifest.paths file) (S.world site.old) (S.world site.new))) }
     ensures met { IfErr result (λ stop. IfFault stop (IsMet (S.world site.old) (S.world site.new))) }
@@ -248,7 +247,7 @@ fn unread(path: Path, error: ReadError) -> Stop
 
 /// Why what the file says does not join the graph.
 fn unfit(alloc: Global, graph: &Graph, file: PathId, fault: ExtendFault) -> Result<Stop, AllocError>
-    ensures refused { IfOk result (λ stop. IfRefused stop (λ refusal. (of : Graph) (additions : List Added) → IsRefusedLoad of (text_at graph.now.manifest.paths file) additions fault → IsUnfitBy (declared_by of).edges (text_at graph.now.manifest.paths file) additions refusal)) }
+    ensures refused { IfOk result (λ stop. IfRefused stop (IsUnfitOf (text_at graph.now.manifest.paths file) fault)) }
     ensures memory { IfOk result IsMemory }
 {
     match fault {
@@ -264,7 +263,7 @@ fn unfit(alloc: Global, graph: &Graph, file: PathId, fault: ExtendFault) -> Resu
 /// Why the targets have no cone any more.
 fn circle(alloc: Global, graph: &Graph, fault: ConeFault) -> Result<Stop, AllocError>
     requires { (asked : Asked) × (store : Store) × IsNoConeAgain asked store graph.now.manifest.paths fault }
-    ensures refused { IfOk result (λ stop. IfRefused stop (λ refusal. (asked : Asked) (store : Store) → IsNoConeAgain asked store graph.now.manifest.paths fault → IsCircle asked store refusal)) }
+    ensures refused { IfOk result (λ stop. IfRefused stop (IsCircleOf graph.now.manifest.paths fault)) }
     ensures memory { IfOk result IsMemory }
 {
     match fault {

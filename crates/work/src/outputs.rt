@@ -1,16 +1,13 @@
 //! What becomes of the outputs of a command with `restat` (manual: "Rule variables", `restat`).
 
-ghost use Rattle.std.specs.Prelude.{◌≡◌, ◌<◌, not, ℕ, IfOk, OnOk, false, suc, length, slice_index, slice_index_or};
+ghost use Rattle.std.specs.Prelude.{◌≡◌, ◌<◌, IfOk, OnOk, false, suc, length};
 ghost use Rattle.model.specs.Calls.{OnlyLooks, HasCause};
 ghost use Rattle.model.specs.Graph.{IsCommand};
-ghost use Rattle.plan.specs.Flags.{has};
 ghost use Rattle.graph.specs.Links.{links_of};
 ghost use Rattle.graph.specs.Told.{declared_by};
-ghost use Rattle.judge.specs.declared.looks.Look.TheVariants.{Unasked};
 ghost use Rattle.judge.specs.Looking.{HasLooked};
-ghost use Rattle.judge.specs.Seen.{look_at};
 ghost use Rattle.work.specs.EdgeIn.{edge_in};
-ghost use Rattle.work.specs.Restat.{is_same_look, AreChangesOf, AreAskedBefore, LooksAnew};
+ghost use Rattle.work.specs.Restat.{is_same_look, AreChangesOf, AreLooksOf, AreFlagsOf, AreAskedBefore, LooksAnew};
 
 use crate::setting::Setting;
 use graph::{Graph, lists_stand};
@@ -79,7 +76,7 @@ pub fn changes<S: Site>(
 
 /// What was seen of these paths.
 fn looks_of(alloc: Global, looks: &Looks, paths: &[PathId]) -> Result<Vec<Look>, AllocError>
-    ensures { IfOk result (λ seen. (length seen.items ≡ length paths.now) × ((k : ℕ) → k < length paths.now → slice_index_or seen.items k Unasked ≡ look_at looks.now.seen.items (slice_index paths.now k))) }
+    ensures { IfOk result (λ seen. AreLooksOf looks.now.seen.items paths.now seen.items) }
 {
     let mut seen = Vec::with_capacity(alloc, paths.len())?;
     for path in paths {
@@ -96,7 +93,7 @@ fn flags_of(
     before: &[Look],
 ) -> Result<Vec<bool>, AllocError>
     requires { length before.now ≡ length paths.now }
-    ensures { IfOk result (λ flags. (length flags.items ≡ length paths.now) × ((k : ℕ) → k < length paths.now → has flags.items k ≡ not (is_same_look (slice_index_or before.now k Unasked) (look_at looks.now.seen.items (slice_index paths.now k))))) }
+    ensures { IfOk result (λ flags. AreFlagsOf looks.now.seen.items paths.now before.now flags.items) }
 {
     let mut flags = Vec::with_capacity(alloc, paths.len())?;
     for place in 0..paths.len() {

@@ -4,16 +4,13 @@ ghost use Rattle.std.specs.Prelude.{◌≡◌, ◌<◌, [], ℕ, true, List, Non
 ghost use Rattle.model.specs.declared.record.Record.{Record};
 ghost use Rattle.model.specs.declared.record.DepsRecord.{DepsRecord};
 ghost use Rattle.model.specs.Graph.{has_number, outputs};
-ghost use Rattle.model.specs.Records.{in_force, deps_in_force, is_known};
-ghost use Rattle.paths.specs.Told.{text_at, texts_at};
 ghost use Rattle.graph.specs.Held.{list_at};
 ghost use Rattle.graph.specs.Links.{links_of};
 ghost use Rattle.graph.specs.LoadedEdges.{numbers_in};
 ghost use Rattle.log_text.specs.Kept.{if_some, texts_at as logged_at};
-ghost use Rattle.records.specs.Known.{IsOf, IsOfDeps, AreKnown};
-ghost use Rattle.judge.specs.Facts.{AreKnownOf};
+ghost use Rattle.records.specs.Known.{AreKnown};
 ghost use Rattle.work.specs.EdgeIn.{edge_in};
-ghost use Rattle.work.specs.Recorded.{JoinsAll, JoinsEdge, StayNumbered, AddsJust, AddsNamed, PutsNamed, StayNumberedBy, IsNumberBy, are_known, is_in_use, HasMorePaths, HasOnlyMorePaths, HasGrownAt, Joins, AreNumbered, IsNumberedToo, IsShared, deps_place, texts_of};
+ghost use Rattle.work.specs.Recorded.{IsKnownBy, AreKnownBy, JoinsAll, JoinsEdge, StayNumbered, AddsJust, AddsNamed, PutsNamed, StayNumberedBy, IsNumberBy, is_in_use, HasMorePaths, HasOnlyMorePaths, HasGrownAt, Joins, AreNumbered, IsNumberedToo, IsShared, deps_place, texts_of};
 
 use graph::{Graph, LoadedEdge, PathSet};
 use log_text::Deps;
@@ -118,7 +115,7 @@ fn is_in_use(graph: &Graph, records: &Records, edge: EdgeId) -> bool
 
 /// Whether each of these outputs is known to be of this act, with what the command told that made it.
 fn are_known(records: &Records, act: &Act, outputs: &[PathId]) -> bool
-    ensures { (paths : List (List ℕ)) (rs : List Record) (ds : List DepsRecord) → AreKnownOf paths outputs.now rs ds records.now → result ≡ are_known rs ds act.now (texts_at paths outputs.now) }
+    ensures { AreKnownBy act.now outputs.now records.now result }
 {
     for output in outputs {
         if !is_known(records, act, *output) {
@@ -130,7 +127,7 @@ fn are_known(records: &Records, act: &Act, outputs: &[PathId]) -> bool
 
 /// Whether the output is known to be of this act, with what the command told that made it.
 fn is_known(records: &Records, act: &Act, output: PathId) -> bool
-    ensures { (paths : List (List ℕ)) (rs : List Record) (ds : List DepsRecord) → IsOf rs paths records.now → IsOfDeps ds paths records.now → output < length paths → result ≡ is_known act.now (in_force rs (text_at paths output)) (deps_in_force ds (text_at paths output)) }
+    ensures { IsKnownBy act.now output records.now result }
 {
     match (records.deps(output), records.made(output)) {
         (Some(deps), Some(done)) => deps.start == done.start && done.act == *act,

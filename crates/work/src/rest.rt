@@ -10,7 +10,7 @@ ghost use Rattle.work.specs.declared.cut.Cut.TheVariants.{Other};
 ghost use Rattle.work.specs.Cut.{fault_of, HasRefusedWait, IsLeft};
 ghost use Rattle.work.specs.Cutting.{IfWaiting, SomeRuns, SoManyRun, StaysSeen, IsStoppedBy, TakesIn};
 ghost use Rattle.work.specs.Going.{IsCut};
-ghost use Rattle.work.specs.Ran.{HasRun, CutsStay};
+ghost use Rattle.work.specs.Ran.{CutsStay, EndsCut};
 
 use crate::cut::Cut;
 use model::SiteFault;
@@ -22,7 +22,7 @@ use site::Site;
 pub fn give_up<S: Site>(site: &mut S, plan: &Plan, fault: SiteFault) -> Cut
     requires met { (course : Course) × (graph : Graph) × IsCut S.tells course graph plan.now (S.world site.old) }
     requires stopped { (S.world site.old).stopped ≡ is_stop {T = Unit {0}} (Err fault) }
-    ensures ran { (course : Course) (graph : Graph) → IsCut S.tells course graph plan.now (S.world site.old) → HasRun S.tells course (S.world site.new) (Err result) }
+    ensures ran { EndsCut S.tells plan.now (S.world site.old) (S.world site.new) result }
     ensures seen { StaysSeen (S.world site.old) (S.world site.new) (Other fault) result }
     ensures first { (fault_of result ≡ fault) ⊎ (fault_of result ≡ SiteFault.Stopped) }
     ensures left { IsLeft (S.world site.new) result }

@@ -8,8 +8,8 @@ ghost use Rattle.theory.specs.Seen.{IsSeen, Unrefused, StartsUnrefused};
 ghost use Rattle.work.specs.Cut.{fault_of, IsLeft};
 ghost use Rattle.work.specs.After.{ComesAfter, LooksUnlessMore};
 ghost use Rattle.work.specs.Course.{Course};
-ghost use Rattle.work.specs.Going.{IsGoing, IsOver, IsHalted, Halts, CutsOff};
-ghost use Rattle.work.specs.Ran.{HasRun, HasPaused, PausesSo, AreEdgesOf, IsPauseOf};
+ghost use Rattle.work.specs.Going.{IsGoing, IsOver, Halts, CutsOff};
+ghost use Rattle.work.specs.Ran.{HasRun, PausesSo, Pauses, AreEdgesOf, IsPauseOf};
 ghost use Rattle.work.specs.Cutting.{Cuts};
 ghost use Rattle.graph.specs.declared.graph.Graph.{Graph};
 
@@ -81,7 +81,7 @@ fn run<S: Site>(site: &mut S, setting: Setting<'_>, state: &mut State<'_>) -> Re
 /// Why a run pauses that takes no step now. At its end the failed edges go to the summary.
 fn paused(alloc: Global, state: &mut State<'_>, halt: Halt) -> Pause
     ensures looks { state.new.looks ≡ state.old.looks }
-    ensures pauses { (tells : Bool) (course : Course) (graph : Graph) (now : World) → IsHalted tells course graph state.old now halt → HasPaused tells course graph state.new now (Ok result) × IsPauseOf graph result }
+    ensures pauses { Pauses state.old state.new halt result }
 {
     match halt {
         Halt::Load(file) => Pause::Load(file),
