@@ -194,8 +194,6 @@ fn given_up<S: Site>(site: &mut S, plan: &Plan, stop: Stop) -> Stop
     requires met { IfFault stop (λ fault. (course : Course) × (graph : GraphOf) × IsCut S.tells course graph plan.now (S.world site.old)) }
     requires stop { (entry : World) × IsStopThere entry (S.world site.old) stop }
     ensures stop { (entry : World) → IsStopThere entry (S.world site.old) stop → IsStopOf entry (S.world site.new) result }
-    ensures same { IfRefused stop (λ refusal. result ≡ stop) }
-    ensures faults { IfFault stop (λ fault. IfRefused result (λ refusal. ⊥)) }
     ensures halted { HaltsBehind S.tells plan.now (S.world site.old) (S.world site.new) stop result }
 {
     match stop {
