@@ -20,8 +20,7 @@ ghost use Rattle.work.specs.Course.{Course};
 ghost use Rattle.work.specs.Ran.{AreEdgesOf};
 ghost use Rattle.builder.specs.Build.{limits_of, Builds, IsBuild};
 ghost use Rattle.builder.specs.Parts.{BuildsAsked, BuildsGraph, BuildsReading, IsReportOfNoGraph};
-ghost use Rattle.model.specs.Phases.{Phase};
-ghost use Rattle.work.specs.Standing.{BeginsAt};
+ghost use Rattle.work.specs.Standing.{IsBeginning};
 ghost use Rattle.builder.specs.Reported.{IsFresh, IsReported};
 ghost use Rattle.builder.specs.Reports.{report_in, IsLinked, HasRead, IsConeRecorded, SaysNoCone, SaysFault, ShowsFault, IsPlanFor, SaysEnd};
 
@@ -246,7 +245,7 @@ fn run_state<S: Site>(
     state: &mut State<'_>,
 ) -> Result<Report, Report>
     requires running { (S.world site.old).stopped ≡ false }
-    requires begins { (course : Course) × (edges : List Edge) × (phases : List Phase) × BeginsAt S.tells tick.now course edges phases graph.old cone.old state.old (S.world site.old) }
+    requires begins { IsBeginning S.tells tick.now graph.old cone.old state.old (S.world site.old) }
     ensures { IsReported S.tells tick.now graph.old cone.old state.old (S.world site.old) graph.new cone.new (S.world site.new) (report_in result) }
 {
     let summary = run_graph(alloc, site, graph, cone, tick, state)?;
