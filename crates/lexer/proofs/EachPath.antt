@@ -1,10 +1,10 @@
 -- Each text has a canonical path.
-use Rattle.std.proofs.Common.{◌≡◌, ◌≢◌, ◌⊎◌, inl, inr, ℕ, Bool, true, false, List, [], ◌∷◌, ◌++◌, refl, sym, ◌∙◌, ap, subst, append_assoc, append-nil}
+use Rattle.std.proofs.Common.{◌≡◌, ◌≢◌, ◌⊎◌, inl, inr, Bool, true, false, List, [], ◌∷◌, ◌++◌, refl, sym, ◌∙◌, ap, subst, append_assoc, append-nil}
 use Rattle.std.specs.Prelude.{bytes_eq}
 use Rattle.std.proofs.lemmas.Bool.{false≢true}
 use Rattle.std.proofs.lemmas.Slice.Eq.{bytes_eq-Decides}
 use Rattle.lexer.specs.Path as path
-use Rattle.lexer.specs.Path.{Part, parent, Rewrites, done, step, IsFinal, is_rooted, parts_of, IsCanonical}
+use Rattle.lexer.specs.Path.{Part, parent, Rewrites, done, step, IsFinal, is_rooted, parts_of, HasCanonical}
 use Rattle.lexer.proofs.Folding.{StopsParent, IsFinal-push, IsFinal-front}
 use Rattle.lexer.proofs.FoldLoop.{IsFinal-none}
 
@@ -65,7 +65,7 @@ fold : (rooted : Bool) (parts kept : List Part) → IsFinal rooted kept → Fold
 fold rooted [] kept final = (kept, subst (λ (ps : List Part). Rewrites rooted ps kept) (sym (append-nil kept)) done, final)
 fold rooted (part ∷ parts) kept final = by_part rooted part parts (λ k f. fold rooted parts k f) kept final (bytes_eq part parent) refl
 
-pub canonical : (text : List ℕ) → (found : List ℕ) × IsCanonical text found
-canonical text =
+pub each_has_one : HasCanonical
+each_has_one text =
     let folded = fold (is_rooted text) (parts_of text) [] (IsFinal-none (is_rooted text)) in
     (path.spelled (is_rooted text) folded.0, record { parts = folded.0; rewritten = folded.1; final = folded.2; text_is = refl })

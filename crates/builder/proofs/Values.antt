@@ -1,4 +1,4 @@
--- Lists, up to a place and from there on.
+-- What is so of a value that a call gave, and numbers from 1.
 use Rattle.std.proofs.Common.{◌≡◌, inl, inr, ◌==◌, ℕ, suc, true, List, [], ◌∷◌, map, Result, Ok, Err, IfOk, refl, ap}
 use Rattle.std.proofs.lemmas.Bool.{eqb-true, eq-eqb, or_cases, or_left, false≢true}
 use Rattle.model.specs.Graph.{has_number}

@@ -1,7 +1,7 @@
 use Rattle.std.proofs.Common.{inl, inr, ◌∙◌, ◌∷◌, ℕ, Bool, List, sym, ap, arith}
 use Rattle.std.proofs.Math.ListN.{set}
 use Rattle.plan.proofs.Noting.{noted, noted_flagged, not_noted, all_noted}
-use Rattle.plan.proofs.plan.note_changes.Goals as goal
+use Rattle.plan.proofs.plan.note_each.Goals as goal
 
 pub loop-path-init : goal.loop-path-init
 loop-path-init c = cc
