@@ -10,6 +10,7 @@ pub mod Growing
 pub mod Place
 pub mod Expanding
 pub mod Use
+pub mod Marks
 pub mod Walk
 pub mod Steps
 pub mod WalkSteps

@@ -46,6 +46,14 @@ loop-edge-preserved c =
           (λ build is for. (rw place at c.in_ok-action.ensures.edge) past said build of are is for) (c.loop-edge.invariant.7 past said builds of are all named),
     )
 
+pub marks_at-requires-clause-within : goal.marks_at-requires-clause-within
+marks_at-requires-clause-within c =
+    let scopes : AllByRecursion (IsInScope c.args.scopes.now) (c.in-Some.edge ∷ into_iter_items c.next.new.self) = rw c.in-Some.ensures.steps.0 at c.loop-edge.invariant.4 in
+    let low = scopes.0 in
+    let len = c.as_slice.ensures.len in
+    let count = c.in_ok-marks.ensures.count in
+    omega (arith, low, len, count)
+
 pub returns-in_err-action-clause-edges : goal.returns-in_err-action-clause-edges
 returns-in_err-action-clause-edges c = λ past said builds of are all named.
     let left : length c.loop-edge.actions + length (c.in-Some.edge ∷ into_iter_items c.next.new.self) ≡ length c.args.lines.now = rw c.in-Some.ensures.steps.0 at c.loop-edge.invariant.5 in
