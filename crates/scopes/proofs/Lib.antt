@@ -8,3 +8,4 @@ mod Knowing
 mod Alone
 mod Special
 mod Few
+mod LastBound
