@@ -9,3 +9,4 @@ mod Alone
 mod Special
 mod Few
 mod Marking
+mod LastBound

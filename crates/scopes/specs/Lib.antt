@@ -1,10 +1,10 @@
 pub mod Faults
 pub mod Texts
 pub mod Bindings
-pub mod Block
 pub mod Rule
 pub mod Maps
 pub mod Moves
+pub mod Block
 pub mod Scopes
 pub mod Growing
 pub mod Place
