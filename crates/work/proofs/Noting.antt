@@ -3,7 +3,7 @@ use Rattle.std.proofs.Common.{◌≡◌, inl, inr, ℕ, zero, suc, ◌<◌, ◌=
 use Rattle.std.proofs.lemmas.Bool.{false≢true, or_cases, or_left, or_right, eqb-true, eq-eqb}
 use Rattle.model.specs.Graph.{has_number}
 use Rattle.plan.specs.Flags.{has}
-use Rattle.plan.specs.Plan.{AreFlagged}
+use Rattle.plan.specs.Changed.{AreFlagged}
 
 pub place_of : (xs : List ℕ) (p : ℕ) → has_number xs p ≡ true → (k : ℕ) × (k < length xs) × (slice_index xs k ≡ p)
 place_of [] p there = absurd (false≢true there)
