@@ -8,5 +8,5 @@ mod Knowing
 mod Alone
 mod Special
 mod Few
-mod Marking
 mod LastBound
+mod Marking

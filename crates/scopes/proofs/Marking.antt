@@ -1,22 +1,27 @@
 -- Bits of sets of keys.
-use Rattle.std.proofs.Common.{◌≡◌, ◌⊎◌, inl, inr, ◌*◌, ◌%◌, ◌^◌, ◌<◌, ◌≤◌, ℕ, zero, suc, max, true, List, [], ◌∷◌, ◌++◌, length, slice_get, get_or, String, string_bytes, Option, None, Some, IsSome, bit_or, refl, sym, ap, subst, ◌∙◌, arith}
+use Rattle.std.proofs.Common.{◌≡◌, ◌⊎◌, inl, inr, ◌+◌, ◌*◌, ◌%◌, ◌^◌, ◌<◌, ◌≤◌, ℕ, zero, suc, max, Bool, true, false, cond, List, [], ◌∷◌, ◌++◌, length, take, slice_get, get_or, String, string_bytes, Option, None, Some, IsSome, bit_or, add-one, refl, sym, ap, subst, ◌∙◌, arith}
 use Rattle.std.specs.Option.{option_and_then}
 use Rattle.std.specs.Int.{bit_at}
 use Rattle.std.specs.Str.{bytes_eq}
 use Rattle.std.specs.Map.{lookup}
+use Rattle.std.proofs.Math.Seq.{take-suc}
 use Rattle.std.proofs.lemmas.Bool.{cases_Bool, false≢true}
+use Rattle.std.proofs.lemmas.List.{take_all}
 use Rattle.std.proofs.lemmas.Slice.Eq.{bytes_eq-Decides}
 use Rattle.std.proofs.lemmas.Option.{slice_get_read}
 use Rattle.std.proofs.lemmas.Nat.{one_shl}
 use Rattle.std.proofs.lemmas.Nat.Bits.{bit_at_or, bit_at-pow_same}
+use Rattle.scopes.specs.declared.block.Bound.{Bound}
 use Rattle.scopes.specs.declared.marks.Marks.{Marks}
 use Rattle.scopes.specs.declared.scope.Scope.{Scope}
 use Rattle.scopes.specs.declared.all_scopes.Scopes.{Scopes}
+use Rattle.scopes.specs.Block.{bound_value, last_value}
 use Rattle.scopes.specs.Maps.{variable_of}
 use Rattle.scopes.specs.Moves.{Move, variable, or_else, last_in, first_in, value_at_end}
 use Rattle.scopes.specs.Scopes.{scopes_around, IsScopesOf}
 use Rattle.scopes.specs.Marks.{key, IsMarked, AreMarked, AreAmong, AreOfScopes}
 use Rattle.scopes.proofs.Few.{is_named, passed_over}
+use Rattle.scopes.proofs.LastBound.{last_push}
 
 greater_left : (x y : ℕ) → x ≡ 1 → y < 2 → max x y ≡ 1
 greater_left x y is low = omega (arith, is, low)
@@ -116,3 +121,37 @@ none_of_scopes scopes (m ∷ all) none scope marks at = absurd (let clash : m �
 -- an item of a slice of all
 pub item_at : (scopes items : List Scope) (n : ℕ) (x : Scope) → n < length items → x ≡ get_or items n x → items ≡ scopes → slice_get scopes n ≡ Some x
 item_at scopes items n x within read same = subst (λ (l : List Scope). slice_get l n ≡ Some x) same (slice_get_read items (length items) n x refl within read)
+
+-- ---- blocks
+
+-- where one name of two has a value, it has one by both
+pub either_marked : {V : Type 0} (one other : List ℕ → Option V) (mine others all : Marks) → AreMarked one mine → AreMarked other others → AreAmong mine all → AreAmong others all → AreMarked (λ name. or_else (one name) (other name)) all
+either_marked one other mine others all are more these those name some = elim (some_of (one name) (other name) some) [
+  | inl here ↦ these (key name) (are name here)
+  | inr there ↦ those (key name) (more name there)
+]
+
+-- what is bound by one binding is its name
+pub bound_marked : (bound : Bound) (marks : Marks) → IsMarked marks bound.name → AreMarked (bound_value bound) marks
+bound_marked bound marks is name some = by (bytes_eq bound.name name) refl
+  where
+    by : (same : Bool) → bytes_eq bound.name name ≡ same → IsMarked marks name
+    by true same = subst (IsMarked marks) (same_text bound.name name same) is
+    by false other = absurd (false≢true (subst (λ (b : Bool). IsSome (cond b (Some bound.value) None)) other some))
+
+-- of bindings one more was looked at
+pub few_marked : (few : List Bound) (k : ℕ) (bound : Bound) (old new : Marks) → k < length few → bound ≡ get_or few k bound → AreMarked (last_value (take k few)) old → IsMarked new bound.name → AreAmong old new → AreMarked (last_value (take (k + 1) few)) new
+few_marked few k bound old new within is are marked among name some =
+    let next : take (k + 1) few ≡ take k few ++ bound ∷ [] = rw (add-one, take-suc few k bound within) (ap (λ (b : Bound). take k few ++ b ∷ []) (sym is)) in
+    by (bytes_eq bound.name name) refl (subst IsSome (last_push (take k few) (take (k + 1) few) bound name next) some)
+  where
+    by : (same : Bool) → bytes_eq bound.name name ≡ same → IsSome (cond (bytes_eq bound.name name) (Some bound.value) (last_value (take k few) name)) → IsMarked new name
+    by true same found = subst (IsMarked new) (same_text bound.name name same) marked
+    by false other found = among (key name) (are name (subst (λ (b : Bool). IsSome (cond b (Some bound.value) (last_value (take k few) name))) other found))
+
+-- of none of them no name has a value
+pub none_named : (few : List Bound) (marks : Marks) → AreMarked (last_value (take 0 few)) marks
+none_named few marks name some = absurd (false≢true some)
+
+pub all_named : (few : List Bound) (k : ℕ) (marks : Marks) → length few ≤ k → AreMarked (last_value (take k few)) marks → AreMarked (last_value few) marks
+all_named few k marks past are = subst (λ (l : List Bound). AreMarked (last_value l) marks) (take_all k few past) are

@@ -3,8 +3,10 @@
 ghost use Rattle.std.specs.Prelude.{◌≡◌, ℕ, List, None, OnOk, OnErr};
 ghost use Rattle.std.specs.Option.{option_copied};
 ghost use Rattle.scopes.specs.Bindings.{IsBound, AreSameNames};
-ghost use Rattle.scopes.specs.Block.{block_value, last_value, first_value};
+ghost use Rattle.scopes.specs.Block.{block_value, last_value, first_value, other_value};
+ghost use Rattle.scopes.specs.Marks.{AreMarked};
 
+use crate::marks::{Marks, marks_of};
 use crate::names::{FEW, is_same};
 use indexmap::IndexMap;
 use std::alloc::{AllocError, Global};
@@ -76,6 +78,24 @@ impl Block {
         Ok(())
     }
 
+    /// The keys of the names that it binds.
+    pub(crate) fn marks(&self) -> Marks
+        ensures { AreMarked (block_value self.now) result }
+    {
+        let few = few_marks(self.few.as_slice()).and(first_marks(&self.first));
+        self.others_marks().and(few)
+    }
+
+    /// The keys of the names of the table.
+    fn others_marks(&self) -> Marks
+        ensures { AreMarked (other_value self.now) result }
+    {
+        match &self.others {
+            Some(others) => marks_of(others),
+            None => Marks::NONE,
+        }
+    }
+
     /// Binds a name in the table.
     fn bind_other(&mut self, alloc: Global, name: &str, value: Text) -> Result<(), AllocError>
         ensures ok { OnOk result (IsBound (block_value self.old) (block_value self.new) name.now value) }
@@ -117,5 +137,26 @@ fn first_value<'a>(first: &'a Option<Bound>, name: &str) -> Option<&'a Text>
     match first {
         Some(bound) if is_same(bound.name.as_str(), name) => Some(&bound.value),
         _ => None,
+    }
+}
+
+/// The keys of the names of these.
+fn few_marks(few: &[Bound]) -> Marks
+    ensures { AreMarked (last_value few.now) result }
+{
+    let mut marks = Marks::NONE;
+    for bound in few {
+        marks = marks.with(bound.name.as_str());
+    }
+    marks
+}
+
+/// The key of the name of what is bound first.
+fn first_marks(first: &Option<Bound>) -> Marks
+    ensures { AreMarked (first_value first.now) result }
+{
+    match first {
+        Some(bound) => Marks::NONE.with(bound.name.as_str()),
+        None => Marks::NONE,
     }
 }

@@ -19,11 +19,11 @@ pub struct Marks {
 
 impl Marks {
     /// No key.
-    const NONE: Marks = Marks { keys: 0 };
+    pub(crate) const NONE: Marks = Marks { keys: 0 };
 
     /// These and the key of a name.
     #[inline(always)]
-    fn with(self, name: &str) -> Marks
+    pub(crate) fn with(self, name: &str) -> Marks
         ensures marked { IsMarked result name.now }
         ensures kept { AreAmong self result }
     {
@@ -34,7 +34,7 @@ impl Marks {
 
     /// The keys of both.
     #[inline(always)]
-    fn and(self, other: Marks) -> Marks
+    pub(crate) fn and(self, other: Marks) -> Marks
         ensures these { AreAmong self result }
         ensures others { AreAmong other result }
     {
@@ -82,7 +82,7 @@ fn key_of(name: &str) -> u32
 }
 
 /// The keys of all names that have a value.
-fn marks_of<V>(values: &IndexMap<String, V>) -> Marks
+pub(crate) fn marks_of<V>(values: &IndexMap<String, V>) -> Marks
     ensures { AreMarked (get_by_text values.now) result }
 {
     let mut marks = Marks::NONE;
@@ -133,6 +133,6 @@ pub fn use_marks(scopes: &Scopes, at: &Use<'_>, scope: Marks) -> Marks
     ensures { IsOfUse scopes.now at.now result }
 {
     let of_rule = marks_of(&at.rule.variables);
-    let of_block = marks_of(&at.block.values);
+    let of_block = at.block.marks();
     scope.and(of_rule).and(of_block)
 }
