@@ -109,8 +109,10 @@ fn expand_all(
     let mut room = String::new(alloc);
     for edge in read {
         let place = EdgeId::at_below(actions.len());
-        let marks = marks_at(scopes, marks.as_slice(), edge.scope);
-        actions.push(edge.action(alloc, scopes, marks, pools, table, lines, place, &mut room)?)?;
+        let of_scope = marks_at(scopes, marks.as_slice(), edge.scope);
+        actions.push(edge.action(
+            alloc, scopes, of_scope, pools, table, lines, place, &mut room,
+        )?)?;
     }
     Ok(actions)
 }
