@@ -37,6 +37,24 @@ returns-clause-put c = λ yes.
       λ records keeps. keeps_more records (record_of taken.0 said) (taken.0 ∷ [], said) c.put_one.new.self (says taken.0 said) (c.in_ok-put_one.ensures.ok taken.0 taken.1 (map saying records) (c.take_behind.ensures.same (map saying records) keeps)),
     )
 
+pub returns-in_default-clause-table : goal.returns-in_default-clause-table
+returns-in_default-clause-table c = λ all is. (all, is)
+
+pub returns-in_err-number-clause-table : goal.returns-in_err-number-clause-table
+returns-in_err-number-clause-table c = λ all is. (all, c.take_behind.ensures.same all is)
+
+pub returns-in_default-2-clause-table : goal.returns-in_default-2-clause-table
+returns-in_default-2-clause-table c = λ all is. (all, c.take_behind.ensures.same all is)
+
+pub returns-in_err-said-clause-table : goal.returns-in_err-said-clause-table
+returns-in_err-said-clause-table c = λ all is. (all, c.take_behind.ensures.same all is)
+
+pub returns-in_default-3-clause-table : goal.returns-in_default-3-clause-table
+returns-in_default-3-clause-table c = λ all is. (all, c.take_behind.ensures.same all is)
+
+pub returns-in_err-put_one-clause-table : goal.returns-in_err-put_one-clause-table
+returns-in_err-put_one-clause-table c = λ all is. (all, c.in_err-put_one.ensures.err all (c.take_behind.ensures.same all is))
+
 pub returns-clause-table : goal.returns-clause-table
 returns-clause-table c = λ all is.
     let taken = at_some _ c.in_ok-number.field-0 (c.in-Some-2.number, c.in-Some-2.told) c.in-Some-2.is c.in_ok-number.ensures.number in
