@@ -149,9 +149,10 @@ few_marked few k bound old new within is are marked among name some =
     by true same found = subst (IsMarked new) (same_text bound.name name same) marked
     by false other found = among (key name) (are name (subst (λ (b : Bool). IsSome (cond b (Some bound.value) (last_value (take k few) name))) other found))
 
--- of none of them no name has a value
-pub none_named : (few : List Bound) (marks : Marks) → AreMarked (last_value (take 0 few)) marks
-none_named few marks name some = absurd (false≢true some)
+-- none of them binds a name
+pub none_taken : (few : List Bound) (name : List ℕ) → IsSome (last_value (take 0 few) name) → ⊥
+none_taken [] name some = false≢true some
+none_taken (bound ∷ few) name some = false≢true some
 
 pub all_named : (few : List Bound) (k : ℕ) (marks : Marks) → length few ≤ k → AreMarked (last_value (take k few)) marks → AreMarked (last_value few) marks
 all_named few k marks past are = subst (λ (l : List Bound). AreMarked (last_value l) marks) (take_all k few past) are

@@ -1,10 +1,10 @@
 use Rattle.std.proofs.Common.{subst, arith}
 use Rattle.scopes.specs.Marks.{IsMarked}
-use Rattle.scopes.proofs.Marking.{few_marked, none_named, all_named}
+use Rattle.scopes.proofs.Marking.{few_marked, none_taken, all_named}
 use Rattle.scopes.proofs.block.few_marks.Goals as goal
 
 pub loop-bound-init : goal.loop-bound-init
-loop-bound-init c = none_named c.args.few.now _
+loop-bound-init c = λ name some. absurd (none_taken c.args.few.now name some)
 
 pub loop-bound-preserved : goal.loop-bound-preserved
 loop-bound-preserved c =
