@@ -1,5 +1,6 @@
 -- The line of a record of one output.
-use Rattle.std.proofs.Common.{◌≡◌, ◌<◌, ◌^◌, ℕ, decimal, List, [], ◌∷◌, ◌++◌, Option, Some, None, refl, sym, ap, ◌∙◌, subst, arith, append_assoc}
+use Rattle.std.proofs.Common.{◌≡◌, ◌<◌, ◌^◌, ℕ, zero, suc, decimal, true, List, [], ◌∷◌, ◌++◌, length, Option, Some, None, refl, sym, ap, ◌∙◌, subst, arith, append_assoc, append-nil}
+use Rattle.std.specs.List.{flat_map}
 use Rattle.std.specs.Str.{IsUtf8, IsAscii}
 use Rattle.std.proofs.lemmas.Str.{IsUtf8-from_ascii}
 use Rattle.text.specs.Marks.{Lacks}
@@ -11,9 +12,10 @@ use Rattle.log_text.specs.declared.form.Version.{Version}
 use Rattle.log_text.specs.declared.form.Version.TheVariants.{Two}
 use Rattle.log_text.specs.Line.{field_and_tab, fields_text, line_text, field_text, AreTexts}
 use Rattle.log_text.specs.Form.{HasLine}
+use Rattle.log_text.specs.Kept.{AreDistinct}
 use Rattle.log_text.specs.BuildLog.{saying}
 use Rattle.log_text.specs.OneOutput.{IsHead, IsTextIn, IsActIn, IsDoneIn, IsSaidBehind}
-use Rattle.log_text.specs.BuildRecord.{done_fields, fields_of, forms}
+use Rattle.log_text.specs.BuildRecord.{act_fields, done_fields, fields_of, forms}
 use Rattle.log_text.proofs.Bytes.{Lacks-front, Lacks-back}
 use Rattle.log_text.proofs.Plain.{alone, one, byte_utf8}
 

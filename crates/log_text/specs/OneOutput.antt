@@ -1,5 +1,5 @@
 -- Records of one output, read from the front of their line.
-use Rattle.std.specs.Prelude.{◌≡◌, ◌<◌, ◌^◌, ℕ, List, [], ◌∷◌, ◌++◌, Option, Some, None}
+use Rattle.std.specs.Prelude.{◌≡◌, ◌<◌, ◌^◌, ℕ, List, [], ◌∷◌, ◌++◌, Option, Some, None, decimal}
 use Rattle.std.specs.Str.{IsUtf8}
 use Rattle.model.specs.declared.act.Act.{Act}
 use Rattle.log_text.specs.declared.done.Done.{Done}

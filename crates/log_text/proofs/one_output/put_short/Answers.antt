@@ -1,5 +1,6 @@
-use Rattle.std.proofs.Common.{◌∷◌, [], ◌++◌, subst, map}
+use Rattle.std.proofs.Common.{◌∷◌, [], ◌++◌, List, ℕ, sym, subst, map}
 use Rattle.text.specs.Marks.{Lacks}
+use Rattle.log_text.specs.Kept.{IsTableOf}
 use Rattle.log_text.specs.Line.{field_and_tab}
 use Rattle.log_text.specs.BuildLog.{saying}
 use Rattle.log_text.specs.OneOutput.{IsSaidBehind}
