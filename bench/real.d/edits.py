@@ -121,7 +121,8 @@ def of_contents(pair):
     ran = changed(pair, "a generated header is made as it was", lambda it: replace(it, "table.txt", "a comment", "another"))
     place.expect(len(ran.commands) == 1, "edits", f"restat is to end there: {ran.commands}")
     changed(pair, "the generator is touched", lambda it: touch(it, "make_table"))
-    changed(pair, "a generated header is touched", lambda it: touch(it, "include/table.h"))
+    # its command did not leave it so: to nj it is absent
+    changed(pair, "a generated header is touched", lambda it: touch(it, "include/table.h"), besides=["sh make_table table.txt"])
     changed(pair, "two edits at once", lambda it: (touch(it, "src/main.cc"), replace(it, "table.txt", "HEIGHT 9", "HEIGHT 1")))
     pair.edit(lambda it: write(it, "README", "x"))
     pair.rests("a file that nobody reads is written")

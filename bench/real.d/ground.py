@@ -17,7 +17,7 @@ import time
 MARK = "@ran@ "
 
 # Files of the tools' own.
-OWN = re.compile(r"(^|/)\.(nj_(log|deps|tick|out\.\d+)(\.new)?|ninja_(log|deps|lock))$")
+OWN = re.compile(r"(^|/)\.(nj_(log|deps|seen|tick|out\.\d+)(\.new)?|ninja_(log|deps|lock))$")
 
 # How long a build may take, in seconds.
 LONGEST = 900
@@ -228,9 +228,9 @@ class Pair:
     def files(self, tool, passed_over=None):
         return files_of(self.copy_of(tool), passed_over)
 
-    def step(self, what, *words, status=0, passed_over=None, same_commands=True, terminal=False):
+    def step(self, what, *words, status=0, passed_over=None, same_commands=True, terminal=False, besides=()):
         """A build of each copy: both end alike, run the same commands and leave the same files. Where commands get the
-        terminal, ninja does not show each that it ran."""
+        terminal, ninja does not show each that it ran. What nj runs besides is named by its start."""
         where = f"{self.name}, {what}"
         self.ground.step(where)
         nj, ninja = self.build("nj", *words), self.build("ninja", *words)
@@ -238,13 +238,17 @@ class Pair:
         if not self.ground.expect(ended, where, f"status {nj.status}, by ninja {ninja.status}, and not {status}: {nj.text[-900:]}"):
             print(ninja.text[-900:], file=sys.stderr)
         if same_commands:
-            self.compare_commands(where, nj, ninja, terminal)
+            self.compare_commands(where, nj, ninja, terminal, besides)
         told = differences(self.files("nj", passed_over), self.files("ninja", passed_over), self.TOOLS)
         self.ground.expect(not told, where, f"files: {in_short(told)}")
         return nj
 
-    def compare_commands(self, where, nj, ninja, terminal=False):
+    def compare_commands(self, where, nj, ninja, terminal=False, besides=()):
         more, less = only_in(nj.commands, ninja.commands), only_in(ninja.commands, nj.commands)
+        for start in besides:
+            found = [it for it in more if it.startswith(start)]
+            self.ground.expect(len(found) == 1, where, f"nj is to run {start} besides: {in_short(more)}")
+            more = [it for it in more if it not in found]
         self.ground.expect(terminal or not more, where, f"nj ran what ninja did not: {in_short(more)}")
         self.ground.expect(not less, where, f"ninja ran what nj did not: {in_short(less)}")
 

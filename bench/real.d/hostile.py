@@ -170,7 +170,7 @@ def read_only(place):
     for name in os.listdir(out):
         os.chmod(os.path.join(out, name), 0o666)
     case.is_right(case.build(**user), "outputs may be written again")
-    for path in ("build.ninja", ".nj_log"):
+    for path in ("build.ninja", ".nj_log", ".nj_seen"):
         full = os.path.join(case.folder, path)
         os.chmod(full, 0o000)
         touch(case.folder, "in/s1")
@@ -192,7 +192,7 @@ def logs_of_other_kinds(place):
     """Where logs are folders, or hold what is no log."""
     case = Case(place, "logs that are no logs")
     case.fan(4)
-    for name in (".nj_log", ".nj_tick", ".nj_log.new", ".nj_in"):
+    for name in (".nj_log", ".nj_tick", ".nj_log.new", ".nj_in", ".nj_seen", ".nj_seen.new"):
         path = os.path.join(case.folder, name)
         if os.path.exists(path):
             os.remove(path)
@@ -210,6 +210,14 @@ def logs_of_other_kinds(place):
         ran = case.build()
         case.is_right(ran, f"the log holds {held[:12]}")
         place.expect(len(ran.commands) == 4, case.where, f"a log without records runs all: {ran.commands}")
+        case.rests()
+    for held in (b"", b"nj-seen 2", b"\0" * 4096, b"nj-seen 9\n", b"nj-log 2\n", b"nj-seen 2\ns\tin/s2\t1\t1\t0\t.\nx\n"):
+        with open(os.path.join(case.folder, ".nj_seen"), "wb") as it:
+            it.write(held)
+        case.put(1, f"noted {len(held)}\n")
+        ran = case.build()
+        case.is_right(ran, f"what was noted is {held[:12]}")
+        place.expect(len(ran.commands) == 1, case.where, f"without notes stamps say what runs: {ran.commands}")
         case.rests()
 
 
@@ -415,7 +423,16 @@ def clocks(place):
     case.put(1, "edited\n")
     past = time.time() - 3600
     os.utime(os.path.join(case.folder, "in/s1"), (past, past))
-    case.rests("the premise is broken: the edit is not seen, and the build")
+    case.rests("stamps alone do not show the edit: a build by them", env={"NJ_TRUST_STAMPS": "1"})
+    ran = case.build()
+    case.is_right(ran, "the edit is seen")
+    place.expect(len(ran.commands) == 1, case.where, f"one alone is to run: {ran.commands}")
+    case.rests()
+    past -= 3600
+    case.put(1, "once more\n")
+    os.utime(os.path.join(case.folder, "in/s1"), (past, past))
+    os.remove(os.path.join(case.folder, ".nj_seen"))
+    case.rests("nothing is noted: the premise is broken, the edit is not seen, and the build")
     touch(case.folder, "in/s1")
     case.is_right(case.build(), "it is touched")
     case.rests()

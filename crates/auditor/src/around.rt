@@ -1,5 +1,7 @@
 //! What a path is to a build, apart from the edge that is looked at.
 
+ghost use Rattle.std.specs.Prelude.{◌≡◌, string_bytes};
+
 use crate::graphs::{maker_of, text_of};
 use audit::{Around, canonical_at};
 use graph::Graph;
@@ -50,7 +52,9 @@ impl Names {
     }
 
     /// The working folder, from the root.
-    pub fn folder(&self) -> &str {
+    pub fn folder(&self) -> &str
+        ensures { result.now ≡ string_bytes self.now.folder }
+    {
         self.folder.as_str()
     }
 

@@ -1,5 +1,8 @@
 //! Which folders a trace shows.
 
+ghost use Rattle.std.specs.Prelude.{OnOk};
+ghost use Rattle.auditor.specs.Things.{AddsFolders};
+
 use audit::Whole;
 use paths::{PathId, Paths};
 use std::alloc::{AllocError, Global};
@@ -12,8 +15,17 @@ pub fn push_folders(
     alloc: Global,
     folder: &str,
     wholes: &mut Items<Whole>,
-) -> Result<(), AllocError> {
+) -> Result<(), AllocError>
+    ensures { OnOk result (AddsFolders wholes.old wholes.new) }
+{
     let folders = folders_in(alloc, folder, wholes.as_slice())?;
+    push_all(alloc, &folders, wholes)
+}
+
+/// Puts at the end that each of these is a folder.
+fn push_all(alloc: Global, folders: &Paths, wholes: &mut Items<Whole>) -> Result<(), AllocError>
+    ensures { OnOk result (AddsFolders wholes.old wholes.new) }
+{
     for place in 0..folders.len() {
         if let Some(number) = PathId::at(place) {
             wholes.push(Whole {

@@ -1,5 +1,9 @@
 //! Files that a command opened by another name than the kernel has.
 
+ghost use Rattle.std.specs.Prelude.{◌≡◌, IfOk, false};
+ghost use Rattle.std.specs.List.{AllZip};
+ghost use Rattle.auditor.specs.Things.{IsGiven, may_be_renamed};
+
 use crate::around::Names;
 use audit::Whole;
 use indexmap::IndexMap;
@@ -13,14 +17,27 @@ pub fn by_given_names(
     alloc: Global,
     names: &Names,
     wholes: Items<Whole>,
-) -> Result<Items<Whole>, AllocError> {
+) -> Result<Items<Whole>, AllocError>
+    ensures { IfOk result (AllZip IsGiven wholes) }
+{
     let given = given_names(alloc, names, wholes.as_slice())?;
     if given.is_empty() {
         return Ok(wholes);
     }
+    renamed_all(alloc, &given, wholes.as_slice())
+}
+
+/// The same things by the names that were given.
+fn renamed_all(
+    alloc: Global,
+    given: &IndexMap<String, String>,
+    wholes: &[Whole],
+) -> Result<Items<Whole>, AllocError>
+    ensures { IfOk result (AllZip IsGiven wholes.now) }
+{
     let mut renamed = Items::new(alloc);
-    for whole in wholes.as_slice() {
-        renamed.push(renamed_by(alloc, &given, whole)?)?;
+    for whole in wholes {
+        renamed.push(renamed_by(alloc, given, whole)?)?;
     }
     Ok(renamed)
 }
@@ -59,7 +76,9 @@ fn renamed_by(
     alloc: Global,
     given: &IndexMap<String, String>,
     whole: &Whole,
-) -> Result<Whole, AllocError> {
+) -> Result<Whole, AllocError>
+    ensures { IfOk result (IsGiven whole.now) }
+{
     let deed = whole.deed;
     let Some(real) = &whole.real else {
         return Ok(Whole {
@@ -76,12 +95,21 @@ fn renamed_by(
 }
 
 /// The name by which the file at this path was opened, of what may be told by a descriptor alone; else the path.
-fn name_by<'n>(given: &'n IndexMap<String, String>, deed: Deed, path: &'n str) -> &'n str {
-    if deed != Deed::Asked && deed != Deed::Listed {
+fn name_by<'n>(given: &'n IndexMap<String, String>, deed: Deed, path: &'n str) -> &'n str
+    ensures { may_be_renamed deed ≡ false → result.now ≡ path.now }
+{
+    if !may_be_renamed(deed) {
         return path;
     }
     match given.get(path) {
         Some(name) => name.as_str(),
         None => path,
     }
+}
+
+/// Whether such a thing may be told by a descriptor alone.
+fn may_be_renamed(deed: Deed) -> bool
+    ensures { result ≡ may_be_renamed deed }
+{
+    matches!(deed, Deed::Asked | Deed::Listed)
 }

@@ -11,10 +11,11 @@ mod later;
 mod listed;
 mod outside;
 mod project;
+mod spelled;
 mod tally;
 mod twins;
 
 pub use dyndeps::{dyndep_in, load};
 pub use outside::Outside;
 pub use project::Auditor;
-pub use tally::Tally;
+pub use tally::{Counts, Tally};

@@ -1,5 +1,12 @@
 //! A project that is audited: what is declared and recorded, and what is told of the trace of each command.
 
+ghost use Rattle.std.specs.Prelude.{◌≡◌, IfOk, IfSome, OnOk, length, string_bytes};
+ghost use Rattle.std.specs.Option.{option_map};
+ghost use Rattle.trace.specs.Lines.{IsTold, told};
+ghost use Rattle.audit.specs.Seen.{sums_in};
+ghost use Rattle.auditor.specs.Tally.{AreFound, AreSums, IsCountedBy, IsCountedOf, TakesIn, TakesTold, Tells};
+ghost use Rattle.auditor.specs.Things.{AreThings};
+
 use crate::above::above;
 use crate::around::Names;
 use crate::folders::push_folders;
@@ -15,7 +22,7 @@ use log_text::{BuildLog, DepsLog};
 use paths::{EdgeId, PathId, Paths};
 use std::alloc::{AllocError, Global};
 use text::{Items, Path};
-use trace::{Told, read};
+use trace::{Fact, Told, read};
 
 /// What is declared and recorded, all of it as it is after the build.
 #[derive(Drop)]
@@ -84,7 +91,9 @@ impl Auditor {
         job: usize,
         trace: Option<&[u8]>,
         tally: &mut Tally,
-    ) -> Result<(), AllocError> {
+    ) -> Result<(), AllocError>
+        ensures { OnOk result (TakesIn (string_bytes self.now.names.folder) (option_map (λ trace. trace.now) trace.entry) tally.old.counts tally.new.counts) }
+    {
         let Some(edge) = EdgeId::at(job.saturating_sub(1)) else {
             return Ok(());
         };
@@ -104,27 +113,37 @@ impl Auditor {
     }
 
     /// Tells what breaks a premise of that which a trace tells of the command of the edge.
-    fn take_trace(&self, edge: EdgeId, trace: &[u8], tally: &mut Tally) -> Result<(), AllocError> {
-        match self.told_in(trace)? {
+    fn take_trace(&self, edge: EdgeId, trace: &[u8], tally: &mut Tally) -> Result<(), AllocError>
+        ensures { OnOk result (TakesTold (told (string_bytes self.now.names.folder) trace.now) tally.old.counts tally.new.counts) }
+    {
+        match self.wholes_told(trace)? {
             Some(wholes) => self.take_wholes(edge, wholes.as_slice(), tally),
             None => self.tell_not_understood(edge, tally),
         }
     }
 
-    /// What a trace tells of a command, if it is understood.
-    fn told_in(&self, trace: &[u8]) -> Result<Option<Items<Whole>>, AllocError> {
-        match read(self.alloc, self.names.folder().as_bytes(), trace)? {
-            Told::Facts(facts) => self.with_folders(wholes_of(self.alloc, facts.as_slice())?),
+    /// What a trace tells of a command, if it is understood and its paths are texts.
+    fn wholes_told(&self, trace: &[u8]) -> Result<Option<Items<Whole>>, AllocError>
+        ensures { IfOk result (λ found. IfSome found (Tells (string_bytes self.now.names.folder) trace.now)) }
+    {
+        match self.told_in(trace)? {
+            Told::Facts(facts) => self.wholes_by(facts.as_slice()),
             Told::NotUnderstood => Ok(None),
         }
     }
 
-    /// The same, by the names that were given, and which folders that shows.
-    fn with_folders(
-        &self,
-        wholes: Option<Items<Whole>>,
-    ) -> Result<Option<Items<Whole>>, AllocError> {
-        let Some(wholes) = wholes else {
+    /// What a trace tells of a command, if it is understood.
+    fn told_in(&self, trace: &[u8]) -> Result<Told, AllocError>
+        ensures { IfOk result (IsTold (string_bytes self.now.names.folder) trace.now) }
+    {
+        read(self.alloc, self.names.folder().as_bytes(), trace)
+    }
+
+    /// What these facts tell by canonical paths, by the names that were given, and which folders that shows; none where a path is no text.
+    fn wholes_by(&self, facts: &[Fact]) -> Result<Option<Items<Whole>>, AllocError>
+        ensures { IfOk result (λ found. IfSome found (AreThings facts.now)) }
+    {
+        let Some(wholes) = wholes_of(self.alloc, facts)? else {
             return Ok(None);
         };
         let mut wholes = by_given_names(self.alloc, &self.names, wholes)?;
@@ -138,7 +157,9 @@ impl Auditor {
         edge: EdgeId,
         wholes: &[Whole],
         tally: &mut Tally,
-    ) -> Result<(), AllocError> {
+    ) -> Result<(), AllocError>
+        ensures { OnOk result (IsCountedOf wholes.now tally.old.counts tally.new.counts) }
+    {
         if connects(wholes) {
             self.tell_note(
                 edge,
@@ -156,9 +177,10 @@ impl Auditor {
         wholes: &[Whole],
         lists: &Lists,
         tally: &mut Tally,
-    ) -> Result<(), AllocError> {
-        let mut uses = self.uses_in(wholes)?;
-        uses.add_untouched(self.alloc, &lists.outputs)?;
+    ) -> Result<(), AllocError>
+        ensures { OnOk result (IsCountedOf wholes.now tally.old.counts tally.new.counts) }
+    {
+        let uses = self.uses_in(wholes, &lists.outputs)?;
         self.take_uses(edge, lists, &uses, tally)
     }
 
@@ -168,22 +190,36 @@ impl Auditor {
         lists: &Lists,
         uses: &Uses,
         tally: &mut Tally,
-    ) -> Result<(), AllocError> {
+    ) -> Result<(), AllocError>
+        ensures { OnOk result (IsCountedBy lists.now (sums_in uses.now) tally.old.counts tally.new.counts) }
+    {
         let found = self.judge(edge, lists, uses, tally)?;
         let spelled = self.tell_spellings(edge, uses, tally)?;
         self.tell_looked(edge, lists, uses, tally)?;
         tally.outside.take(self.alloc, &self.names, uses)?;
-        tally.count(found.saturating_add(spelled) == 0);
+        tally.count(found == 0 && spelled == 0);
         Ok(())
     }
 
-    /// What was done at each path: those that count by their names, and the others by those that the kernel has.
-    fn uses_in(&self, wholes: &[Whole]) -> Result<Uses, AllocError> {
+    /// What was done at each path, and at each of these outputs.
+    fn uses_in(&self, wholes: &[Whole], outputs: &Paths) -> Result<Uses, AllocError>
+        ensures { IfOk result (λ uses. AreSums wholes.now outputs.now (sums_in uses)) }
+    {
+        let reals = self.reals_of(wholes)?;
+        let mut uses = uses_of(self.alloc, wholes, reals.as_slice())?;
+        uses.add_untouched(self.alloc, outputs)?;
+        Ok(uses)
+    }
+
+    /// By which path each of these counts: those that count by their names, and the others by those that the kernel has.
+    fn reals_of(&self, wholes: &[Whole]) -> Result<Vec<bool>, AllocError>
+        ensures { IfOk result (λ reals. length reals.items ≡ length wholes.now) }
+    {
         let mut reals = Vec::with_capacity(self.alloc, wholes.len())?;
         for whole in wholes {
             reals.push(!self.names.counts(whole.path.as_str()))?;
         }
-        uses_of(self.alloc, wholes, reals.as_slice())
+        Ok(reals)
     }
 
     /// Tells what breaks a premise, and answers how much it was.
@@ -193,17 +229,36 @@ impl Auditor {
         lists: &Lists,
         uses: &Uses,
         tally: &mut Tally,
-    ) -> Result<usize, AllocError> {
+    ) -> Result<usize, AllocError>
+        ensures found { IfOk result (AreFound lists.now (sums_in uses.now)) }
+        ensures counts { tally.new.counts ≡ tally.old.counts }
+    {
         let found = self.found(edge, lists, uses)?;
-        for breach in found.as_slice() {
-            let path = self.names.short(uses.path(breach.place).unwrap_or(""));
-            tally.tell(self.alloc, self.name_of(edge), breach.finding, path)?;
-        }
+        self.tell_found(edge, uses, found.as_slice(), tally)?;
         Ok(found.len())
     }
 
+    /// Tells what was found.
+    fn tell_found(
+        &self,
+        edge: EdgeId,
+        uses: &Uses,
+        found: &[Breach],
+        tally: &mut Tally,
+    ) -> Result<(), AllocError>
+        ensures { tally.new.counts ≡ tally.old.counts }
+    {
+        for breach in found {
+            let path = self.names.short(uses.path(breach.place).unwrap_or(""));
+            tally.tell(self.alloc, self.name_of(edge), breach.finding, path)?;
+        }
+        Ok(())
+    }
+
     /// What breaks a premise.
-    fn found(&self, edge: EdgeId, lists: &Lists, uses: &Uses) -> Result<Items<Breach>, AllocError> {
+    fn found(&self, edge: EdgeId, lists: &Lists, uses: &Uses) -> Result<Items<Breach>, AllocError>
+        ensures { IfOk result (λ found. AreFound lists.now (sums_in uses.now) (length found)) }
+    {
         let arounds = self.arounds_of(edge, lists, uses)?;
         breaches(self.alloc, lists, arounds.as_slice(), uses)
     }
@@ -214,7 +269,9 @@ impl Auditor {
         edge: EdgeId,
         lists: &Lists,
         uses: &Uses,
-    ) -> Result<Vec<Around>, AllocError> {
+    ) -> Result<Vec<Around>, AllocError>
+        ensures { IfOk result (λ arounds. length arounds.items ≡ length (sums_in uses.now).paths) }
+    {
         let is_above = self.above_of(edge, lists, uses)?;
         let mut arounds = Vec::with_capacity(self.alloc, uses.len())?;
         for place in 0..uses.len() {
@@ -246,19 +303,21 @@ impl Auditor {
         Some(maker)
     }
 
-    /// Tells of each path by which the command took a file that build lines spell in two ways, and answers how many these are.
+    /// Takes in each path by which the command took a file that build lines spell in two ways, and answers how many these are.
     fn tell_spellings(
         &self,
         edge: EdgeId,
         uses: &Uses,
         tally: &mut Tally,
-    ) -> Result<usize, AllocError> {
+    ) -> Result<usize, AllocError>
+        ensures { tally.new.counts ≡ tally.old.counts }
+    {
         let mut count = 0usize;
         for place in 0..uses.len() {
             let path = uses.path(place).unwrap_or("");
             if let Some(both) = self.twins.at(path) {
                 let path = self.names.short(path);
-                tally.tell_spelled(self.alloc, self.name_of(edge), path, both)?;
+                tally.spell(self.alloc, self.name_of(edge), path, both)?;
                 count = count.saturating_add(1);
             }
         }
@@ -273,7 +332,9 @@ impl Auditor {
         lists: &Lists,
         uses: &Uses,
         tally: &mut Tally,
-    ) -> Result<(), AllocError> {
+    ) -> Result<(), AllocError>
+        ensures { tally.new.counts ≡ tally.old.counts }
+    {
         let later = Later::of(self.alloc, lists, uses)?;
         for place in 0..uses.len() {
             let missed = uses.path(place).unwrap_or("");
@@ -292,7 +353,9 @@ impl Auditor {
         missed: &str,
         found: &str,
         tally: &mut Tally,
-    ) -> Result<(), AllocError> {
+    ) -> Result<(), AllocError>
+        ensures { tally.new.counts ≡ tally.old.counts }
+    {
         if !self.names.counts(found) {
             return tally.outside.look(self.alloc, missed);
         }
@@ -304,11 +367,15 @@ impl Auditor {
         self.tell_note(edge, note.as_str(), tally)
     }
 
-    fn tell_note(&self, edge: EdgeId, note: &str, tally: &mut Tally) -> Result<(), AllocError> {
+    fn tell_note(&self, edge: EdgeId, note: &str, tally: &mut Tally) -> Result<(), AllocError>
+        ensures { tally.new.counts ≡ tally.old.counts }
+    {
         tally.note(self.alloc, self.name_of(edge), note)
     }
 
-    fn tell_not_understood(&self, edge: EdgeId, tally: &mut Tally) -> Result<(), AllocError> {
+    fn tell_not_understood(&self, edge: EdgeId, tally: &mut Tally) -> Result<(), AllocError>
+        ensures { tally.new.counts ≡ tally.old.counts }
+    {
         tally.tell_not_understood(self.alloc, self.name_of(edge))
     }
 

@@ -25,6 +25,7 @@ ghost use Rattle.builder.specs.Reported.{IsFresh, IsReported};
 ghost use Rattle.builder.specs.Reports.{report_in, IsLinked, HasRead, IsConeRecorded, SaysNoCone, SaysFault, ShowsFault, IsPlanFor, SaysEnd};
 
 use crate::asked::{Asked, Limits};
+use crate::held::Held;
 use crate::own_files::{DEPS_LOG, LOG, TICK, own_path};
 use crate::reading::{Reading, read};
 use depfile::has_reading;
@@ -125,9 +126,28 @@ pub fn build_graph_read<S: Site>(
     requires linked { IsLinked graph.old }
     ensures { BuildsAsked S.tells (declared_by graph.old) asked.now (S.world site.old) (S.world site.new) result }
 {
-    match build_linked(alloc, site, graph, asked, options) {
-        Ok(told) => told,
-        Err(told) => told,
+    let (report, _held) = build_graph_holding(alloc, site, graph, asked, options);
+    report
+}
+
+/// The same, and what the build holds at its end comes with the report, if it came so far: for who ends the program then.
+pub fn build_graph_holding<S: Site>(
+    alloc: Global,
+    site: &mut S,
+    graph: &mut Graph,
+    asked: &Asked<'_>,
+    options: &Options,
+) -> (Report, Option<Held>)
+    requires idle { IsIdle (S.world site.old).events }
+    requires running { (S.world site.old).stopped ≡ false }
+    requires formed { IsGraph (declared_by graph.old) }
+    requires linked { IsLinked graph.old }
+    ensures { BuildsAsked S.tells (declared_by graph.old) asked.now (S.world site.old) (S.world site.new) result.0 }
+{
+    let mut held = None;
+    match build_linked(alloc, site, graph, asked, options, &mut held) {
+        Ok(told) => (told, held),
+        Err(told) => (told, held),
     }
 }
 
@@ -145,16 +165,18 @@ fn link_and_build<S: Site>(
 {
     let Reading { manifest, asked } = reading;
     let mut graph = link(alloc, manifest, asked.folder.as_str())?;
-    build_linked(alloc, site, &mut graph, &asked, options)
+    let mut held = None;
+    build_linked(alloc, site, &mut graph, &asked, options, &mut held)
 }
 
-/// Builds what was asked for of a graph that has no recorded inputs yet.
+/// Builds what was asked for of a graph that has no recorded inputs yet. What is held at the end is handed out.
 fn build_linked<S: Site>(
     alloc: Global,
     site: &mut S,
     graph: &mut Graph,
     asked: &Asked<'_>,
     options: &Options,
+    held: &mut Option<Held>,
 ) -> Result<Report, Report>
     requires idle { IsIdle (S.world site.old).events }
     requires running { (S.world site.old).stopped ≡ false }
@@ -168,7 +190,7 @@ fn build_linked<S: Site>(
     log_begins();
     let records = read_records(alloc, site, graph, asked)?;
     join_recorded(alloc, graph, &records)?;
-    build_graph(alloc, site, graph, asked, options, records)
+    build_graph(alloc, site, graph, asked, options, records, held)
 }
 
 /// Reads the logs, which lie in the folder of the program's own files.
@@ -200,6 +222,7 @@ fn build_graph<S: Site>(
     asked: &Asked<'_>,
     options: &Options,
     records: Records,
+    held: &mut Option<Held>,
 ) -> Result<Report, Report>
     requires idle { IsIdle (S.world site.old).events }
     requires running { (S.world site.old).stopped ≡ false }
@@ -212,7 +235,9 @@ fn build_graph<S: Site>(
     let mut cone = cone_of(alloc, graph, asked)?;
     let tick = own_path(alloc, asked.folder.as_str(), TICK)?;
     let mut state = state_of(alloc, graph, &cone, asked, options, records)?;
-    run_state(alloc, site, graph, &mut cone, tick.as_str(), &mut state)
+    let told = run_state(alloc, site, graph, &mut cone, tick.as_str(), &mut state);
+    *held = Some(Held::of(cone, state));
+    told
 }
 
 /// A run of the cone in which nothing is judged yet.

@@ -3,6 +3,7 @@ use Rattle.std.specs.Prelude.{◌≡◌, ℕ, ◌≤◌, ◌<◌, ◌⊎◌, suc
 use Rattle.model.specs.declared.fault.SiteFault.{SiteFault}
 use Rattle.host.specs.declared.clock.Clock.{Clock}
 use Rattle.host.specs.declared.clock.Touches.{Touches}
+use Rattle.host.specs.declared.disk.Standing.{Standing}
 
 -- after a stamp was told
 abbrev pub told_of : Clock → ℕ → Clock
@@ -13,6 +14,12 @@ abbrev pub clock_after : Clock → Result (Option ℕ) SiteFault → Clock
 clock_after clock (Ok (Some stamp)) = told_of clock stamp
 clock_after clock (Ok None) = clock
 clock_after clock (Err fault) = clock
+
+-- the stamp in the answer of a look that tells more
+abbrev pub stamp_in : Result (Option Standing) SiteFault → Result (Option ℕ) SiteFault
+stamp_in (Ok (Some standing)) = Ok (Some standing.stamp)
+stamp_in (Ok None) = Ok None
+stamp_in (Err fault) = Err fault
 
 -- the start's stamp is that of the second touch, and it is noted that what is written from now on may get the same
 pub record IsNoted (touches : Touches) (start : ℕ) (after : Clock) : Type 0 where

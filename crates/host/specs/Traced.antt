@@ -13,12 +13,13 @@ abbrev pub calls : List ℕ
 calls = codes "trace=%file,fork,vfork,clone,clone3,execveat,fchdir,getdents,getdents64,connect,bind,unshare,setns,open_by_handle_at,io_uring_setup,fsmount,move_mount"
 
 -- Processes that are started are followed, descriptors come with their paths, names in hexadecimal digits, and no signal is told. Of
--- structures those are written that tell a folder from a file, and whether a process shares its folder with another.
+-- structures those are written that tell a folder from a file, what a file is opened for, and whether a process shares its folder with
+-- another.
 abbrev pub first_words : List ℕ
 first_words =
     ended (codes "strace") ++ ended (codes "-f") ++ ended (codes "-y") ++ ended (codes "-xx") ++ ended (codes "-s") ++ ended (codes "65536")
     ++ ended (codes "--seccomp-bpf") ++ ended (codes "-e") ++ ended (codes "signal=none") ++ ended (codes "-e")
-    ++ ended (codes "verbose=stat,lstat,newfstatat,statx,clone3") ++ ended (codes "-e") ++ ended calls ++ ended (codes "-o")
+    ++ ended (codes "verbose=stat,lstat,newfstatat,statx,clone3,openat2") ++ ended (codes "-e") ++ ended calls ++ ended (codes "-o")
 
 -- the words by which the shell runs a command, but for that
 abbrev pub shell_words : List ℕ

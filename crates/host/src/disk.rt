@@ -45,6 +45,17 @@ pub struct Disk<'a> {
     logs: Logs<'a>,
 }
 
+/// What stands at a path.
+#[derive(Clone, Copy)]
+pub struct Standing {
+    /// When it was written last, in nanoseconds since 1970.
+    pub stamp: u64,
+    /// How many bytes the file holds; nothing of a folder.
+    pub size: Option<u64>,
+    /// When it was put there or changed last, in the same way. That cannot be set back.
+    pub placed: u64,
+}
+
 /// A file that is kept open.
 #[derive(Drop)]
 struct Kept {
@@ -105,6 +116,22 @@ impl<'a> Disk<'a> {
         }
         match unless_absent(found)? {
             Some(metadata) => Ok(Some(stamp_of(&metadata))),
+            None => Ok(None),
+        }
+    }
+
+    /// What stands at the path, in one look, or nothing where nothing stands there.
+    pub fn measure(&self, path: &str) -> io::Result<Option<Standing>> {
+        let found = fs::metadata(self.rt, path);
+        if is_no_name(&found) {
+            return Ok(None);
+        }
+        match unless_absent(found)? {
+            Some(metadata) => Ok(Some(Standing {
+                stamp: stamp_of(&metadata),
+                size: size_of(&metadata),
+                placed: nanos_of(metadata.ctime(), metadata.ctime_nsec()),
+            })),
             None => Ok(None),
         }
     }
@@ -393,11 +420,25 @@ fn touch(file: &File) -> io::Result<u64> {
 /// When a file was written last, in nanoseconds since 1970: 0 where that lies before, and the greatest number where it lies
 /// past that.
 fn stamp_of(metadata: &Metadata) -> u64 {
-    let Ok(seconds) = u64::try_from(metadata.mtime()) else {
+    nanos_of(metadata.mtime(), metadata.mtime_nsec())
+}
+
+/// So many seconds and nanoseconds in nanoseconds: 0 where that lies before 1970, and the greatest number where it lies past that.
+fn nanos_of(seconds: i64, nanos: i64) -> u64 {
+    let Ok(seconds) = u64::try_from(seconds) else {
         return 0;
     };
-    let nanos = u64::try_from(metadata.mtime_nsec()).unwrap_or(0);
+    let nanos = u64::try_from(nanos).unwrap_or(0);
     seconds.saturating_mul(NANOS).saturating_add(nanos)
+}
+
+/// How many bytes a file holds; nothing for a folder.
+fn size_of(metadata: &Metadata) -> Option<u64> {
+    if metadata.is_dir() {
+        None
+    } else {
+        Some(metadata.len())
+    }
 }
 
 /// Whether no file can have the path that was asked for: it has a NUL, or a part of it is too long.

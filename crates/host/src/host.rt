@@ -3,13 +3,13 @@
 ghost use Rattle.std.specs.Prelude.{◌≡◌, ◌≤◌, ℕ, [], true, false, None, IfOk, IfSome, OnOk, OnErr, IsErr, IsOk, IsTrue, Ok};
 ghost use Rattle.model.specs.World.{file_at, runs, stamp_of};
 ghost use Rattle.model.specs.Calls.{HasCause, KeepsWait, NotesWait, OnlyLooks, Sees, Starts, StartsOrNot, Ticks, TicksOrNot};
-ghost use Rattle.host.specs.Clock.{IsStart, clock_after};
+ghost use Rattle.host.specs.Clock.{IsStart, clock_after, stamp_in};
 ghost use Rattle.host.specs.Process.{EndedSo};
 ghost use Rattle.host.specs.World.{world_of, fresh};
 ghost use Rattle.host.specs.declared.clock.Touches.{Touches};
 
 use crate::clock::Clock;
-use crate::disk::Disk;
+use crate::disk::{Disk, Standing};
 use crate::files::{Files, Made, Opened};
 use crate::jobs::Jobs;
 use crate::load::{LOAD, load_of};
@@ -21,6 +21,7 @@ use model::{Act, Event, Finished, SiteFault};
 use site::{Site, Texts};
 use std::alloc::{AllocError, Global};
 use std::io::{ErrorKind, Write};
+use std::time::{SystemTime, UNIX_EPOCH};
 use std::{fmt, io};
 use terminal::{Look, Names, Terminal};
 use text::Bytes;
@@ -28,6 +29,9 @@ use text::Bytes;
 /// What is told where the clock did not go on.
 const STANDS: &str =
     "the clock of the file system stands still: an edit of this moment may be missed by the next build";
+
+/// A second, in nanoseconds.
+const NANOS: u64 = 1_000_000_000;
 
 /// What is shown goes there, in messages.
 const OUTPUT: &str = "standard output";
@@ -318,6 +322,28 @@ impl<'a, W: Write> Host<'a, W> {
     }
 }
 
+impl<'a, W: Write> Host<'a, W> {
+    /// What stands at the path, its stamp as `stat` tells it, in one look; or nothing where nothing stands there.
+    pub fn measure_file(&mut self, path: &str) -> Result<Option<Standing>, SiteFault>
+        ensures looks { OnlyLooks false (world_of self.old) (world_of self.new) }
+        ensures cause { HasCause (world_of self.old) (world_of self.new) result }
+        ensures waits { KeepsWait (world_of self.old) (world_of self.new) }
+        ensures clock { self.new.clock ≡ clock_after self.old.clock (stamp_in result) }
+    {
+        let found = self.disk.measure(path);
+        let found = self.noted(path, found)?;
+        if let Some(standing) = found {
+            self.clock.tell(standing.stamp);
+        }
+        Ok(found)
+    }
+
+    /// What time it is, in nanoseconds since 1970; 0 where the clock does not tell it.
+    pub fn now(&self) -> u64 {
+        now(self.rt).unwrap_or(0)
+    }
+}
+
 impl<'a, W: Drop> Host<'a, W> {
     /// Removes the files that commands read and printed into, but for those that one has which still runs, and answers what the device
     /// refused last, if it refused something and there was memory for its path.
@@ -344,6 +370,14 @@ impl fmt::Display for StandingClock {
     fn fmt<W: fmt::Write>(&self, f: &mut fmt::Formatter<W>) -> fmt::Result {
         f.write_str(STANDS)
     }
+}
+
+/// What time it is, in nanoseconds since 1970, if the clock tells it.
+fn now(rt: &HostRuntime) -> Option<u64> {
+    let now = SystemTime::now(rt).ok()?;
+    let since = now.duration_since(UNIX_EPOCH).ok()?;
+    let seconds = since.as_secs().saturating_mul(NANOS);
+    Some(seconds.saturating_add(u64::from(since.subsec_nanos())))
 }
 
 /// What was refused at this path, unless there is no memory for it.

@@ -25,6 +25,9 @@ const LOG: &str = ".nj_log";
 /// The last part of the path of a deps log.
 const DEPS_LOG: &str = ".nj_deps";
 
+/// The last part of the path of a log of what was seen.
+const SEEN_LOG: &str = ".nj_seen";
+
 /// A first line of a log is shorter than this, in bytes.
 const LINE: usize = 32;
 
@@ -79,7 +82,7 @@ struct New {
 
 /// Whether a path is that of a log.
 pub fn is_log(path: &str) -> bool {
-    is_named(path, LOG) || is_named(path, DEPS_LOG)
+    is_named(path, LOG) || is_named(path, DEPS_LOG) || is_named(path, SEEN_LOG)
 }
 
 /// Whether this is the last part of the path.

@@ -29,8 +29,26 @@ pub struct Round {
 
 /// Waits until one of the commands has ended, and answers its place. They are asked in turn, with rests that grow with the time waited.
 /// Each round goes on where the one before stopped, so that no command is asked more often than another. Up to 64 are asked in each round,
-/// and at once; of more 256 in each, from one wait to the next, with rests in proportion. The screen is told of each rest.
+/// and at once; of more 256 in each, from one wait to the next, with rests in proportion. The screen is told of each rest. Where up
+/// to 64 run, a rest ends as it was asked for, and not later by what the system lets a usual one (`Slack`).
 pub fn wait_first<W: Write>(
+    rt: &HostRuntime,
+    commands: &mut Vec<Running>,
+    round: &mut Round,
+    watch: &mut Watch<'_>,
+    screen: &mut Terminal<W>,
+) -> io::Result<usize>
+    requires { 0 < vec_len commands.old }
+    ensures jobs { jobs_of commands.new.items ≡ jobs_of commands.old.items }
+    ensures ended { IfOk result (λ place. HasEndedAt place commands.new.items) }
+{
+    let found = ask_on(rt, commands, round, watch, screen);
+    watch.rest_as_begun();
+    found
+}
+
+/// The same, with rests that may be made exact.
+fn ask_on<W: Write>(
     rt: &HostRuntime,
     commands: &mut Vec<Running>,
     round: &mut Round,
@@ -53,6 +71,9 @@ pub fn wait_first<W: Write>(
     for _ in 0..1u64 << 63 {
         if ask_round(rt, commands, round)? {
             return Ok(round.place);
+        }
+        if running <= FEW {
+            watch.rest_exactly();
         }
         if rests.rest(rt) {
             screen.step_aside();

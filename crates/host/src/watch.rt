@@ -1,6 +1,7 @@
 //! What a build does for others while it lasts.
 
 use crate::commands::Running;
+use crate::slack::Slack;
 use locks::{Behind, Entered, Identity, Watch as Passed, enter, wait_for_left};
 use std::alloc::Global;
 use std::time::Instant;
@@ -14,6 +15,7 @@ pub struct Watch<'a> {
     entered: Option<Entered>,
     passed: Passed,
     behind: Behind,
+    slack: Slack,
 }
 
 impl<'a> Watch<'a> {
@@ -25,6 +27,7 @@ impl<'a> Watch<'a> {
             entered: None,
             passed: Passed::new(alloc),
             behind: Behind::new(),
+            slack: Slack::new(),
         }
     }
 
@@ -50,6 +53,16 @@ impl<'a> Watch<'a> {
         if let Some(entered) = entered {
             entered.keep();
         }
+    }
+
+    /// From now on rests end as they were asked for, where the system allows that.
+    pub fn rest_exactly(&mut self) {
+        self.slack.leave_out(self.rt);
+    }
+
+    /// From now on rests end as when the program began, and so do those of commands that are started.
+    pub fn rest_as_begun(&mut self) {
+        self.slack.take_back();
     }
 
     /// Whether a command of another build in the same folder began this one. To be asked before a command is started.

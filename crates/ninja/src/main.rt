@@ -38,6 +38,7 @@ fn run_words(rt: &HostRuntime) -> io::Result<u8> {
     let around = Around {
         heading: heading.as_ref().map(|heading| heading.as_str()),
         output,
+        trusts_stamps: trusts_stamps(rt)?,
     };
     Ok(run(rt, words.as_slice(), around, &mut out, &mut err))
 }
@@ -71,6 +72,14 @@ fn has_colours(rt: &HostRuntime) -> io::Result<bool> {
     match variable(rt, "NO_COLOR")? {
         Some(no) => Ok(no.is_empty()),
         None => Ok(true),
+    }
+}
+
+/// Whether `NJ_TRUST_STAMPS` is set to 1.
+fn trusts_stamps(rt: &HostRuntime) -> io::Result<bool> {
+    match variable(rt, "NJ_TRUST_STAMPS")? {
+        Some(trusts) => Ok(trusts.as_str() == "1"),
+        None => Ok(false),
     }
 }
 

@@ -9,6 +9,7 @@ use ninja_asked::{Asking, default_jobs};
 use ninja_words::{
     Asked, Front, Heading, HeadingFault, Options as Given, Output, PATTERN, Shown, asked,
 };
+use seen::{Measured, Seen};
 use site::{Site, SiteFault};
 use stand_in::{
     Due, Ended, NoAnswer, Outcome, Patient, Place, answer, build_here, due_here, site_here,
@@ -16,9 +17,10 @@ use stand_in::{
 use status::Pattern;
 use std::alloc::{AllocError, Global};
 use std::io::Write;
+use std::mem::forget;
 use std::{env, io};
 use text::Text;
-use tools::{Fault, Switches, Tool, Usage, split_switches};
+use tools::{Declared, Fault, Switches, Tool, Usage, split_switches};
 
 /// What the program finds around it.
 #[derive(Clone, Copy)]
@@ -27,13 +29,15 @@ pub struct Around<'a> {
     pub heading: Option<&'a str>,
     /// What its standard output is.
     pub output: Output,
+    /// Whether stamps are trusted, by `NJ_TRUST_STAMPS`: nothing is noted of files, and what is noted counts for nothing.
+    pub trusts_stamps: bool,
 }
 
-/// How lines are shown, and where.
+/// The same, and how lines are shown.
 #[derive(Clone, Copy)]
 struct Lines<'a> {
     heading: &'a Heading,
-    output: Output,
+    around: Around<'a>,
 }
 
 /// The whole program: does what the words ask for, without the program's name among them, and answers the exit status: 0 after a
@@ -98,7 +102,7 @@ fn run_build<W: Write + Drop, E: Write>(
         Ok(heading) => {
             let lines = Lines {
                 heading: &heading,
-                output: around.output,
+                around,
             };
             build_under(rt, given, lines, out, err)
         }
@@ -214,20 +218,51 @@ fn build_with<'a, W: Write + Drop>(
     lines: Lines<'a>,
     out: &'a mut W,
 ) -> io::Result<(Ended, Option<Trouble>)> {
-    let front = front_of(given, lines, lines.output, options.jobs);
+    let front = front_of(given, lines, lines.around.output, options.jobs);
     let site = site_here(rt.alloc(), rt, out, front, given.load)?;
+    if lines.around.trusts_stamps {
+        return Ok(build_by_stamps(rt.alloc(), site, given, options));
+    }
     Ok(build_at(rt.alloc(), site, given, options))
 }
 
-/// The same on a site.
+/// The same on a site, by what was seen there before.
 fn build_at<'a, W: Write + Drop>(
+    alloc: Global,
+    site: Patient<'a, W>,
+    given: &Given<'_>,
+    options: &Options,
+) -> (Ended, Option<Trouble>) {
+    let (ended, left, site) = build_over(alloc, site, given, options);
+    let trouble = finish(site.into_site(), given.keep, &ended);
+    // no build file is read any more: the program ends right after this, and then all goes at once
+    forget(left);
+    (ended, trouble)
+}
+
+/// The same on any site, which is given back.
+fn build_over<S: Place + Measured + Drop>(
+    alloc: Global,
+    site: S,
+    given: &Given<'_>,
+    options: &Options,
+) -> (Ended, Option<Declared>, S) {
+    let mut seen = Seen::new(alloc, site);
+    let (ended, left) = build_there(alloc, &mut seen, given, options);
+    (ended, left, seen.into_site())
+}
+
+/// The same by stamps alone.
+fn build_by_stamps<'a, W: Write + Drop>(
     alloc: Global,
     mut site: Patient<'a, W>,
     given: &Given<'_>,
     options: &Options,
 ) -> (Ended, Option<Trouble>) {
-    let ended = build_there(alloc, &mut site, given, options);
+    let (ended, left) = build_there(alloc, &mut site, given, options);
     let trouble = finish(site.into_site(), given.keep, &ended);
+    // no build file is read any more: the program ends right after this, and then all goes at once
+    forget(left);
     (ended, trouble)
 }
 
@@ -238,7 +273,7 @@ fn build_there<S: Place>(
     site: &mut S,
     given: &Given<'_>,
     options: &Options,
-) -> Ended {
+) -> (Ended, Option<Declared>) {
     site.restart();
     build_here(alloc, site, given, options)
 }
@@ -274,11 +309,59 @@ fn due_in<'a, W: Write + Drop>(
 ) -> io::Result<(Result<Due, NoAnswer>, Option<Trouble>)> {
     let alloc = rt.alloc();
     let options = build_options(alloc, given, 1)?;
-    let front = front_of(given, lines, lines.output.undrawn(), 1);
-    let mut site = site_here(alloc, rt, out, front, None)?;
-    let due = due_here(alloc, &mut site, given, &options);
+    let front = front_of(given, lines, lines.around.output.undrawn(), 1);
+    let site = site_here(alloc, rt, out, front, None)?;
+    if lines.around.trusts_stamps {
+        return Ok(due_by_stamps(alloc, site, given, &options));
+    }
+    Ok(due_at(alloc, site, given, &options))
+}
+
+/// The same on a site, by what was seen there before.
+fn due_at<'a, W: Write + Drop>(
+    alloc: Global,
+    site: Patient<'a, W>,
+    given: &Given<'_>,
+    options: &Options,
+) -> (Result<Due, NoAnswer>, Option<Trouble>) {
+    let (due, site) = due_over(alloc, site, given, options);
     let host = site.into_site();
-    Ok((due, host.into_trouble()))
+    (due, host.into_trouble())
+}
+
+/// The same on any site, which is given back.
+fn due_over<S: Place + Measured + Drop>(
+    alloc: Global,
+    site: S,
+    given: &Given<'_>,
+    options: &Options,
+) -> (Result<Due, NoAnswer>, S) {
+    let mut seen = Seen::new(alloc, site);
+    let due = due_there(alloc, &mut seen, given, options);
+    (due, seen.into_site())
+}
+
+/// The same by stamps alone.
+fn due_by_stamps<'a, W: Write + Drop>(
+    alloc: Global,
+    mut site: Patient<'a, W>,
+    given: &Given<'_>,
+    options: &Options,
+) -> (Result<Due, NoAnswer>, Option<Trouble>) {
+    let due = due_there(alloc, &mut site, given, options);
+    let host = site.into_site();
+    (due, host.into_trouble())
+}
+
+/// The same as [`due_here`], from a start at which no command runs, and with nothing said of it.
+fn due_there<S: Place>(
+    alloc: Global,
+    site: &mut S,
+    given: &Given<'_>,
+    options: &Options,
+) -> Result<Due, NoAnswer> {
+    site.restart();
+    due_here(alloc, site, given, options)
 }
 
 fn front_of<'a>(given: &Given<'_>, lines: Lines<'a>, output: Output, jobs: u32) -> Front<'a> {

@@ -1,7 +1,7 @@
 //! The program: builds what build files describe, with real files and real commands.
 #![tactic(auto)]
 
-use nj_run::{Noted, run, run_watched};
+use nj_run::{Environment, Noted, run, run_watched};
 use std::env::VarError;
 use std::io::{BufWriter, ErrorKind, IsTerminal};
 use std::process::ExitCode;
@@ -29,19 +29,22 @@ fn run_words(rt: &HostRuntime) -> io::Result<u8> {
     let is_drawn = is_drawn(rt)?;
     let mut out = BufWriter::new(alloc, rt.stdout())?;
     let mut err = BufWriter::new(alloc, rt.stderr())?;
-    let pattern = pattern.as_ref().map(|pattern| pattern.as_str());
+    let environment = Environment {
+        pattern: pattern.as_ref().map(|pattern| pattern.as_str()),
+        trusts_stamps: trusts_stamps(rt)?,
+    };
     let words = words.as_slice();
     let mut noted = if rt.stderr().is_terminal() {
         Noted::wanted(rt)
     } else if is_drawn {
         Noted::unwanted(rt)
     } else {
-        return Ok(run(rt, words, pattern, &mut out, &mut err));
+        return Ok(run(rt, words, environment, &mut out, &mut err));
     };
     if is_drawn {
         noted.draw(has_colours(rt)?);
     }
-    Ok(run_watched(noted, words, pattern, &mut out, &mut err))
+    Ok(run_watched(noted, words, environment, &mut out, &mut err))
 }
 
 /// Whether rows are drawn: the standard output is a terminal, and one that can do it.
@@ -60,6 +63,14 @@ fn has_colours(rt: &HostRuntime) -> io::Result<bool> {
     match variable(rt, "NO_COLOR")? {
         Some(no) => Ok(no.is_empty()),
         None => Ok(true),
+    }
+}
+
+/// Whether `NJ_TRUST_STAMPS` is set to 1.
+fn trusts_stamps(rt: &HostRuntime) -> io::Result<bool> {
+    match variable(rt, "NJ_TRUST_STAMPS")? {
+        Some(trusts) => Ok(trusts.as_str() == "1"),
+        None => Ok(false),
     }
 }
 

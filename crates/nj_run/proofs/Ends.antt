@@ -13,8 +13,9 @@ use Rattle.nj_run.specs.Alone.{BuildsAlone}
 use Rattle.nj_run.specs.Status.{status_of}
 use Rattle.nj_run.specs.Texts.{Adds, err_of, no_tracer, out_of, traced_over}
 use Rattle.nj_run.specs.Traces.{IsTracePath}
+use Rattle.nj_run.specs.Judged.{Judged, Unjudged, keeps_of}
 use Rattle.nj_run.proofs.Telling.{untouched}
-use Rattle.nj_run.specs.Ends.{AreDone, AsksWhy, Audited, Built, Comes, Ending, NoTracer, TracedOver, ToldWhy, Unexplained, Ends, EndsBy, EndsFor, EndsWell, Help, MayEnd, NoFolder, NoMemory, BadWords, exit_status}
+use Rattle.nj_run.specs.Ends.{AreDone, AsksWhy, Audited, Built, Comes, Ending, NoTracer, TellsAudit, TracedOver, ToldWhy, Unexplained, Ends, EndsBy, EndsFor, EndsWell, Help, MayEnd, NoFolder, NoMemory, BadWords, exit_status}
 
 -- after a build the status is no 2
 pub built : {F : Type 0} (done told : Result ℕ F) (status : ℕ) → status ≡ result_unwrap_or told 1 → told ≡ done → IfOk done (λ given. given ≤ 1) → status ≡ 2 → ⊥
@@ -64,19 +65,23 @@ named_over asked on_out on_err old_out shown old_err new_err path (Ok status) un
     record { ending = TracedOver path; may = (untold, audit, is); tells = (one, record { shown = shown; before = tt; out = untouched (on_out shown); err = said }) }
 named_over asked on_out on_err old_out shown old_err new_err path (Err fault) untold audit is one said = record { ending = TracedOver path; may = (untold, audit, is); tells = tt }
 
--- what a build reported that was audited
-pub audited : {W E F : Type 0} (asked : Options) (on_out : W → Option Text) (on_err : E → Option Text) (old_out new_out : W) (old_err new_err : E) (report : Report) (told : Result ℕ F)
+-- what a build reported that was audited, and what was told of it
+pub audited : {W E F : Type 0} (asked : Options) (on_out : W → Option Text) (on_err : E → Option Text) (old_out shown new_out : W) (old_err new_err : E) (report : Report) (told : Result ℕ F)
     → asked.why ≡ false → audits asked ≡ true → ((later : World) × BuildsAlone false any_outcome asked fresh later report)
-    → IfOk told (λ status. (keeps : Bool) × (status ≡ (if keeps then status_of report else 1)))
+    → IfOk told (λ status. TellsAudit report status (on_out shown) (on_out new_out) (on_err old_err) (on_err new_err))
     → Comes (EndsFor asked) on_out on_err old_out new_out old_err new_err told
-audited asked on_out on_err old_out new_out old_err new_err report (Ok status) untold audit so is =
-    record { ending = Audited report is.0; may = (untold, audit, so.0, so.1); tells = (is.1, record { shown = old_out; before = tt; out = tt; err = tt }) }
-audited asked on_out on_err old_out new_out old_err new_err report (Err fault) untold audit so is =
-    record { ending = Audited report true; may = (untold, audit, so.0, so.1); tells = tt }
+audited asked on_out on_err old_out shown new_out old_err new_err report (Ok status) untold audit so is = record {
+  ending = Audited report is.refused is.judged;
+  may = (untold, audit, so.0, so.1);
+  tells = (is.status, record { shown = shown; before = tt; out = is.out; err = is.err });
+}
+audited asked on_out on_err old_out shown new_out old_err new_err report (Err fault) untold audit so is =
+    record { ending = Audited report false Unjudged; may = (untold, audit, so.0, so.1); tells = tt }
 
 -- the status of an audit is none but 0 and 1
-pub within_one : {F : Type 0} (report : Report) (told : Result ℕ F) → IfOk told (λ status. (keeps : Bool) × (status ≡ (if keeps then status_of report else 1))) → IfOk told (λ status. status ≤ 1)
-within_one report (Ok status) is = by is.0 is.1
+pub within_one : {F : Type 0} (report : Report) (old_out new_out old_err new_err : Option Text) (told : Result ℕ F)
+    → IfOk told (λ status. TellsAudit report status old_out new_out old_err new_err) → IfOk told (λ status. status ≤ 1)
+within_one report old_out new_out old_err new_err (Ok status) is = by (keeps_of is.judged) is.status
   where
     by : (keeps : Bool) → status ≡ (if keeps then status_of report else 1) → status ≤ 1
     by true same = so report same
@@ -87,7 +92,7 @@ within_one report (Ok status) is = by is.0 is.1
         so (Refused refusal) same = omega (arith, same)
         so (Fault fault) same = omega (arith, same)
     by false same = omega (arith, same)
-within_one report (Err fault) is = tt
+within_one report old_out new_out old_err new_err (Err fault) is = tt
 
 -- why commands are due, which was told
 pub told_why : {W E F : Type 0} (asked : Options) (on_out : W → Option Text) (on_err : E → Option Text) (old_out shown new_out : W) (err : E) (told : Result ℕ F)
@@ -130,7 +135,7 @@ refused words error has ToldWhy so = absurd so
 refused words error has (Unexplained report told) so = absurd so
 refused words error has NoTracer so = absurd so
 refused words error has (TracedOver path) so = absurd so
-refused words error has (Audited report keeps) so = absurd so
+refused words error has (Audited report told _) so = absurd so
 
 -- words that ask for this
 pub done : (words : List Text) (asked : Options) → fault_of nj words ≡ [] → AreAsked words asked → (ending : Ending) → EndsFor asked ending → MayEnd words ending
@@ -143,7 +148,7 @@ done words asked faultless are ToldWhy so = record { faultless = faultless; aske
 done words asked faultless are (Unexplained report told) so = record { faultless = faultless; asked = asked; are_asked = are; so = so }
 done words asked faultless are NoTracer so = record { faultless = faultless; asked = asked; are_asked = are; so = so }
 done words asked faultless are (TracedOver path) so = record { faultless = faultless; asked = asked; are_asked = are; so = so }
-done words asked faultless are (Audited report keeps) so = record { faultless = faultless; asked = asked; are_asked = are; so = so }
+done words asked faultless are (Audited report told _) so = record { faultless = faultless; asked = asked; are_asked = are; so = so }
 
 well_after : (words : List Text) (report : Report) (told : Bool) → AreDone words (Built report told) → 0 ≡ status_of report → EndsWell words
 well_after words (Success started) told done zero = inr (inl (started, told, done))
@@ -151,12 +156,13 @@ well_after words (Failed outputs) told done zero = absurd (omega (arith, zero))
 well_after words (Refused refusal) told done zero = absurd (omega (arith, zero))
 well_after words (Fault fault) told done zero = absurd (omega (arith, zero))
 
-well_audited : (words : List Text) (report : Report) (keeps : Bool) → AreDone words (Audited report keeps) → 0 ≡ (if keeps then status_of report else 1) → EndsWell words
-well_audited words report false done zero = absurd (omega (arith, zero))
-well_audited words (Success started) true done zero = inr (inr (inr (started, done)))
-well_audited words (Failed outputs) true done zero = absurd (omega (arith, zero))
-well_audited words (Refused refusal) true done zero = absurd (omega (arith, zero))
-well_audited words (Fault fault) true done zero = absurd (omega (arith, zero))
+well_audited : (words : List Text) (report : Report) (told : Bool) (judged : Judged) (keeps : Bool) → keeps_of judged ≡ keeps
+    → AreDone words (Audited report told judged) → 0 ≡ (if keeps then status_of report else 1) → EndsWell words
+well_audited words report told judged false is done zero = absurd (omega (arith, zero))
+well_audited words (Success started) told judged true is done zero = inr (inr (inr (started, told, judged, is, done)))
+well_audited words (Failed outputs) told judged true is done zero = absurd (omega (arith, zero))
+well_audited words (Refused refusal) told judged true is done zero = absurd (omega (arith, zero))
+well_audited words (Fault fault) told judged true is done zero = absurd (omega (arith, zero))
 
 well_by : (words : List Text) (ending : Ending) → MayEnd words ending → 0 ≡ exit_status ending → EndsWell words
 well_by words Help may zero = inl may
@@ -168,7 +174,7 @@ well_by words ToldWhy may zero = inr (inr (inl may))
 well_by words (Unexplained report told) may zero = absurd (omega (arith, zero))
 well_by words NoTracer may zero = absurd (omega (arith, zero))
 well_by words (TracedOver path) may zero = absurd (omega (arith, zero))
-well_by words (Audited report keeps) may zero = well_audited words report keeps may zero
+well_by words (Audited report told judged) may zero = well_audited words report told judged (keeps_of judged) refl may zero
 
 -- where the status is 0, the run has ended well
 pub well : {W E : Type 0} (words : List Text) (on_out : W → Option Text) (on_err : E → Option Text) (old_out new_out : W) (old_err new_err : E) (status : ℕ)

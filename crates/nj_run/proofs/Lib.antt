@@ -5,3 +5,4 @@ mod Ends
 mod Shown
 mod Telling
 mod Optional
+mod Judging

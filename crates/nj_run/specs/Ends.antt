@@ -1,5 +1,5 @@
 -- How a run of the program ends: why, with which status, and what it tells.
-use Rattle.std.specs.Prelude.{◌≡◌, ◌≢◌, ◌⊎◌, ℕ, Bool, true, false, if◌then◌else◌, List, [], Option, Some, None, Result, IfOk, ⊤}
+use Rattle.std.specs.Prelude.{◌≡◌, ◌≢◌, ◌⊎◌, ℕ, Bool, true, false, if◌then◌else◌, List, [], ◌++◌, Option, Some, None, Result, IfOk, option_map, ⊤}
 use Rattle.clap.specs.Words.{IsAmong, Text, fault_of}
 use Rattle.clap.specs.declared.error.kind.ErrorKind.{ErrorKind}
 use Rattle.clap.specs.declared.error.kind.ErrorKind.TheVariants.{DisplayHelp, DisplayVersion, OutOfMemory}
@@ -13,6 +13,7 @@ use Rattle.nj_run.specs.Alone.{BuildsAlone}
 use Rattle.nj_run.specs.Status.{status_of}
 use Rattle.nj_run.specs.Texts.{Adds, err_of, no_memory, no_tracer, out_of, traced_over}
 use Rattle.nj_run.specs.Traces.{IsTracePath}
+use Rattle.nj_run.specs.Judged.{Judged, keeps_of, told_of}
 
 -- why a run ends
 pub data Ending : Type 0 where
@@ -34,8 +35,8 @@ pub data Ending : Type 0 where
   NoTracer : Ending
   -- an audit was asked for, and build lines name this path, to which traces are written: nothing was started
   TracedOver : Text → Ending
-  -- a build was audited and reported so, and whether each command was looked at and keeps all premises
-  Audited : Report → Bool → Ending
+  -- a build was audited and reported so, whether it is told what the device refused last, and what was found
+  Audited : Report → Bool → Judged → Ending
 
 abbrev pub exit_status : Ending → ℕ
 exit_status Help = 0
@@ -47,7 +48,7 @@ exit_status ToldWhy = 0
 exit_status (Unexplained report refused) = 1
 exit_status NoTracer = 1
 exit_status (TracedOver path) = 1
-exit_status (Audited report keeps) = if keeps then status_of report else 1
+exit_status (Audited report refused judged) = if keeps_of judged then status_of report else 1
 
 -- What is told on the standard output, behind what the build showed there. Help is open (`None`): no contract of clap tells its
 -- text. So is what is told of commands that are due: their paths stand in it.
@@ -61,7 +62,7 @@ told_on_out ToldWhy = None
 told_on_out (Unexplained report refused) = out_of report
 told_on_out NoTracer = Some []
 told_on_out (TracedOver path) = Some []
-told_on_out (Audited report keeps) = None
+told_on_out (Audited report refused judged) = option_map (λ text. text ++ told_of judged) (out_of report)
 
 -- What is told on the standard error. Open is what clap says of bad words, and of a folder why the system refuses it: that
 -- stands behind the line of N60 and `nj: FOLDER: `.
@@ -75,7 +76,7 @@ told_on_err ToldWhy = Some []
 told_on_err (Unexplained report refused) = err_of report refused
 told_on_err NoTracer = Some no_tracer
 told_on_err (TracedOver path) = Some (traced_over path)
-told_on_err (Audited report keeps) = None
+told_on_err (Audited report refused _) = err_of report refused
 
 -- help, or the version, which clap shows in the same way; `nj` has no word that asks for it
 abbrev pub IsShown : ErrorKind → Type 0
@@ -92,7 +93,7 @@ EndsBy kind ToldWhy = ⊥
 EndsBy kind (Unexplained report refused) = ⊥
 EndsBy kind NoTracer = ⊥
 EndsBy kind (TracedOver path) = ⊥
-EndsBy kind (Audited report keeps) = ⊥
+EndsBy kind (Audited report refused _) = ⊥
 
 -- it was asked why commands are due, and the site of real files was only looked at: nothing was started or written
 pub record AsksWhy (asked : Options) : Type 0 where
@@ -117,7 +118,7 @@ EndsFor asked ToldWhy = AsksWhy asked
 EndsFor asked (Unexplained report refused) = AsksWhy asked
 EndsFor asked NoTracer = (asked.why ≡ false) × (audits asked ≡ true)
 EndsFor asked (TracedOver path) = (asked.why ≡ false) × (audits asked ≡ true) × IsTracePath path
-EndsFor asked (Audited report keeps) = (asked.why ≡ false) × (audits asked ≡ true) × (later : World) × BuildsAlone false any_outcome asked fresh later report
+EndsFor asked (Audited report refused _) = (asked.why ≡ false) × (audits asked ≡ true) × (later : World) × BuildsAlone false any_outcome asked fresh later report
 
 -- the words have a fault for which a run may end so
 pub record AreRefused (words : List Text) (ending : Ending) : Type 0 where
@@ -143,7 +144,7 @@ MayEnd words ToldWhy = AreDone words ToldWhy
 MayEnd words (Unexplained report refused) = AreDone words (Unexplained report refused)
 MayEnd words NoTracer = AreDone words NoTracer
 MayEnd words (TracedOver path) = AreDone words (TracedOver path)
-MayEnd words (Audited report keeps) = AreDone words (Audited report keeps)
+MayEnd words (Audited report refused judged) = AreDone words (Audited report refused judged)
 
 -- What the standard output was where a build has ended. A build shows on it by way of the host, which keeps it as long as the
 -- build lasts, and of what `Site::show` shows contracts tell nothing: it may hold anything then. Where nothing is built, it is
@@ -158,7 +159,15 @@ ShownBefore ToldWhy old shown = ⊤
 ShownBefore (Unexplained report refused) old shown = ⊤
 ShownBefore NoTracer old shown = shown ≡ old
 ShownBefore (TracedOver path) old shown = ⊤
-ShownBefore (Audited report keeps) old shown = ⊤
+ShownBefore (Audited report refused _) old shown = ⊤
+
+-- what is told of a build that was audited and reported so, and the status
+pub record TellsAudit (report : Report) (told : ℕ) (old_out new_out old_err new_err : Option Text) : Type 0 where
+  pub refused : Bool
+  pub judged : Judged
+  pub status : told ≡ exit_status (Audited report refused judged)
+  pub out : Adds old_out new_out (told_on_out (Audited report refused judged))
+  pub err : Adds old_err new_err (told_on_err (Audited report refused judged))
 
 -- all was told: on the standard output, behind what was shown there, and on the standard error
 pub record AllTold {W E : Type 0} (on_out : W → Option Text) (on_err : E → Option Text) (ending : Ending)
@@ -191,9 +200,15 @@ abbrev pub EndsNoted : {W E : Type 0} → List Text → (W → Option Text) → 
 EndsNoted {W} {E} words on_out on_err old_out new_out old_err status =
     (told : E) × Ends words on_out on_err old_out new_out old_err told status
 
+-- what the words ask for was audited: it was built with success, and it was found, and told, that each command was looked at and keeps all
+-- premises
+abbrev pub AreKept : List Text → Type 0
+AreKept words =
+    (started : ℕ) × (refused : Bool) × (judged : Judged) × (keeps_of judged ≡ true) × AreDone words (Audited (Success started) refused judged)
+
 -- help was asked for, or it was told why commands are due, or what the words ask for was built, with success, and where an audit was
 -- asked for each command keeps all premises
 abbrev pub EndsWell : List Text → Type 0
 EndsWell words =
     AreRefused words Help ⊎ (((started : ℕ) × (refused : Bool) × AreDone words (Built (Success started) refused))
-    ⊎ (AreDone words ToldWhy ⊎ ((started : ℕ) × AreDone words (Audited (Success started) true))))
+    ⊎ (AreDone words ToldWhy ⊎ AreKept words))

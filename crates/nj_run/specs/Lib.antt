@@ -6,3 +6,4 @@ pub mod Ends
 pub mod Status
 pub mod Texts
 pub mod Traces
+pub mod Judged

@@ -3,16 +3,23 @@
 ghost use Rattle.std.specs.Prelude.{◌≡◌, false, IfOk, IfErr};
 ghost use Rattle.model.specs.Calls.{OnlyLooks};
 ghost use Rattle.model.specs.World.{IsIdle};
+ghost use Rattle.manifest.specs.Answer.{IsGraph};
+ghost use Rattle.paths.specs.Told.{graph_of};
+ghost use Rattle.builder.specs.Parts.{BuildsReading};
 ghost use Rattle.nj_run.specs.Alone.{IsBuiltAlone, Passes, WasReadAlone, WasUnreadAlone};
 
 use crate::named::names;
 use crate::noted::Noted;
-use builder::{Explained, Options, Reading, Report, build_read, explain_read, read};
+use builder::{
+    Explained, Held, Options, Reading, Report, build_graph_holding, explain_read, link, read,
+};
 use depfile::has_reading;
 use dyndep_law::has_reading as has_dyndeps;
+use graph::Graph;
 use host::Host;
 use log_text::has_format;
 use paths::Manifest;
+use seen::{Measured, Seen};
 use site::Site;
 use std::alloc::Global;
 use std::io::Write;
@@ -20,6 +27,14 @@ use text::Text;
 
 /// So often it is read anew because somebody was waited for; then it is built whoever may be there.
 const ROUNDS: u32 = u32::MAX;
+
+/// The graph of a build that has ended, and what that holds beside, if it came so far: it has served, and who ends the program right after
+/// need not let it go.
+#[derive(Drop)]
+pub struct Left {
+    pub graph: Graph,
+    pub held: Option<Held>,
+}
 
 /// A site in whose folder others may build too: other programs, and commands that run on after a build that was killed. No clause
 /// says that it waits for them, since of other programs none tells anything: what one may rest on is that it does nothing else.
@@ -60,17 +75,34 @@ impl<'a, W: Write> Alone for Host<'a, W> {
     }
 }
 
+impl<S: Alone + Measured> Alone for Seen<S> {
+    #[tactic(auto, using(crate::proofs::Passing::passes_untold))]
+    fn enter(&mut self) {
+        self.site.enter();
+    }
+
+    #[tactic(auto, using(crate::proofs::Passing::passes_untold))]
+    fn has_waited(&mut self, folder: &str) -> bool {
+        self.site.has_waited(folder)
+    }
+
+    fn learn(&mut self, alloc: Global, manifest: &Manifest, verbose: bool) {
+        self.know(manifest);
+        self.site.learn(alloc, manifest, verbose);
+    }
+}
+
 /// Builds the targets once nobody else is at work in the folder, as [`builder::build`] does: what it reads is what is there by then, and
-/// what may help whoever watches is noted of that.
+/// what may help whoever watches is noted of that. What is left of the build comes with the report, if there was a graph.
 pub fn build_alone<S: Alone>(
     alloc: Global,
     site: &mut S,
     options: &Options,
     targets: &[Text],
     noted: &mut Noted<'_>,
-) -> Report
+) -> (Report, Option<Left>)
     requires { IsIdle (S.world site.old).events }
-    ensures { IsBuiltAlone S.tells S.outcome options.now targets.now (S.world site.old) (S.world site.new) result }
+    ensures { IsBuiltAlone S.tells S.outcome options.now targets.now (S.world site.old) (S.world site.new) result.0 }
 {
     has_format();
     has_reading();
@@ -79,9 +111,31 @@ pub fn build_alone<S: Alone>(
         Ok(reading) => {
             noted.reads(options.file.as_str(), &reading);
             site.learn(alloc, &reading.manifest, options.verbose);
-            build_read(alloc, site, reading, options)
+            build_leaving(alloc, site, reading, options)
         }
-        Err(report) => report,
+        Err(report) => (report, None),
+    }
+}
+
+/// Builds what was read, as [`builder::build_read`] does, and hands out what is left, if that makes a graph.
+fn build_leaving<S: Site>(
+    alloc: Global,
+    site: &mut S,
+    reading: Reading<'_>,
+    options: &Options,
+) -> (Report, Option<Left>)
+    requires idle { IsIdle (S.world site.old).events }
+    requires running { (S.world site.old).stopped ≡ false }
+    requires formed { IsGraph (graph_of reading.manifest) }
+    ensures { BuildsReading S.tells reading.entry (S.world site.old) (S.world site.new) result.0 }
+{
+    let Reading { manifest, asked } = reading;
+    match link(alloc, manifest, asked.folder.as_str()) {
+        Ok(mut graph) => {
+            let (report, held) = build_graph_holding(alloc, site, &mut graph, &asked, options);
+            (report, Some(Left { graph, held }))
+        }
+        Err(report) => (report, None),
     }
 }
 
@@ -97,6 +151,7 @@ pub fn explain_alone<S: Alone>(
     ensures { OnlyLooks S.tells (S.world site.old) (S.world site.new) }
 {
     let reading = read_alone(alloc, site, options, targets)?;
+    site.learn(alloc, &reading.manifest, options.verbose);
     explain_read(alloc, site, reading, options)
 }
 

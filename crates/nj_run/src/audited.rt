@@ -1,23 +1,24 @@
 //! A run that audits: a build in which each command is traced, and what is told of that.
 
-ghost use Rattle.std.specs.Prelude.{◌≡◌, ◌≤◌, Bool, IfOk, IfSome, OnOk, Some, true, false, if◌then◌else◌};
+ghost use Rattle.std.specs.Prelude.{◌≡◌, ◌≤◌, IfOk, IfSome, OnOk, Some, true, false, if◌then◌else◌};
 ghost use Rattle.nj_run.specs.Options.{audits};
 ghost use Rattle.model.specs.World.{World};
 ghost use Rattle.host.specs.World.{any_outcome, fresh, world_of};
 ghost use Rattle.nj_run.specs.Alone.{BuildsAlone};
-ghost use Rattle.nj_run.specs.Ends.{Comes, EndsFor};
-ghost use Rattle.nj_run.specs.Status.{status_of};
+ghost use Rattle.nj_run.specs.Ends.{Comes, EndsFor, TellsAudit};
+ghost use Rattle.nj_run.specs.Judged.{Found, TellsFound, Unjudged, counts_told, how_to_look, told_of};
 ghost use Rattle.nj_run.specs.Texts.{Adds, no_tracer};
 ghost use Rattle.nj_run.specs.Traces.{IsTracePath};
 
+use crate::environment::Environment;
 use crate::given::Options as Asked;
 use crate::looked::look;
 use crate::noted::Noted;
-use crate::program::{build_on, build_options, recall};
+use crate::program::{build_options, build_over, recall};
 use crate::told;
 use crate::tracer::tracer;
 use crate::traces::named_trace;
-use auditor::Tally;
+use auditor::{Counts, Tally};
 use builder::{Report, read};
 use host::{Host, Trouble};
 use status::Pattern;
@@ -39,7 +40,7 @@ struct Audited {
 /// as far as the trace shows; else 1.
 pub fn audit_asked<W: Write, E: Write>(
     asked: &Asked<'_>,
-    pattern: Option<&str>,
+    environment: Environment<'_>,
     out: &mut W,
     err: &mut E,
     noted: &mut Noted<'_>,
@@ -52,11 +53,11 @@ pub fn audit_asked<W: Write, E: Write>(
     let Some(program) = tracer(noted.rt()) else {
         return untraced(err);
     };
-    let named = named_here(asked, pattern, out, noted)?;
+    let named = named_here(asked, environment.pattern, out, noted)?;
     if let Some(path) = named {
         return told::traced_over(path.as_str(), err);
     }
-    let audited = audit_here(asked, pattern, program, out, noted)?;
+    let audited = audit_here(asked, environment, program, out, noted)?;
     tell_all(noted.rt().alloc(), &audited, asked.audit_all, out, err)
 }
 
@@ -96,7 +97,7 @@ fn named_here<W: Write>(
 /// Builds in the working folder with each command traced by this program, and looks at the traces.
 fn audit_here<W: Write>(
     asked: &Asked<'_>,
-    pattern: Option<&str>,
+    environment: Environment<'_>,
     program: String,
     out: &mut W,
     noted: &mut Noted<'_>,
@@ -106,21 +107,20 @@ fn audit_here<W: Write>(
     let rt = noted.rt();
     let alloc = rt.alloc();
     let folder = env::current_dir(rt)?;
-    let (options, targets) = build_options(alloc, asked, pattern)?;
+    let (options, targets) = build_options(alloc, asked, environment.pattern)?;
     let mut host = traced_host(rt, program, out);
     host.draw(
         noted.look(asked.verbose),
-        pattern.unwrap_or(Pattern::DEFAULT),
+        environment.pattern.unwrap_or(Pattern::DEFAULT),
     );
-    let report = build_on(alloc, &mut host, asked, pattern, noted);
+    let (report, left, mut host) = build_over(alloc, host, asked, environment, noted);
+    // what is looked at is read anew
+    drop(left);
     host.finish_screen();
     recall(&mut host, asked.keep, &report);
     noted.waited(host.wait_for_clock());
     noted.built(&mut host, asked.file, &report);
-    let tally = match folder.to_str() {
-        Some(folder) => look(rt, &mut host, &options, targets.as_slice(), folder),
-        None => None,
-    };
+    let tally = look(rt, &mut host, &options, targets.as_slice(), folder.to_str());
     let trouble = host.into_trouble();
     Ok(Audited {
         report,
@@ -147,7 +147,7 @@ fn tell_all<W: Write, E: Write>(
     out: &mut W,
     err: &mut E,
 ) -> io::Result<u8>
-    ensures { IfOk result (λ status. (keeps : Bool) × (status ≡ (if keeps then status_of audited.now.report else 1))) }
+    ensures { IfOk result (λ status. TellsAudit audited.now.report status (W.contents out.old) (W.contents out.new) (E.contents err.old) (E.contents err.new)) }
 {
     let status = told::report(&audited.report, audited.trouble.as_ref(), out, err)?;
     let keeps = tell(alloc, audited.tally.as_ref(), is_listed, out)?;
@@ -168,29 +168,60 @@ fn tell<W: Write>(
     tally: Option<&Tally>,
     is_listed: bool,
     out: &mut W,
-) -> io::Result<bool> {
+) -> io::Result<bool>
+    ensures { IfOk result (λ keeps. TellsFound keeps (W.contents out.old) (W.contents out.new)) }
+{
     let Some(tally) = tally else {
-        writeln!(out, "nj: audit: the traces could not be looked at")?;
-        out.flush()?;
+        tell_unjudged(out)?;
         return Ok(false);
     };
-    out.write_all(tally.lines.as_bytes())?;
-    let mut outside = String::new(alloc);
-    tally.outside.push_lines(alloc, is_listed, &mut outside)?;
-    out.write_all(outside.as_bytes())?;
-    let looked = tally.looked;
-    let commands = tally.commands;
-    let kept = tally.kept;
+    let lines = tally.told(alloc, is_listed)?;
+    tell_found(lines.as_str(), tally.counts, out)?;
+    Ok(tally.counts.is_clean())
+}
+
+/// Tells that the traces could not be looked at.
+fn tell_unjudged<W: Write>(out: &mut W) -> io::Result<()>
+    ensures { OnOk result (Adds (W.contents out.old) (W.contents out.new) (Some (told_of Unjudged))) }
+{
+    writeln!(out, "nj: audit: the traces could not be looked at")?;
+    out.flush()
+}
+
+/// Tells by these lines what commands did, and how many were looked at and keep all premises.
+fn tell_found<W: Write>(lines: &str, counts: Counts, out: &mut W) -> io::Result<()>
+    ensures { OnOk result (Adds (W.contents out.old) (W.contents out.new) (Some (told_of (Found lines.now counts)))) }
+{
+    out.write_all(lines.as_bytes())?;
+    tell_how(counts.looked, out)?;
+    tell_counts(counts, out)
+}
+
+/// Tells how all commands can be looked at, where none was.
+fn tell_how<W: Write>(looked: usize, out: &mut W) -> io::Result<()>
+    ensures { OnOk result (Adds (W.contents out.old) (W.contents out.new) (Some (how_to_look looked))) }
+{
     if looked == 0 {
         writeln!(
             out,
             "nj: audit: no command was looked at: remove .nj_log to have all of them run and looked at"
         )?;
     }
+    out.flush()
+}
+
+/// Tells how many commands were looked at, and how many keep all premises.
+fn tell_counts<W: Write>(counts: Counts, out: &mut W) -> io::Result<()>
+    ensures { OnOk result (Adds (W.contents out.old) (W.contents out.new) (Some (counts_told counts))) }
+{
+    let Counts {
+        commands,
+        looked,
+        kept,
+    } = counts;
     writeln!(
         out,
         "nj: audit: {looked} of {commands} commands of the cone looked at, {kept} keep all premises, as far as the trace shows"
     )?;
-    out.flush()?;
-    Ok(tally.is_clean())
+    out.flush()
 }

@@ -5,6 +5,7 @@ mod alone;
 mod anew;
 mod audited;
 mod command;
+mod environment;
 mod given;
 mod looked;
 mod named;
@@ -17,8 +18,9 @@ mod traces;
 mod whys;
 mod words_laws;
 
-pub use alone::{Alone, build_alone, explain_alone};
+pub use alone::{Alone, Left, build_alone, explain_alone};
 pub use command::options;
+pub use environment::Environment;
 pub use given::Options;
 pub use noted::Noted;
 pub use program::{build_on, explain_on, run, run_watched};

@@ -17,9 +17,26 @@ struct Ended {
     ok: bool,
 }
 
-/// Looks at all commands that were started and ended well. The folder is the working one, from the root. None where the build files cannot
-/// be read any more, or there is no memory.
+/// Looks at all commands that were started and ended well, and removes their traces. The folder is the working one, from the root, if that is
+/// a text. None where it is none, the build files cannot be read any more, or there is no memory.
 pub fn look<W: Write>(
+    rt: &HostRuntime,
+    host: &mut Host<'_, W>,
+    options: &Options,
+    targets: &[Text],
+    folder: Option<&str>,
+) -> Option<Tally> {
+    let tally = match folder {
+        Some(folder) => look_here(rt, host, options, targets, folder),
+        None => None,
+    };
+    if tally.is_none() {
+        let _ = let_traces_go(rt.alloc(), host);
+    }
+    tally
+}
+
+fn look_here<W: Write>(
     rt: &HostRuntime,
     host: &mut Host<'_, W>,
     options: &Options,
@@ -45,6 +62,15 @@ fn look_at_all<W: Write>(
         look_at(host, auditor, *end, &mut tally)?;
     }
     Some(tally)
+}
+
+/// Removes the traces that nobody looks at, as far as there is memory to name them.
+fn let_traces_go<W: Write>(alloc: Global, host: &mut Host<'_, W>) -> Result<(), AllocError> {
+    let ended = ended_in(alloc, host)?;
+    for end in &ended {
+        let _ = take_trace(host, end.job);
+    }
+    Ok(())
 }
 
 /// The commands that ended.

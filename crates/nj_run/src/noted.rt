@@ -98,6 +98,14 @@ impl<'a> Noted<'a> {
         }
     }
 
+    /// Whether a build file may be read once more for notes, where the build was reported so.
+    pub fn may_read(&self, report: &Report) -> bool {
+        match report {
+            Report::Success { started } => self.is_wanted && *started > 0,
+            _ => self.is_wanted,
+        }
+    }
+
     /// How the wait for the clock ended.
     pub fn waited(&mut self, waited: Result<(), StandingClock>) {
         if let Err(clock) = waited {

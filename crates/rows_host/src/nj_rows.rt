@@ -4,7 +4,7 @@
 use crate::answers::{number, plain};
 use crate::documented::{push_documented, push_version};
 use crate::folder::Folder;
-use crate::nj_runs::{Ran, push_front, push_ran, push_status, run_of};
+use crate::nj_runs::{Ran, push_front, push_ran, push_status, run_of, trusting_run_of};
 use crate::stand_in_runs::stand_in_run_of;
 use ninja_run::Around;
 use ninja_words::Output;
@@ -72,8 +72,8 @@ impl<'a> Rows<'a> {
     }
 
     /// `run WORDS`: runs the program in the folder, and tells what it came to. `front LINES WORDS` tells of the standard output only
-    /// the first lines, `status WORDS` the status alone, `under PATTERN WORDS` is under this `NINJA_STATUS`, and `words WORDS` not in
-    /// the folder.
+    /// the first lines, `status WORDS` the status alone, `under PATTERN WORDS` is under this `NINJA_STATUS`, `trusting WORDS` where
+    /// `NJ_TRUST_STAMPS` is 1, and `words WORDS` not in the folder.
     fn push_run(
         &self,
         alloc: Global,
@@ -88,6 +88,7 @@ impl<'a> Rows<'a> {
             "status" => push_status(self.ran(rest)?.status, told),
             "under" => push_ran(&self.ran_under(one, other)?, told),
             "words" => push_ran(&run_of(&self.folder, None, rest)?, told),
+            "trusting" => push_ran(&self.ran_trusting(rest)?, told),
             _ => self.push_part(alloc, first, rest, told),
         }
     }
@@ -131,12 +132,14 @@ impl<'a> Rows<'a> {
             let around = Around {
                 heading: Some(heading.as_str()),
                 output: Output::Plain,
+                trusts_stamps: false,
             };
             return push_ran(&stand_in_run_of(&self.folder, around, words)?, told);
         }
         let around = Around {
             heading: None,
             output: output_of(first),
+            trusts_stamps: false,
         };
         let ran = stand_in_run_of(&self.folder, around, rest)?;
         if first == "status_ninja" {
@@ -207,6 +210,12 @@ impl<'a> Rows<'a> {
         let alloc = self.folder.alloc();
         let words = format!(in alloc; "-C @ {words}")?;
         run_of(&self.folder, None, words.as_str())
+    }
+
+    fn ran_trusting(&self, words: &str) -> Result<Ran, AllocError> {
+        let alloc = self.folder.alloc();
+        let words = format!(in alloc; "-C @ {words}")?;
+        trusting_run_of(&self.folder, words.as_str())
     }
 
     fn ran_under(&self, pattern: &str, words: &str) -> Result<Ran, AllocError> {

@@ -2,7 +2,7 @@
 
 use crate::answers::plain;
 use crate::folder::Folder;
-use nj_run::run;
+use nj_run::{Environment, run};
 use std::alloc::{AllocError, Global};
 use std::convert::AsStr;
 
@@ -17,11 +17,32 @@ pub struct Ran {
 /// Runs the program where `NINJA_STATUS` is this pattern, or is not set, with these words. `@` in front of a word stands for the
 /// folder.
 pub fn run_of(folder: &Folder<'_>, pattern: Option<&str>, words: &str) -> Result<Ran, AllocError> {
+    let environment = Environment {
+        pattern,
+        trusts_stamps: false,
+    };
+    run_in(folder, environment, words)
+}
+
+/// The same where `NJ_TRUST_STAMPS` is 1, and the pattern is not set.
+pub fn trusting_run_of(folder: &Folder<'_>, words: &str) -> Result<Ran, AllocError> {
+    let environment = Environment {
+        pattern: None,
+        trusts_stamps: true,
+    };
+    run_in(folder, environment, words)
+}
+
+fn run_in(
+    folder: &Folder<'_>,
+    environment: Environment<'_>,
+    words: &str,
+) -> Result<Ran, AllocError> {
     let alloc = folder.alloc();
     let words = words_of(folder, words)?;
     let mut out = Vec::new(alloc);
     let mut err = Vec::new(alloc);
-    let status = run(folder.rt, words.as_slice(), pattern, &mut out, &mut err);
+    let status = run(folder.rt, words.as_slice(), environment, &mut out, &mut err);
     Ok(Ran {
         status,
         out: String::from_utf8_lossy(alloc, out.as_slice())?,

@@ -3,6 +3,7 @@
 ghost use Rattle.std.specs.Prelude.{◌≡◌, ◌⊎◌, [], false, IfErr, IfNone, IfOk, IfSome, OnOk};
 ghost use Rattle.model.specs.World.{World, IsIdle};
 ghost use Rattle.model.specs.Calls.{OnlyLooks};
+ghost use Rattle.builder.specs.Build.{IsBuild, limits_of};
 ghost use Rattle.ninja_asked.specs.Above.{AreEdges};
 ghost use Rattle.stand_in.specs.Moves.{EndsFirst, IsEndOf, IsReady, MayBeBuiltFirst, end_in, outcome_in};
 ghost use Rattle.stand_in.specs.Moves.{WasReadAlone, WasReadHere, WasUnreadAlone, WasUnreadHere};
@@ -97,19 +98,21 @@ pub fn read_alone<S: Alone>(alloc: Global, site: &mut S, file: &str) -> Result<D
 }
 
 /// Runs the generators of the file that are out of date, and then builds what is asked for: the moves of a build of what generators
-/// need, edits, and a build. Where nothing is out of date, it is one build, for which all is read once.
+/// need, edits, and a build. Where nothing is out of date, it is one build, for which all is read once. What was read first comes with the
+/// end, if it could be read: it has served, and who ends the program right after need not let it go.
 pub fn build_here<S: Place>(
     alloc: Global,
     site: &mut S,
     given: &Given<'_>,
     options: &Options,
-) -> Ended
+) -> (Ended, Option<Declared>)
     requires { IsIdle (S.world site.old).events }
-    ensures { IsEndOf S.tells S.outcome options.now (S.world site.old) (S.world site.new) result.outcome }
+    ensures { IsEndOf S.tells S.outcome options.now (S.world site.old) (S.world site.new) result.0.outcome }
 {
-    match try_build(alloc, site, given, options) {
-        Ok(ended) => ended,
-        Err(report) => Ended::by(Outcome::Built(report)),
+    let mut left = None;
+    match try_build(alloc, site, given, options, &mut left) {
+        Ok(ended) => (ended, left),
+        Err(report) => (Ended::by(Outcome::Built(report)), left),
     }
 }
 
@@ -118,12 +121,15 @@ fn try_build<S: Place>(
     site: &mut S,
     given: &Given<'_>,
     options: &Options,
+    left: &mut Option<Declared>,
 ) -> Result<Ended, Report>
     requires { IsIdle (S.world site.old).events }
     ensures { IsEndOf S.tells S.outcome options.now (S.world site.old) (S.world site.new) (end_in result) }
 {
     let mut declared = read_alone(alloc, site, options.file.as_str())?;
-    build_declared(alloc, site, given, options, &mut declared)
+    let ended = build_declared(alloc, site, given, options, &mut declared);
+    *left = Some(declared);
+    ended
 }
 
 /// Builds what was read, once generators had their turn.
@@ -171,7 +177,7 @@ fn before_build<S: Place>(
     ensures goes { OnOk result ((S.world site.new).stopped ≡ false) }
     ensures next { ComesNext S.tells S.outcome options.now declared.now (S.world site.old) (S.world site.new) result }
 {
-    match build_first(alloc, site, above, options) {
+    match build_first(alloc, site, declared, above, options) {
         Some(report) => Ok(Next::End(Outcome::NotRebuilt(Some(report)))),
         None => turn_generators(alloc, site, declared, above, options),
     }
@@ -217,6 +223,7 @@ fn where_nothing_ran(above: &Above) -> Next
 fn build_first<S: Place>(
     alloc: Global,
     site: &mut S,
+    declared: &Declared,
     above: &Above,
     options: &Options,
 ) -> Option<Report>
@@ -229,12 +236,27 @@ fn build_first<S: Place>(
     if above.first.is_empty() {
         return None;
     }
-    let report = build(alloc, site, options, above.first.as_slice());
+    let report = build_known(alloc, site, declared, options, above.first.as_slice());
     site.restart();
     match report {
         Report::Success { .. } => None,
         report => Some(report),
     }
+}
+
+/// Builds these targets, once it is told what commands of the file make, which was read.
+fn build_known<S: Place>(
+    alloc: Global,
+    site: &mut S,
+    declared: &Declared,
+    options: &Options,
+    targets: &[Text],
+) -> Report
+    requires { IsIdle (S.world site.old).events }
+    ensures { IsBuild S.tells S.outcome options.now.file (limits_of options.now) targets.now (S.world site.old) (S.world site.new) result }
+{
+    site.learn(alloc, &declared.graph.manifest, options.verbose);
+    build(alloc, site, options, targets)
 }
 
 /// Reads the build files once more, and builds what is asked for.

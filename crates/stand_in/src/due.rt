@@ -41,6 +41,7 @@ pub fn due_here<S: Alone>(
     ensures { OnlyLooks S.tells (S.world site.old) (S.world site.new) }
 {
     let mut declared = read_for(alloc, site, given, options.file.as_str())?;
+    site.learn(alloc, &declared.graph.manifest, options.verbose);
     due_of(alloc, site, given, options, &mut declared)
 }
 

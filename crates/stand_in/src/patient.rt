@@ -9,6 +9,7 @@ use model::{Act, Event, Finished, SiteFault};
 use ninja_words::{Front, Screen};
 use nj_run::Alone;
 use paths::Manifest;
+use seen::{Measure, Measured};
 use site::{Site, Texts};
 use std::alloc::Global;
 use std::io::Write;
@@ -152,6 +153,16 @@ impl<'a, W: Write + Drop> Site for Patient<'a, W> {
 
     fn events(&self) -> &[Event] {
         self.site.events()
+    }
+}
+
+impl<'a, W: Write + Drop> Measured for Patient<'a, W> {
+    fn measure(&mut self, path: &str) -> Result<Option<Measure>, SiteFault> {
+        self.site.measure(path)
+    }
+
+    fn now(&self) -> u64 {
+        self.site.now()
     }
 }
 

@@ -6,6 +6,7 @@ ghost use Rattle.model.specs.Calls.{HasCause, KeepsWait, OnlyLooks};
 use host::Host;
 use model::{Act, SiteFault};
 use nj_run::Alone;
+use seen::{Measured, Seen};
 use std::io::Write;
 
 /// A site in whose folder others may build too, and on which the program does between two builds what a user would do there.
@@ -32,5 +33,16 @@ impl<'a, W: Write> Place for Host<'a, W> {
 
     fn should_wait(&mut self, limit: f64) -> bool {
         self.is_overloaded(limit)
+    }
+}
+
+impl<S: Place + Measured> Place for Seen<S> {
+    #[tactic(auto, using(crate::proofs::Looking::looks_untold))]
+    fn run_generator(&mut self, act: &Act) -> Result<bool, SiteFault> {
+        self.site.run_generator(act)
+    }
+
+    fn should_wait(&mut self, limit: f64) -> bool {
+        self.site.should_wait(limit)
     }
 }

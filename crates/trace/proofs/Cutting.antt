@@ -1,7 +1,10 @@
 -- Cutting at the first place where a mark stands, and lines.
-use Rattle.std.proofs.Common.{◌≡◌, ℕ, ◌+◌, ◌-◌, ◌<◌, Bool, true, false, List, [], ◌∷◌, length, take, drop, refl, sym, ap, subst, ◌∙◌, Option, Some, None, arith, add-one, append-nil}
+use Rattle.std.proofs.Common.{◌≡◌, ◌≢◌, ℕ, ◌+◌, ◌-◌, ◌<◌, Bool, true, false, List, [], ◌∷◌, ◌++◌, length, take, drop, refl, sym, ap, subst, ◌∙◌, Option, Some, None, inl, inr, arith, append_assoc, length-append}
+use Rattle.std.proofs.lemmas.Bool.{eq-eqb}
+use Rattle.std.proofs.lemmas.Bool.Decides.{eqb_tells}
+use Rattle.std.proofs.Math.Seq.{take-append_seam}
 use Rattle.std.proofs.lemmas.List.{take_all, length-drop}
-use Prim.Native.Nat.{zero, suc}
+use Rattle.text.specs.Marks.{Lacks}
 use Rattle.std.specs.Prelude.{nat_eq, option_map}
 use Rattle.std.specs.List.{starts_with}
 use Rattle.trace.specs.Marks.{cut, in_front, skip_blanks}
@@ -19,47 +22,95 @@ pub cut_here : (mark text : List ℕ) → 0 < length text → starts_with nat_eq
 cut_here mark [] some stands = absurd (omega arith)
 cut_here mark (b ∷ text) some stands = rw stands refl
 
--- it does not, and is looked for behind the next byte
-later : (mark text : List ℕ) (i : ℕ) → i < length text → starts_with nat_eq (drop i text) mark ≡ false
-    → option_map (in_front (take i text)) (cut mark (drop i text)) ≡ option_map (in_front (take (suc i) text)) (cut mark (drop (suc i) text))
-later mark [] i within none = absurd (omega arith)
-later mark (b ∷ text) zero within none = rw none (nothing_in_front (option_map (in_front (b ∷ [])) (cut mark text)))
-later mark (b ∷ text) (suc i) within none =
-    sym (more_in_front b (take i text) (cut mark (drop i text)))
-    ∙ ap (option_map (in_front (b ∷ []))) (later mark text i (omega arith) none)
-    ∙ more_in_front b (take (suc i) text) (cut mark (drop (suc i) text))
+-- what stands before a mark in parts
+all_in_front : (a b : List ℕ) (found : Option (List ℕ × List ℕ)) → option_map (in_front a) (option_map (in_front b) found) ≡ option_map (in_front (a ++ b)) found
+all_in_front a b None = refl
+all_in_front a b (Some parts) = ap (λ (front : List ℕ). Some (front, parts.1)) (sym (append_assoc a b parts.0))
 
-pub cut_later : (mark text : List ℕ) (i : ℕ) → i < length text → starts_with nat_eq (drop i text) mark ≡ false
-    → option_map (in_front (take i text)) (cut mark (drop i text)) ≡ option_map (in_front (take (i + 1) text)) (cut mark (drop (i + 1) text))
-cut_later mark text i within none = rw add-one (later mark text i within none)
+-- it does not stand where another byte stands than its first one
+passes : (m b : ℕ) (ms text : List ℕ) → b ≢ m → starts_with nat_eq (b ∷ text) (m ∷ ms) ≡ false
+passes m b ms text other = elim (eqb_tells m b) [
+  | inl same ↦ absurd (other (sym same.1))
+  | inr differ ↦ rw differ.0 refl
+]
+
+-- its first byte stands here
+first_stands : (m : ℕ) (ms text : List ℕ) → starts_with nat_eq (m ∷ text) (m ∷ ms) ≡ starts_with nat_eq text ms
+first_stands m ms text = rw (eq-eqb m m refl) refl
+
+-- it does not stand at the first place where its first byte does
+pub passed : (m : ℕ) (ms front after : List ℕ) → Lacks m front → starts_with nat_eq after ms ≡ false
+    → cut (m ∷ ms) (front ++ m ∷ after) ≡ option_map (in_front (front ++ m ∷ [])) (cut (m ∷ ms) after)
+passed m ms [] after lacks none = rw (first_stands m ms after ∙ none) refl
+passed m ms (b ∷ front) after lacks none =
+    rw (passes m b ms (front ++ m ∷ after) lacks.0)
+    (ap (option_map (in_front (b ∷ []))) (passed m ms front after lacks.1 none) ∙ more_in_front b (front ++ m ∷ []) (cut (m ∷ ms) after))
+
+-- it stands there
+pub stands : (m : ℕ) (ms front after : List ℕ) → Lacks m front → starts_with nat_eq after ms ≡ true
+    → cut (m ∷ ms) (front ++ m ∷ after) ≡ Some (front, drop (length ms) after)
+stands m ms [] after lacks is = rw (first_stands m ms after ∙ is) refl
+stands m ms (b ∷ front) after lacks is =
+    rw (passes m b ms (front ++ m ∷ after) lacks.0) (ap (option_map (in_front (b ∷ []))) (stands m ms front after lacks.1 is))
+
+-- it stands nowhere where its first byte does not
+pub nowhere : (m : ℕ) (ms text : List ℕ) → Lacks m text → cut (m ∷ ms) text ≡ None
+nowhere m ms [] lacks = refl
+nowhere m ms (b ∷ text) lacks = rw (passes m b ms text lacks.0) (ap (option_map (in_front (b ∷ []))) (nowhere m ms text lacks.1))
+
+-- so many bytes of a text were passed, in which the mark does not begin; the rest is left
+pub record IsPassed (m : ℕ) (ms text : List ℕ) (place : ℕ) (rest : List ℕ) : Type 0 where
+  pub seen : List ℕ
+  pub split : text ≡ seen ++ rest
+  pub size : place ≡ length seen
+  pub far : cut (m ∷ ms) text ≡ option_map (in_front seen) (cut (m ∷ ms) rest)
+
+pub none_passed : (m : ℕ) (ms text : List ℕ) → IsPassed m ms text 0 text
+none_passed m ms text = record { seen = []; split = refl; size = refl; far = sym (nothing_in_front (cut (m ∷ ms) text)) }
+
+pub more_passed : (m : ℕ) (ms text : List ℕ) (place : ℕ) (rest front after : List ℕ) → IsPassed m ms text place rest → rest ≡ front ++ m ∷ after → Lacks m front
+    → starts_with nat_eq after ms ≡ false → IsPassed m ms text (place + length front + 1) after
+more_passed m ms text place rest front after is parts lacks none = record {
+  seen = is.seen ++ (front ++ m ∷ []);
+  split =
+      is.split ∙ (ap (λ (l : List ℕ). is.seen ++ l) parts
+      ∙ (ap (λ (l : List ℕ). is.seen ++ l) (sym (append_assoc front (m ∷ []) after)) ∙ sym (append_assoc is.seen (front ++ m ∷ []) after)));
+  size = omega (arith, is.size, length-append is.seen (front ++ m ∷ []), length-append front (m ∷ []));
+  far =
+      is.far ∙ (ap (λ (l : List ℕ). option_map (in_front is.seen) (cut (m ∷ ms) l)) parts
+      ∙ (ap (option_map (in_front is.seen)) (passed m ms front after lacks none) ∙ all_in_front is.seen (front ++ m ∷ []) (cut (m ∷ ms) after)));
+}
+
+pub passed_within : (m : ℕ) (ms text : List ℕ) (place : ℕ) (rest front after : List ℕ) → IsPassed m ms text place rest → rest ≡ front ++ m ∷ after → place + length front < length text
+passed_within m ms text place rest front after is parts =
+    omega (arith, is.size, ap length is.split, length-append is.seen rest, ap length parts, length-append front (m ∷ after))
+
+-- all that stands from a place on
+from_place : (text : List ℕ) (i : ℕ) → take (length text - i) (drop i text) ≡ drop i text
+from_place text i = take_all (length text - i) (drop i text) (omega (arith, length-drop i text))
+
+-- what stands before a place
+before_place : (text front more : List ℕ) (place : ℕ) → text ≡ front ++ more → place ≡ length front → take place text ≡ front
+before_place text front more place split size = rw (split, size) (take-append_seam front more)
+
+-- the mark stands at this place, which parts the text
+pub found_at : (m : ℕ) (ms text : List ℕ) (place : ℕ) (rest front after : List ℕ) → IsPassed m ms text place rest → rest ≡ front ++ m ∷ after → Lacks m front
+    → starts_with nat_eq after ms ≡ true
+    → Some (take (place + length front) text, take (length after - length ms) (drop (length ms) after)) ≡ cut (m ∷ ms) text
+found_at m ms text place rest front after is parts lacks stand =
+    let split : text ≡ (is.seen ++ front) ++ m ∷ after = is.split ∙ (ap (λ (l : List ℕ). is.seen ++ l) parts ∙ sym (append_assoc is.seen front (m ∷ after))) in
+    let size : place + length front ≡ length (is.seen ++ front) = omega (arith, is.size, length-append is.seen front) in
+    ap (λ (l : List ℕ). Some (l, take (length after - length ms) (drop (length ms) after))) (before_place text (is.seen ++ front) (m ∷ after) (place + length front) split size)
+    ∙ (ap (λ (l : List ℕ). Some (is.seen ++ front, l)) (from_place after (length ms))
+    ∙ sym (is.far ∙ (ap (λ (l : List ℕ). option_map (in_front is.seen) (cut (m ∷ ms) l)) parts ∙ ap (option_map (in_front is.seen)) (stands m ms front after lacks stand))))
+
+-- it stands nowhere in the rest
+pub found_nowhere : (m : ℕ) (ms text : List ℕ) (place : ℕ) (rest : List ℕ) → IsPassed m ms text place rest → Lacks m rest → None ≡ cut (m ∷ ms) text
+found_nowhere m ms text place rest is lacks = sym (is.far ∙ ap (option_map (in_front is.seen)) (nowhere m ms rest lacks))
 
 -- one blank more is passed
 pub skip_one : (text : List ℕ) → skip_blanks (32 ∷ text) ≡ skip_blanks text
 skip_one text = refl
-
--- all that stands from a place on
-pub from_place : (text : List ℕ) (i : ℕ) → take (length text - i) (drop i text) ≡ drop i text
-from_place text i = take_all (length text - i) (drop i text) (omega (arith, length-drop i text))
-
--- the mark stands at a place, and at none before it
-pub cut_at : (mark text : List ℕ) (i : ℕ) → i < length text → cut mark text ≡ option_map (in_front (take i text)) (cut mark (drop i text)) → starts_with nat_eq (drop i text) mark ≡ true
-    → cut mark text ≡ Some (take i text, drop (length mark) (drop i text))
-cut_at mark text i within far stands =
-    far ∙ (ap (option_map (in_front (take i text))) (cut_here mark (drop i text) (omega (arith, length-drop i text)) stands)
-    ∙ ap (λ (front : List ℕ). Some (front, drop (length mark) (drop i text))) (append-nil (take i text)))
-
-pub cut_in_parts : (mark text : List ℕ) (i : ℕ) → i < length text → cut mark text ≡ option_map (in_front (take i text)) (cut mark (drop i text))
-    → starts_with nat_eq (take (length text - i) (drop i text)) mark ≡ true
-    → Some (take i text, take (length (take (length text - i) (drop i text)) - length mark) (drop (length mark) (take (length text - i) (drop i text)))) ≡ cut mark text
-cut_in_parts mark text i within far stands =
-    let whole = from_place text i in
-    let here : starts_with nat_eq (drop i text) mark ≡ true = ap (λ (xs : List ℕ). starts_with nat_eq xs mark) (sym whole) ∙ stands in
-    let all = ap (λ (xs : List ℕ). Some (take i text, take (length xs - length mark) (drop (length mark) xs))) whole in
-    let behind = ap (λ (xs : List ℕ). Some (take i text, xs)) (from_place (drop i text) (length mark)) in
-    all ∙ (behind ∙ sym (cut_at mark text i within far here))
-
-pub not_here : (mark text : List ℕ) (i : ℕ) → starts_with nat_eq (take (length text - i) (drop i text)) mark ≡ false → starts_with nat_eq (drop i text) mark ≡ false
-not_here mark text i other = ap (λ (xs : List ℕ). starts_with nat_eq xs mark) (sym (from_place text i)) ∙ other
 
 -- what stands behind a mark is shorter
 shorter_in : (b : ℕ) (found : Option (List ℕ × List ℕ)) (parts : List ℕ × List ℕ) (n : ℕ) → ((p : List ℕ × List ℕ) → found ≡ Some p → length p.1 < n) → option_map (in_front (b ∷ [])) found ≡ Some parts → length parts.1 < n

@@ -52,6 +52,10 @@ has_two doing.Moves = true
 has_two doing.Links = true
 has_two _ = false
 
+abbrev pub opens : Does → Bool
+opens doing.Opens = true
+opens _ = false
+
 abbrev pub is_of_folders : Does → Bool
 is_of_folders doing.Folders = true
 is_of_folders _ = false
@@ -85,7 +89,10 @@ abbrev pub looks_at : List ℕ → Bool
 looks_at name =
     bytes_eq name (codes "newfstatat") || (bytes_eq name (codes "statx") || (bytes_eq name (codes "faccessat")
     || (bytes_eq name (codes "faccessat2") || (bytes_eq name (codes "readlinkat") || (bytes_eq name (codes "fchmodat")
-    || (bytes_eq name (codes "fchownat") || bytes_eq name (codes "name_to_handle_at")))))))
+    || (bytes_eq name (codes "fchmodat2") || (bytes_eq name (codes "fchownat") || bytes_eq name (codes "name_to_handle_at"))))))))
+
+abbrev pub opens_at : List ℕ → Bool
+opens_at name = bytes_eq name (codes "openat") || bytes_eq name (codes "openat2")
 
 abbrev pub lists : List ℕ → Bool
 lists name = bytes_eq name (codes "getdents") || bytes_eq name (codes "getdents64")
@@ -117,7 +124,7 @@ row_of_look name =
     (when (looks name) doing.Looks by.Name)
     (when (looks_at name) doing.Looks by.At))
     (when (bytes_eq name (codes "open")) doing.Opens by.Name))
-    (when (bytes_eq name (codes "openat")) doing.Opens by.At))
+    (when (opens_at name) doing.Opens by.At))
     (when (lists name) doing.Lists by.Opened)
 
 unfoldable pub row_of_change : List ℕ → Option Row

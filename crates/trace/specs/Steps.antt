@@ -6,7 +6,7 @@ use Rattle.trace.specs.declared.processes.Known.{Known}
 use Rattle.trace.specs.declared.steps.Step.{Step}
 use Rattle.trace.specs.Marks.{has}
 use Rattle.trace.specs.Arguments.{descriptor, first_argument}
-use Rattle.trace.specs.Calls.{begins, begins_one, connects, ending_of, goes, is_missing, is_open, is_void, is_well, passes}
+use Rattle.trace.specs.Calls.{begins, begins_one, connects, ending_of, goes, is_missing, is_open, is_void, is_well, opens, passes}
 use Rattle.trace.specs.Facts.{Seen, fact, facts_of, paths_of}
 use Rattle.trace.specs.Processes.{fresh}
 
@@ -53,11 +53,19 @@ walked_at known call paths =
 abbrev pub swaps : Seen → Bool
 swaps call = has (codes "RENAME_EXCHANGE") call.arguments || has (codes "RENAME_WHITEOUT") call.arguments
 
+-- it takes a name that begins at the root from a folder that is no root to others
+abbrev pub has_own_root : Seen → Bool
+has_own_root call = has (codes "RESOLVE_IN_ROOT") call.arguments
+
+-- it opens a file, and what for is not written
+abbrev pub is_blind : Seen → Bool
+is_blind call = opens call.row.does && not (has (codes "O_") call.arguments)
+
 -- What a call of a process did. None where that cannot be told: its process ended in it, or it names no path that can be read.
 abbrev pub step_of : Known → Seen → Option Step
 step_of known call =
     if passes call.row.does || is_void (ending_of call.answer) then Some (still known)
-    else (if is_open (ending_of call.answer) || swaps call then None
+    else (if ((is_open (ending_of call.answer) || swaps call) || has_own_root call) || is_blind call then None
     else (if begins_one call.row.does then Some (started known call)
     else (if connects call.row.does then Some (connected known call)
     else option_and_then (walked_at known call) (paths_of call known.folder))))

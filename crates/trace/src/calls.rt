@@ -1,7 +1,7 @@
 //! The calls of the system of which it is known what they do to files.
 
 ghost use Rattle.std.specs.Prelude.{◌≡◌};
-ghost use Rattle.trace.specs.Calls.{begins_one, changes, changes_at, connects, goes, has_two, is_of_folders, leads, lists, looks, looks_at, moves_at, passes, row_of_change, row_of_look, row_of_process, row_of_two, row_named, starts, when};
+ghost use Rattle.trace.specs.Calls.{begins_one, changes, changes_at, connects, goes, has_two, is_of_folders, leads, lists, looks, looks_at, moves_at, opens, opens_at, passes, row_of_change, row_of_look, row_of_process, row_of_two, row_named, starts, when};
 
 /// What a call does.
 #[derive(Clone, Copy, Debug, PartialEq, Eq)]
@@ -64,6 +64,12 @@ impl Does {
         ensures { result ≡ has_two self }
     {
         matches!(self, Does::Moves | Does::Links)
+    }
+
+    pub fn opens(self) -> bool
+        ensures { result ≡ opens self }
+    {
+        matches!(self, Does::Opens)
     }
 
     pub fn is_of_folders(self) -> bool
@@ -130,7 +136,7 @@ fn row_of_look(name: &str) -> Option<Row>
     when(looks(name), Does::Looks, Form::Name)
         .or(when(looks_at(name), Does::Looks, Form::At))
         .or(when(name == "open", Does::Opens, Form::Name))
-        .or(when(name == "openat", Does::Opens, Form::At))
+        .or(when(opens_at(name), Does::Opens, Form::At))
         .or(when(lists(name), Does::Lists, Form::Opened))
 }
 
@@ -207,9 +213,16 @@ fn looks_at(name: &str) -> bool
             | "faccessat2"
             | "readlinkat"
             | "fchmodat"
+            | "fchmodat2"
             | "fchownat"
             | "name_to_handle_at"
     )
+}
+
+fn opens_at(name: &str) -> bool
+    ensures { result ≡ opens_at name.now }
+{
+    matches!(name, "openat" | "openat2")
 }
 
 fn lists(name: &str) -> bool

@@ -2,7 +2,7 @@
 
 ghost use Rattle.std.specs.Prelude.{◌≡◌, IfOk};
 ghost use Rattle.trace.specs.Facts.{call_seen};
-ghost use Rattle.trace.specs.Steps.{connected, folder_told, has_gone, started, step_of, still, swaps, walked_at};
+ghost use Rattle.trace.specs.Steps.{connected, folder_told, has_gone, has_own_root, is_blind, started, step_of, still, swaps, walked_at};
 
 use crate::arguments::{descriptor, first_argument};
 use crate::ending::ending_of;
@@ -34,7 +34,7 @@ pub fn step_of(alloc: Global, known: &Known, call: &Call<'_>) -> Result<Option<S
     if call.row.does.passes() || end.is_void() {
         return Ok(Some(still(alloc, known)?));
     }
-    if end.is_open() || swaps(call) {
+    if end.is_open() || swaps(call) || has_own_root(call) || is_blind(call) {
         return Ok(None);
     }
     if call.row.does.begins_one() {
@@ -54,6 +54,20 @@ fn swaps(call: &Call<'_>) -> bool
     ensures { result ≡ swaps (call_seen call.now) }
 {
     has(call.arguments, b"RENAME_EXCHANGE") || has(call.arguments, b"RENAME_WHITEOUT")
+}
+
+/// Whether it takes a name that begins at the root from a folder that is no root to others.
+fn has_own_root(call: &Call<'_>) -> bool
+    ensures { result ≡ has_own_root (call_seen call.now) }
+{
+    has(call.arguments, b"RESOLVE_IN_ROOT")
+}
+
+/// Whether it opens a file, and what for is not written.
+fn is_blind(call: &Call<'_>) -> bool
+    ensures { result ≡ is_blind (call_seen call.now) }
+{
+    call.row.does.opens() && !has(call.arguments, b"O_")
 }
 
 /// Nothing was done.

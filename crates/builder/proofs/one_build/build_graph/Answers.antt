@@ -49,8 +49,8 @@ returns-in_err-state g c = (
       (builds_memory g.S.Texts.tells course.behaviour course.format course.own (declared_by graph) asked.folder asked.limits asked.given.now asked.targets course.store course.entry old has.found has.idle has.looked),
 )
 
-pub run_state-requires-clause-begins : goal.run_state-requires-clause-begins
-run_state-requires-clause-begins g c =
+pub run_state-told-requires-clause-begins : goal.run_state-told-requires-clause-begins
+run_state-told-requires-clause-begins g c =
     let tells = g.S.Texts.tells in
     let graph = c.args.graph.now in
     let asked = c.args.asked.now in
@@ -68,7 +68,7 @@ run_state-requires-clause-begins g c =
 
 pub returns : goal.returns
 returns g c = (
-  c.run_state.ensures.grown,
+  c.run_state-told.ensures.grown,
   λ course has.
       let tells = g.S.Texts.tells in
       let graph = c.args.graph.now in
@@ -77,8 +77,8 @@ returns g c = (
       let is_tick = c.as_str-2.ensures.value ∙ (c.in_ok-tick.ensures ∙ ap (λ folder. file_in folder tick_name) c.as_str.ensures) in
       let state = c.in_ok-state.state in
       let fresh = c.in_ok-state.ensures.fresh in
-      builds_reported tells graph asked c.args.records course old has c.requires.once c.requires.inputs c.in_ok-cone.cone c.in_ok-cone.ensures.cone _ state c.run_state.new.graph c.run_state.new.cone (g.S.Texts.world c.run_state.new.site)
-      (report_in c.run_state.result) c.run_state.ensures
+      builds_reported tells graph asked c.args.records course old has c.requires.once c.requires.inputs c.in_ok-cone.cone c.in_ok-cone.ensures.cone _ state c.run_state-told.new.graph c.run_state-told.new.cone (g.S.Texts.world c.run_state-told.new.site)
+      (report_in c.run_state-told.result) c.run_state-told.ensures
       (begins_this tells graph asked c.args.records course old has c.requires.formed c.requires.once c.requires.inputs c.in_ok-cone.cone c.in_ok-cone.ensures.cone state.plan fresh.plan state.looks
       fresh.looks state refl refl fresh.kept fresh.failed fresh.starts _ is_tick)
       (begins_here tells graph asked c.args.records course old has c.requires.formed c.requires.once c.requires.inputs c.in_ok-cone.cone c.in_ok-cone.ensures.cone state.plan fresh.plan state.looks

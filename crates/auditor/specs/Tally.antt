@@ -1,0 +1,72 @@
+-- How many commands were looked at, and how many keep all premises.
+use Rattle.std.specs.Prelude.{◌≡◌, ℕ, ◌+◌, ◌==◌, ◌&&◌, ◌⊎◌, Bool, true, List, [], Option, Some, None, length, min, if◌then◌else◌}
+use Rattle.trace.specs.declared.fact.Fact.{Fact}
+use Rattle.trace.specs.Lines.{told}
+use Rattle.audit.specs.declared.place.Lists.{Lists}
+use Rattle.audit.specs.declared.place.Around.{Around}
+use Rattle.audit.specs.Breaches.{breaches}
+use Rattle.audit.specs.declared.seen.Whole.{Whole}
+use Rattle.audit.specs.Seen.{Sums, no_sums, with_all_done, with_untouched}
+use Rattle.auditor.specs.declared.tally.Counts.{Counts}
+use Rattle.auditor.specs.Things.{AreThings}
+
+abbrev pub none_looked_at : ℕ → Counts
+none_looked_at commands = record { commands = commands; looked = 0; kept = 0 }
+
+-- one more, of a number that a word holds
+abbrev pub one_more : ℕ → ℕ
+one_more n = min (n + 1) 18446744073709551615
+
+-- the same, and one more was looked at, which keeps all premises or does not
+abbrev pub with_one : Counts → Bool → Counts
+with_one counts keeps = record {
+  commands = counts.commands;
+  looked = one_more counts.looked;
+  kept = if keeps then one_more counts.kept else counts.kept;
+}
+
+-- each command was looked at, and keeps all premises
+abbrev pub is_clean : Counts → Bool
+is_clean counts = (counts.looked == counts.commands) && (counts.kept == counts.looked)
+
+-- ---- what is counted
+
+-- Of a command which did this in sum, with a judgement of each path: it counts as one that keeps all premises only where nothing breaks one.
+pub record IsCountedBy (lists : Lists) (sums : Sums) (old new : Counts) : Type 0 where
+  pub keeps : Bool
+  pub arounds : List Around
+  pub each : length arounds ≡ length sums.paths
+  pub found : keeps ≡ true → breaches lists arounds sums ≡ []
+  pub is : new ≡ with_one old keeps
+
+-- what these things come to, each of them by one of its two paths, and at each output of the command
+pub record AreSums (wholes : List Whole) (outputs : List (List ℕ)) (sums : Sums) : Type 0 where
+  pub reals : List Bool
+  pub each : length reals ≡ length wholes
+  pub are : sums ≡ with_untouched (with_all_done no_sums wholes reals) outputs
+
+-- of a command that did these things
+pub record IsCountedOf (wholes : List Whole) (old new : Counts) : Type 0 where
+  pub lists : Lists
+  pub sums : Sums
+  pub are : AreSums wholes lists.outputs sums
+  pub is : IsCountedBy lists sums old new
+
+-- so much breaks a premise of that which came to these sums, with a judgement of each path
+abbrev pub AreFound : Lists → Sums → ℕ → Type 0
+AreFound lists sums count =
+    (arounds : List Around) × (length arounds ≡ length sums.paths) × (count ≡ length (breaches lists arounds sums))
+
+-- the trace of a command that began in this folder tells these things
+abbrev pub Tells : List ℕ → List ℕ → List Whole → Type 0
+Tells start trace wholes = (facts : List Fact) × (told start trace ≡ Some facts) × AreThings facts wholes
+
+-- of a command of which a trace tells these facts; one with a path that is no text does not count as looked at
+abbrev pub TakesTold : Option (List Fact) → Counts → Counts → Type 0
+TakesTold None old new = new ≡ old
+TakesTold (Some facts) old new = (new ≡ old) ⊎ ((wholes : List Whole) × AreThings facts wholes × IsCountedOf wholes old new)
+
+-- Of a command that began in this folder and left this trace, if any. It counts as looked at only where the trace is understood.
+abbrev pub TakesIn : List ℕ → Option (List ℕ) → Counts → Counts → Type 0
+TakesIn start None old new = new ≡ old
+TakesIn start (Some trace) old new = TakesTold (told start trace) old new

@@ -1,0 +1,34 @@
+-- The things that a command did, as they are judged, and the facts that a trace tells.
+use Rattle.std.specs.Prelude.{◌≡◌, Bool, true, false, List, ◌++◌, None}
+use Rattle.std.specs.List.{AllByRecursion, AllZip}
+use Rattle.trace.specs.declared.fact.Deed.{Deed}
+use Rattle.trace.specs.declared.fact.Deed.TheVariants.{Asked, Folder, Listed}
+use Rattle.trace.specs.declared.fact.Fact.{Fact}
+use Rattle.audit.specs.declared.seen.Whole.{Whole}
+use Rattle.audit.specs.Seen.{AreWhole}
+
+-- what may be told by a descriptor alone
+abbrev pub may_be_renamed : Deed → Bool
+may_be_renamed Asked = true
+may_be_renamed Listed = true
+may_be_renamed _ = false
+
+-- the same thing; what is told by a descriptor alone may have another name, by which the file was opened
+pub record IsGiven (whole named : Whole) : Type 0 where
+  pub deed : named.deed ≡ whole.deed
+  pub real : named.real ≡ whole.real
+  pub path : may_be_renamed whole.deed ≡ false → named.path ≡ whole.path
+
+-- that folders are there was put behind these things
+pub record AddsFolders (old new : List Whole) : Type 0 where
+  pub folders : List Whole
+  pub are : new ≡ old ++ folders
+  pub each : AllByRecursion (λ whole. whole.deed ≡ Folder) folders
+
+-- these things are those of the facts, each of them once, and beside them that folders are there
+pub record AreThings (facts : List Fact) (things : List Whole) : Type 0 where
+  pub wholes : List Whole
+  pub whole : AreWhole facts wholes
+  pub named : List Whole
+  pub given : AllZip IsGiven wholes named
+  pub folders : AddsFolders named things

@@ -1,0 +1,12 @@
+use Rattle.std.proofs.Common.{◌≡◌, ℕ, Ok}
+use Rattle.seen.specs.Asking.{Asks}
+use Rattle.seen.specs.Noting.{Grows}
+use Rattle.seen.proofs.seen.Seen.ask_read.Given as goal
+
+-- what was asked so far was answered, and what was noted stands behind what was noted before
+abbrev pub invariant-loop-path : goal.invariant-loop-path
+invariant-loop-path g l = record {
+  asks : Asks {T = ℕ} (g.S.Texts.world l.fn.self.site) (g.S.Texts.world l.self.site) (Ok 0);
+  grows : Grows l.fn.self.known.lines.items l.self.known.lines.items;
+  notes : l.self.notes ≡ l.fn.self.notes;
+}

@@ -1,0 +1,116 @@
+-- How what is found at a path counts, by what is noted of it. All is this project's own.
+use Rattle.std.specs.Prelude.{ℕ, ◌+◌, ◌-◌, ◌%◌, ◌^◌, ◌==◌, ◌&&◌, ◌||◌, not, max, min, nat_lt, Bool, true, false, if◌then◌else◌, Option, Some, None}
+use Rattle.std.specs.Option.{option_map}
+use Rattle.seen_log.specs.declared.note.Kind.{Kind}
+use Rattle.seen_log.specs.declared.note.Kind.TheVariants.{Source, Made, Turned}
+use Rattle.seen_log.specs.declared.note.Noted.{Noted}
+use Rattle.seen_log.specs.Log.{counts_of}
+use Rattle.seen.specs.declared.judging.Judged.{Judged}
+use Rattle.seen.specs.declared.judging.Past.{Past}
+use Rattle.seen.specs.declared.measure.Measure.{Measure}
+
+-- a stamp cut to whole seconds
+abbrev pub whole_seconds : ℕ → ℕ
+whole_seconds stamp = stamp - stamp % 1000000000
+
+-- a file of this stamp and this size is the noted one, or the noted one with its stamp cut to whole seconds
+abbrev pub is_as_noted : Noted → ℕ → ℕ → Bool
+is_as_noted noted stamp size = (size == noted.size) && ((stamp == noted.stamp) || (stamp == whole_seconds noted.stamp))
+
+-- what somebody else wrote where a command had made the path
+abbrev pub is_turned : Kind → Bool
+is_turned Source = false
+is_turned Made = false
+is_turned Turned = true
+
+-- as what a source is noted that is another than the noted one
+abbrev pub turned : Kind → Kind
+turned Source = Source
+turned Made = Turned
+turned Turned = Turned
+
+-- this counts, and nothing is to be noted
+abbrev pub plainly : Option ℕ → Judged
+plainly counts = record { counts = counts; number = None; kind = Source }
+
+-- this counts, and it is to be noted as the number of what is of this kind
+abbrev pub under : ℕ → Kind → Judged
+under number kind = record { counts = Some number; number = Some number; kind = kind }
+
+-- what is as noted counts as before, but as absent where a command makes what somebody else wrote
+abbrev pub judged_same : Noted → (is_output : Bool) → Judged
+judged_same noted is_output = if is_output && is_turned noted.kind then plainly None else plainly (Some (counts_of noted))
+
+-- what is as noted counts so; any other file counts as absent where a command makes it, and else as written when it was put there, but
+-- no earlier than the number of the build
+abbrev pub judged_noted : Noted → (is_output : Bool) → (number stamp size placed : ℕ) → Judged
+judged_noted noted is_output number stamp size placed =
+    if is_as_noted noted stamp size then judged_same noted is_output
+    else (if is_output then plainly None else under (max number placed) (turned noted.kind))
+
+-- a command that was started before has read it, while somebody may have put it there
+abbrev pub is_late : (since : Option ℕ) → (placed : ℕ) → Bool
+is_late None placed = false
+is_late (Some start) placed = nat_lt start placed
+
+-- what was never noted has its own stamp, and is noted so. A source that was put there after the start of a command that has read it counts as
+-- written then.
+abbrev pub judged_new : (is_output : Bool) → (since : Option ℕ) → (stamp placed : ℕ) → Judged
+judged_new is_output since stamp placed =
+    if is_late since placed && not is_output then under placed Source
+    else record { counts = Some stamp; number = Some 0; kind = if is_output then Made else Source }
+
+-- a file of this stamp and this size counts so, where this is noted of it
+abbrev pub judged_file : Option Noted → Past → (number stamp size placed : ℕ) → Judged
+judged_file None past number stamp size placed = judged_new past.is_output past.since stamp placed
+judged_file (Some noted) past number stamp size placed = judged_noted noted past.is_output number stamp size placed
+
+-- what the command of this build has made counts by what is noted of it, and else under its own stamp: it is noted when that has ended
+abbrev pub judged_made : Option Noted → (stamp size : ℕ) → Judged
+judged_made None stamp size = plainly (Some stamp)
+judged_made (Some noted) stamp size = if is_as_noted noted stamp size then plainly (Some (counts_of noted)) else plainly (Some stamp)
+
+-- a folder has its own stamp, and is never noted
+abbrev pub judged_sized : Past → (number stamp placed : ℕ) → Option ℕ → Judged
+judged_sized past number stamp placed None = plainly (Some stamp)
+judged_sized past number stamp placed (Some size) =
+    if past.is_made then judged_made past.noted stamp size else judged_file past.noted past number stamp size placed
+
+-- how what is found at a path of this past counts, in a build of this number
+abbrev pub judged : Past → (number : ℕ) → Option Measure → Judged
+judged past number None = plainly None
+judged past number (Some found) = judged_sized past number found.stamp found.placed found.size
+
+-- ---- what a command left
+
+-- What its command, which was started under this stamp, did not write, although it is another than noted: it counts as written right behind
+-- the start, which is later than each start before the build.
+abbrev pub left_since : (start stamp : ℕ) → ℕ
+left_since start stamp = if nat_lt start stamp then 0 else min (start + 1) (2 ^ 64 - 1)
+
+-- the number under which an output is noted that its command left so: what is as noted counts as before, and else 0 stands for its own stamp
+abbrev pub left_number : Option Noted → (start stamp size : ℕ) → ℕ
+left_number None start stamp size = 0
+left_number (Some noted) start stamp size = if is_as_noted noted stamp size then counts_of noted else left_since start stamp
+
+-- that of what was found there; none where it is no file
+abbrev pub left_of : Option Noted → (start : ℕ) → Option Measure → Option ℕ
+left_of noted start None = None
+left_of noted start (Some found) = option_map (left_number noted start found.stamp) found.size
+
+-- how what was found counts where nothing else is asked: it is absent, a folder, or as noted, and nothing that somebody wrote where a command
+-- had made the path
+abbrev pub already_sized : Option Noted → (stamp : ℕ) → Option ℕ → Option Judged
+already_sized noted stamp None = Some (plainly (Some stamp))
+already_sized None stamp (Some size) = None
+already_sized (Some noted) stamp (Some size) = if is_as_noted noted stamp size && not (is_turned noted.kind) then Some (plainly (Some (counts_of noted))) else None
+
+abbrev pub already : Option Noted → Option Measure → Option Judged
+already noted None = Some (plainly None)
+already noted (Some found) = already_sized noted found.stamp found.size
+
+-- ---- the number of a build
+
+-- one past both, as far as a stamp goes
+abbrev pub next_number : (start greatest : ℕ) → ℕ
+next_number start greatest = min (max start greatest + 1) (2 ^ 64 - 1)

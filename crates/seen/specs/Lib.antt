@@ -1,0 +1,11 @@
+pub mod Measured
+pub mod Judged
+pub mod Outputs
+pub mod Asking
+pub mod Told
+pub mod Counting
+pub mod Telling
+pub mod Between
+pub mod Noting
+pub mod First
+pub mod Small

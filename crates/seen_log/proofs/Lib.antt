@@ -1,0 +1,7 @@
+pub mod Fields
+pub mod RecordOf
+pub mod Plain
+pub mod Digits
+pub mod InForce
+pub mod Keeping
+pub mod Writing

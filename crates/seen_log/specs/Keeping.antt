@@ -1,0 +1,23 @@
+-- What is kept of the log.
+use Rattle.std.specs.Prelude.{◌≡◌, ℕ, List, Option, None, Some, map, length, slice_get, string_bytes, String}
+use Rattle.indexmap.specs.IndexMap.{get_by_text}
+use Rattle.seen_log.specs.declared.note.Last.{Last}
+use Rattle.seen_log.specs.declared.note.Note.{Note}
+use Rattle.seen_log.specs.declared.log.Log.{Log}
+use Rattle.seen_log.specs.Record.{noting}
+use Rattle.seen_log.specs.Log.{compaction, greatest_of, noted_in_force, noteds}
+
+-- what is kept for a path tells what is in force, and where that stands
+abbrev pub IsLast : List Note → List ℕ → Option Last → Type 0
+IsLast records path None = noted_in_force records path ≡ None
+IsLast records path (Some last) = (noted_in_force records path ≡ Some last.noted) × (slice_get (noteds records) last.place ≡ Some last.noted)
+
+abbrev pub entry_note : {Y : Type 0} → String Y × Last → Note
+entry_note e = noting (string_bytes e.0) e.1.noted
+
+-- what is kept stands for these records
+pub record Keeps (records : List Note) (log : Log) : Type 0 where
+  pub last : (path : List ℕ) → IsLast records path (get_by_text log.last path)
+  pub in_force : map entry_note log.last.entries ≡ compaction records
+  pub count : log.records ≡ length records
+  pub greatest : log.greatest ≡ greatest_of records

@@ -1,0 +1,224 @@
+//! What is kept of the log.
+
+ghost use Rattle.std.specs.Prelude.{◌≡◌, ◌+◌, ◌<◌, IfOk, OnOk, OnErr, length, map, take};
+ghost use Rattle.log_text.specs.Keeping.{IsParsed, KeepsAlso, KeepsSame, OfKept};
+ghost use Rattle.seen_log.specs.Record.{forms, noting};
+ghost use Rattle.seen_log.specs.Log.{IsLog, counts_of, greatest_of, noted_in_force, to_pass};
+
+use crate::note::{Kind, Last, Note, Noted};
+use crate::record::{note_line, plain_by, said_by};
+use crate::room::arena;
+use bumpalo::Bump;
+use indexmap::IndexMap;
+use log_text::{Field, Records, Tail, Version, parts_are_decided};
+use std::alloc::{AllocError, Global};
+
+/// What is noted of each path, which is kept once.
+#[derive(Drop)]
+pub struct Log {
+    pub last: IndexMap<String<&'static Bump>, Last>,
+    /// Where the texts of the paths are, once there are some.
+    arena: Option<&'static Bump>,
+    /// How many records there were.
+    pub records: usize,
+    /// What the number of a build is to pass.
+    pub greatest: u64,
+}
+
+impl Records for Log {
+    ghost use Rattle.seen_log.specs.Record.{forms};
+    ghost use Rattle.seen_log.specs.Log.{compaction, noted_in_force, noteds};
+    ghost use Rattle.seen_log.specs.Keeping.{Keeps};
+    ghost use Rattle.seen_log.specs.declared.note.Noted.{Noted};
+
+    type Record = Note;
+
+    ghost forms = { forms };
+
+    ghost Keeps = { Keeps };
+
+    ghost Told = { Noted };
+
+    ghost in_force = { noted_in_force };
+
+    ghost told = { noteds };
+
+    ghost compaction = { compaction };
+
+    fn new(alloc: Global) -> Log {
+        Log {
+            last: IndexMap::new(alloc),
+            arena: None,
+            records: 0,
+            greatest: 0,
+        }
+    }
+
+    fn first_line(version: Version) -> &'static [u8] {
+        match version {
+            Version::One => b"nj-seen 1",
+            Version::Two => b"nj-seen 2",
+        }
+    }
+
+    fn put_fields(
+        &mut self,
+        alloc: Global,
+        _version: Version,
+        fields: &[Field<'_>],
+    ) -> Result<bool, AllocError> {
+        let Some((path, noted)) = said_by(fields) else {
+            return Ok(false);
+        };
+        self.note(alloc, path, noted)?;
+        Ok(true)
+    }
+
+    fn put_plain(
+        &mut self,
+        alloc: Global,
+        _version: Version,
+        line: &[u8],
+    ) -> Result<bool, AllocError> {
+        let Some((path, noted)) = plain_by(line) else {
+            return Ok(false);
+        };
+        self.note(alloc, path, noted)?;
+        Ok(true)
+    }
+
+    fn find(&self, output: &str) -> Option<usize> {
+        match self.last(output) {
+            Some(last) => Some(last.place),
+            None => None,
+        }
+    }
+
+    fn records(&self) -> u64 {
+        self.records as u64
+    }
+
+    fn wants_compaction(&self) -> bool {
+        let in_force = self.last.len();
+        self.records >= 100 && in_force < self.records.saturating_sub(in_force)
+    }
+
+    fn compacted(&self, alloc: Global) -> Result<Vec<u8>, AllocError> {
+        let mut text = Vec::from_slice(alloc, Log::first_line(Version::Two))?;
+        text.push(b'\n')?;
+        for place in 0..self.last.len() {
+            self.push_entry(place, &mut text)?;
+        }
+        Ok(text)
+    }
+
+    fn keeps_in_force() {}
+
+    fn are_readable() {
+        parts_are_decided();
+    }
+}
+
+impl Log {
+    ghost use Rattle.seen_log.specs.Keeping.{Keeps, IsLast, entry_note};
+
+    /// What the text of a log tells, and how it ends. A damaged one tells nothing.
+    ///
+    /// Each byte is looked at a few times, and each path is looked up once and copied once.
+    pub fn parse(alloc: Global, bytes: &[u8]) -> Result<(Log, Tail), AllocError>
+        ensures { IfOk result (λ read. IsParsed forms Keeps bytes.now read.0 read.1) }
+    {
+        log_text::parse::<Log>(alloc, bytes)
+    }
+
+    /// Puts at the end that this is noted of the path. Where memory is refused, the log stands for the same records as before.
+    pub fn note(&mut self, alloc: Global, path: &str, noted: Noted) -> Result<(), AllocError>
+        ensures ok { OnOk result (KeepsAlso Keeps (noting path.now noted) self.old self.new) }
+        ensures err { OnErr result (KeepsSame Keeps self.old self.new) }
+    {
+        let arena = self.arena(alloc)?;
+        self.note_in(arena, path, noted)
+    }
+
+    /// The same, of a path whose text is to be there.
+    fn note_in(&mut self, arena: &'static Bump, path: &str, noted: Noted) -> Result<(), AllocError>
+        ensures ok { OnOk result (KeepsAlso Keeps (noting path.now noted) self.old self.new) }
+        ensures err { OnErr result (KeepsSame Keeps self.old self.new) }
+    {
+        let place = self.records;
+        let records = place.checked_add(1).ok_or(AllocError)?;
+        let key = String::from_str(arena, path)?;
+        self.last.insert(key, Last { place, noted })?;
+        self.records = records;
+        self.greatest = self.greatest.max(to_pass(noted));
+        Ok(())
+    }
+
+    /// Where the texts of the paths are.
+    fn arena(&mut self, alloc: Global) -> Result<&'static Bump, AllocError>
+        ensures { KeepsSame Keeps self.old self.new }
+    {
+        if let Some(arena) = self.arena {
+            return Ok(arena);
+        }
+        let arena = arena(alloc)?;
+        self.arena = Some(arena);
+        Ok(arena)
+    }
+
+    /// What is in force for a path, and the place of its record among all. It takes no memory.
+    pub fn last(&self, path: &str) -> Option<Last>
+        ensures { OfKept Keeps self.now (λ all. IsLast all path.now result) }
+    {
+        self.last.get(path).copied()
+    }
+
+    /// What is noted of a path. It takes no memory.
+    pub fn lookup(&self, path: &str) -> Option<Noted>
+        ensures { OfKept Keeps self.now (λ all. result ≡ noted_in_force all path.now) }
+    {
+        match self.last(path) {
+            Some(last) => Some(last.noted),
+            None => None,
+        }
+    }
+
+    /// The greatest number that the number of a build is to pass, of what is noted of any path, or was; 0 where nothing is.
+    pub fn greatest(&self) -> u64
+        ensures { OfKept Keeps self.now (λ all. result ≡ greatest_of all) }
+    {
+        self.greatest
+    }
+
+    /// Writes the line of the entry at this place at the end, if there is one.
+    fn push_entry(&self, place: usize, text: &mut Vec<u8>) -> Result<(), AllocError>
+        requires { place < length self.now.last.entries }
+        ensures { OnOk result (IsLog text.old.items (map entry_note (take place self.now.last.entries)) → IsLog text.new.items (map entry_note (take (place + 1) self.now.last.entries))) }
+    {
+        match self.last.get_index(place) {
+            Some((path, last)) => note_line(text, path.as_str(), last.noted),
+            None => Ok(()),
+        }
+    }
+}
+
+/// The stamp that counts for what is as noted.
+pub fn counts_of(noted: Noted) -> u64
+    ensures { result ≡ counts_of noted }
+{
+    if noted.number == 0 {
+        noted.stamp
+    } else {
+        noted.number
+    }
+}
+
+/// What the number of a build is to pass, of what is noted.
+fn to_pass(noted: Noted) -> u64
+    ensures { result ≡ to_pass noted }
+{
+    match noted.kind {
+        Kind::Made => counts_of(noted),
+        Kind::Source | Kind::Turned => noted.number,
+    }
+}
