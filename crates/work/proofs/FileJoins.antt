@@ -238,7 +238,7 @@ module _ {asked : Asked} {store : Store} {graph : Graph} {cone : Cone} {state : 
 
 -- they are known of the graph for which they were, whatever was looked up on the way
 pub known_alike : (graph : Graph) (rs : List Record) (ds : List DepsRecord) (old new : Records) → new.logs ≡ old.logs → new.places.items ≡ old.places.items → new.deps_places.items ≡ old.deps_places.items → AreKnown graph rs ds old → AreKnown graph rs ds new
-known_alike graph rs ds old new logs places deps_places known = record {
+known_alike graph rs ds was new logs places deps_places known = record {
   paths = known.paths;
   more = known.more;
   grown = known.grown;

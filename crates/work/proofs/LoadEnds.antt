@@ -16,9 +16,10 @@ use Rattle.work.specs.Course.{Course}
 use Rattle.work.specs.Cutting.{IsMet}
 use Rattle.work.specs.Going.{IsCut}
 use Rattle.work.specs.Joined.{IsMemory, StayKnown, IsAsBefore, IsUndone}
+use Rattle.work.specs.declared.report.Refusal.{Refusal}
 use Rattle.work.specs.declared.stop.Stop.{Stop}
 use Rattle.work.specs.declared.stop.Stop.TheVariants as stop
-use Rattle.work.specs.Standing.{grown_course, IsAtNextLoad, IsRefusedBy, IsStopThere, StoppedThere, IfRefused, IfFault}
+use Rattle.work.specs.Standing.{grown_course, StandsAt, IsLoadNext, IsAtNextLoad, IsRefusedBy, IsStopped, IsStopThere, StoppedThere, IfRefused, IfFault}
 use Rattle.work.proofs.Faults.{well_looks, faulted_there}
 use Rattle.work.proofs.Loading.{stopped_there, cut_here}
 use Rattle.work.proofs.Stopping.{load_refused}
@@ -59,3 +60,12 @@ module _ (tells : Bool) (tick : List ℕ) (course : Course) (edges : List Edge) 
       subst (λ (c : Cone). StoppedThere tells tick course (declared_by grown).edges grown c after new s) (sym {A = Cone} undone.cone_is)
       (subst (λ (g : Graph). StoppedThere tells tick course (declared_by g).edges g cone after new s) (sym {A = Graph} undone.graph_is)
       (subst (λ (es : List Edge). StoppedThere tells tick course es graph cone after new s) (ap (λ (b : BuildGraph). b.edges) at.stands.suits.same) (stops_at undone.state undone.known s cause)))
+
+-- a refusal leaves each build where it stood, too, of which it is not known that nothing was missing
+pub refuses_undone : (tells : Bool) (tick : List ℕ) (course : Course) (edges : List Edge) (phases : List Phase) (graph : Graph) (cone : Cone) (state : State) (file : ℕ) (now : World) (stands : StandsAt tells tick course edges phases graph cone state now)
+    → IsLoadNext course edges graph state stands.on.steps file → LogStays → (new : World) → OnlyLooks tells now new → (after : State) (grown : Graph) (next : Cone) → IsUndone graph grown cone next state after
+    → (refusal : Refusal) → IsRefusedBy tells course edges phases stands.on.steps new refusal → IsStopped tells tick course edges phases grown next after new refusal
+refuses_undone tells tick course edges phases graph cone state file now stands to_load stays new looks after grown next undone refusal cause =
+    subst (λ (c : Cone). IsStopped tells tick course edges phases grown c after new refusal) (sym {A = Cone} undone.cone_is)
+    (subst (λ (g : Graph). IsStopped tells tick course edges phases g cone after new refusal) (sym {A = Graph} undone.graph_is)
+    (stopped_there tells tick course edges phases graph cone state now stands file to_load stays new looks after undone.state undone.known refusal cause))

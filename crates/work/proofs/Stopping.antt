@@ -60,7 +60,7 @@ made_next graph plan file e wanted due made task steps planned taken other other
 
     maker_is : maker task.graph.edges (text_at graph.manifest.paths file) ≡ Some (suc e)
     maker_is =
-        let named = planned.over.loading.loads_are.named file said.offered in
+        let named = planned.over.loading.loads_are.named file wanted in
         planned.stated.makers file (planned.stated.known named.edge file named.names) ∙ ap later_number made
 
     not_before : GoesBefore task.graph.edges (text_at graph.manifest.paths file) other → ⊥

@@ -316,6 +316,12 @@ HasHalted tells tick course grown graph cone state now (stop.Fault fault) = WasC
 
 -- ---- what a load leaves
 
+-- this file is to be loaded next by some build, whatever was asked for
+abbrev pub IsToLoad : Bool → Graph → Cone → State → ℕ → World → Type 0
+IsToLoad tells graph cone state file now =
+    (tick : List ℕ) × (course : Course) × (edges : List Edge) × (phases : List Phase)
+    × (stands : StandsAt tells tick course edges phases graph cone state now) × IsLoadNext course edges graph state stands.on.steps file
+
 -- this file is loaded next by some build
 abbrev pub IsLoading : Bool → Graph → Cone → State → ℕ → World → Type 0
 IsLoading tells graph cone state file now =
@@ -326,6 +332,12 @@ abbrev pub Loads : Bool → ℕ → Graph → Cone → State → World → Graph
 Loads tells file graph cone state old grown next after new =
     (tick : List ℕ) (course : Course) (edges : List Edge) (phases : List Phase) → IsAtNextLoad tells tick course edges phases graph cone state file old
     → HasBegun tells tick course phases grown next after new
+
+-- or each that is to load it stands where it stood, and the refusal has its cause,
+abbrev pub RefusesAt : Bool → ℕ → Graph → Cone → State → World → Graph → Cone → State → World → Refusal → Type 0
+RefusesAt tells file graph cone state old grown next after new refusal =
+    (tick : List ℕ) (course : Course) (edges : List Edge) (phases : List Phase) → (stands : StandsAt tells tick course edges phases graph cone state old)
+    → IsLoadNext course edges graph state stands.on.steps file → IsStopped tells tick course edges phases grown next after new refusal
 
 -- or it is stopped, before what runs is taken in,
 abbrev pub StopsAt : Bool → ℕ → Graph → Cone → State → World → Graph → Cone → State → World → Stop → Type 0

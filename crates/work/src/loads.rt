@@ -14,7 +14,7 @@ ghost use Rattle.graph.specs.Targets.{IsNoConeAgain};
 ghost use Rattle.graph.specs.Told.{declared_by};
 ghost use Rattle.plan.specs.Extended.{MayGoOn, GoesOn};
 ghost use Rattle.work.specs.Cutting.{IsMet};
-ghost use Rattle.work.specs.Standing.{IsLoading, Loads, StopsAt, IsStopThere, IfRefused, IfFault, files_left};
+ghost use Rattle.work.specs.Standing.{IsToLoad, Loads, RefusesAt, StopsAt, IsStopThere, IfRefused, IfFault, files_left};
 ghost use Rattle.work.specs.Joined.{IsUnread, stop_of, IsMemory, MayJoin, HasRoomIn, StayKnown, IsUndone, IsLoaded, GoesOnBy, GoesOnOver, IsAskedOver, IsConeAgain, IsCircleOver, IsUnfitAt, IsUnfitOf, IsCircleOf, WasSaid, UnjoinedBy, UnjoinedOver, OfShorter, JoinsOf, WereKnown, MayShrink, KeepsRest};
 ghost use Rattle.work.specs.Recorded.{HasGrownAt};
 
@@ -46,13 +46,14 @@ pub fn load<S: Site>(
     file: PathId,
 ) -> Result<(), Stop>
     requires running { (S.world site.old).stopped ≡ false }
-    requires at { IsLoading S.tells graph.old cone.old state.old file (S.world site.old) }
+    requires at { IsToLoad S.tells graph.old cone.old state.old file (S.world site.old) }
     ensures looks { OnlyLooks S.tells (S.world site.old) (S.world site.new) }
     ensures well { OnOk result (Unrefused (S.world site.old) (S.world site.new)) }
     ensures begun { OnOk result (Loads S.tells file graph.old cone.old state.old (S.world site.old) graph.new cone.new state.new (S.world site.new)) }
     ensures fewer { OnOk result (files_left (declared_by graph.new).edges < files_left (declared_by graph.old).edges) }
     ensures stop { IfErr result (IsStopThere (S.world site.old) (S.world site.new)) }
     ensures undone { OnErr result (IsUndone graph.old graph.new cone.old cone.new state.old state.new) }
+    ensures refused { IfErr result (λ stop. IfRefused stop (RefusesAt S.tells file graph.old cone.old state.old (S.world site.old) graph.new cone.new state.new (S.world site.new))) }
     ensures halted { IfErr result (StopsAt S.tells file graph.old cone.old state.old (S.world site.old) graph.new cone.new state.new (S.world site.new)) }
 {
     log_stays();

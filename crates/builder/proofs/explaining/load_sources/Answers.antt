@@ -15,7 +15,7 @@ load-requires-clause-at g c =
     let at = c.sources.invariant.begins begins.0 begins.1 begins.2 begins.3 begins.4 in
     let next =
     c.sources_load.ensures g.S.Texts.tells begins.0 begins.1 at.0 at.1 c.sources.graph c.sources.cone c.sources.state (g.S.Texts.world c.sources.site) at.2 c.in-Some.file c.in-Some.ensures.0 c.in-Some.ensures.1 in
-    (begins.0, begins.1, at.0, at.1, next)
+    (begins.0, begins.1, at.0, at.1, next.stands, next.next)
 
 pub returns-in_err-load-in-Some-clause-looks : goal.returns-in_err-load-in-Some-clause-looks
 returns-in_err-load-in-Some-clause-looks g c =

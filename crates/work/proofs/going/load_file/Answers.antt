@@ -4,6 +4,9 @@ use Rattle.work.proofs.Faults.{well_looks}
 use Rattle.work.proofs.LoadEnds.{stop_met}
 use Rattle.work.proofs.going.load_file.Goals as goal
 
+pub load-requires-clause-at : goal.load-requires-clause-at
+load-requires-clause-at g c = let at = c.requires.at in (at.0, at.1, at.2, at.3, at.4.stands, at.4.next)
+
 pub returns-in-Ok-clause-well : goal.returns-in-Ok-clause-well
 returns-in-Ok-clause-well g c = well_looks g.S.Texts.tells (g.S.Texts.world c.args.site.now) (g.S.Texts.world c.load.new.site) c.load.ensures.looks c.in-Ok.ensures.well
 

@@ -2,10 +2,10 @@ use Rattle.std.proofs.Common.{List, Ok, refl, sym, subst}
 use Rattle.model.specs.SingleBuild.{asked_with}
 use Rattle.paths.specs.Told.{text_at}
 use Rattle.dyndep.specs.declared.addition.Addition.{Addition as Statement}
-use Rattle.work.specs.Standing.{StopsAt, IsStopThere}
+use Rattle.work.specs.Standing.{RefusesAt, StopsAt, IsStopThere, IfRefused}
 use Rattle.work.specs.Joined.{WasHeld}
 use Rattle.work.specs.Loads.{IsSaying}
-use Rattle.work.proofs.LoadEnds.{load_stop, load_stop_by, stops_undone}
+use Rattle.work.proofs.LoadEnds.{load_stop, load_stop_by, stops_undone, refuses_undone}
 use Rattle.work.proofs.Loading.{may_join, unread_cause, unjoined_cause, has_begun, fewer_by}
 use Rattle.work.proofs.Results.{on_err}
 use Rattle.work.proofs.StopCases.{refused_then, passed}
@@ -23,6 +23,21 @@ returns-in_err-additions-clause-stop g c =
 pub returns-in_err-additions-clause-undone : goal.returns-in_err-additions-clause-undone
 returns-in_err-additions-clause-undone g c =
     on_err c.from_residual.result (record { graph_is = refl; cone_is = refl; state = record { plan = refl; looks = refl; logs = refl; starts = refl; failed = refl }; known = λ rs ds known. known })
+
+pub returns-in_err-additions-clause-refused : goal.returns-in_err-additions-clause-refused
+returns-in_err-additions-clause-refused g c =
+    let tells = g.S.Texts.tells in
+    let graph = c.args.graph.now in
+    let cone = c.args.cone.now in
+    let state = c.args.state.now in
+    let file = c.args.file in
+    let old = g.S.Texts.world c.args.site.now in
+    let new = g.S.Texts.world c.additions_in.new.site in
+    passed (λ s. IfRefused s (RefusesAt tells file graph cone state old graph cone state new)) c.in_err-additions.field-0.0 c.from_residual.result c.from_residual.ensures.1
+    (refused_then c.in_err-additions.field-0.0 c.in_err-additions.ensures.refused (λ refusal unread tick course edges phases stands to_load.
+    refuses_undone tells tick course edges phases graph cone state file old stands to_load c.log_stays.ensures new c.additions_in.ensures.looks state graph cone
+    (record { graph_is = refl; cone_is = refl; state = record { plan = refl; looks = refl; logs = refl; starts = refl; failed = refl }; known = λ rs ds known. known })
+    refusal (unread_cause tells tick course edges phases graph cone state old stands file to_load c.log_stays.ensures new c.additions_in.ensures.looks refusal unread)))
 
 pub returns-in_err-additions-clause-halted : goal.returns-in_err-additions-clause-halted
 returns-in_err-additions-clause-halted g c =
@@ -48,8 +63,7 @@ join-joined-requires g c =
     let course = c.requires.at.1 in
     let edges = c.requires.at.2 in
     let phases = c.requires.at.3 in
-    let at = c.requires.at.4 in
-    record { may = (asked_with course.asked edges, course.store, may_join g.S.Texts.tells tick course edges phases c.args.graph.now c.args.cone.now c.args.state.now (g.S.Texts.world c.args.site.now) at.stands c.args.file at.next) }
+    record { may = (asked_with course.asked edges, course.store, may_join g.S.Texts.tells tick course edges phases c.args.graph.now c.args.cone.now c.args.state.now (g.S.Texts.world c.args.site.now) c.requires.at.4 c.args.file c.requires.at.5) }
 
 pub returns-in-Ok-clause-begun : goal.returns-in-Ok-clause-begun
 returns-in-Ok-clause-begun g c tick course edges phases at =
@@ -72,14 +86,15 @@ returns-in-Ok-clause-fewer g c =
     let course = c.requires.at.1 in
     let edges = c.requires.at.2 in
     let phases = c.requires.at.3 in
-    let at = c.requires.at.4 in
+    let stands = c.requires.at.4 in
+    let to_load = c.requires.at.5 in
     let tells = g.S.Texts.tells in
     let graph = c.args.graph.now in
     let cone = c.args.cone.now in
     let state = c.args.state.now in
     let old = g.S.Texts.world c.args.site.now in
-    let gone = c.in-Ok.ensures.goes (asked_with course.asked edges) course.store (may_join tells tick course edges phases graph cone state old at.stands c.args.file at.next) in
-    fewer_by tells tick course edges phases graph cone state old at.stands c.args.file at.next c.join-joined.new.graph _ gone.joined
+    let gone = c.in-Ok.ensures.goes (asked_with course.asked edges) course.store (may_join tells tick course edges phases graph cone state old stands c.args.file to_load) in
+    fewer_by tells tick course edges phases graph cone state old stands c.args.file to_load c.join-joined.new.graph _ gone.joined
 
 pub returns-clause-stop : goal.returns-clause-stop
 returns-clause-stop g c =
@@ -87,6 +102,22 @@ returns-clause-stop g c =
 
 pub returns-clause-undone : goal.returns-clause-undone
 returns-clause-undone g c = c.in-Err.ensures.undone
+
+pub returns-clause-refused : goal.returns-clause-refused
+returns-clause-refused g c =
+    let tells = g.S.Texts.tells in
+    let graph = c.args.graph.now in
+    let cone = c.args.cone.now in
+    let state = c.args.state.now in
+    let file = c.args.file in
+    let old = g.S.Texts.world c.args.site.now in
+    let new = g.S.Texts.world c.additions_in.new.site in
+    let adds = c.as_slice.result.now in
+    let read = subst (λ (l : List Statement). WasHeld tells (text_at graph.manifest.paths file) (IsSaying (Ok l)) old new) (sym {A = List Statement} c.as_slice.ensures) c.in_ok-additions.ensures.read in
+    refused_then c.in-Err.stop c.in-Err.ensures.cause (λ refusal cause tick course edges phases stands to_load.
+    refuses_undone tells tick course edges phases graph cone state file old stands to_load c.log_stays.ensures new c.additions_in.ensures.looks c.join-joined.new.state c.join-joined.new.graph c.join-joined.new.cone c.in-Err.ensures.undone
+    refusal (unjoined_cause tells tick course edges phases graph cone state old stands file to_load c.log_stays.ensures new c.additions_in.ensures.looks c.one_answer.ensures adds read refusal
+    (cause (asked_with course.asked edges) course.store (may_join tells tick course edges phases graph cone state old stands file to_load))))
 
 pub returns-clause-halted : goal.returns-clause-halted
 returns-clause-halted g c tick course edges phases at =
