@@ -1,5 +1,5 @@
 -- What the site shows of a run that is stopped: each fault is passed on.
-use Rattle.std.proofs.Common.{◌≡◌, inl, inr, Bool, true, false, Err, refl, sym, ◌∙◌}
+use Rattle.std.proofs.Common.{◌≡◌, inl, inr, Bool, true, Err, refl, sym, ◌∙◌}
 use Rattle.std.specs.Result.{IsErrOf}
 use Rattle.std.proofs.lemmas.Bool.{false≢true, true≢false, cases_Bool}
 use Rattle.model.specs.declared.fault.SiteFault.{SiteFault}
