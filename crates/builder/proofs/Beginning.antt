@@ -42,12 +42,11 @@ use Rattle.work.specs.Standing.{BeginsAt, grown_course}
 use Rattle.work.specs.Loads.{ReadsDyndeps}
 use Rattle.work.specs.Recorded.{IsRecordedBy}
 use Rattle.builder.specs.Reports.{HasRead, IsConeRecorded, IsPlanFor}
-use Rattle.builder.proofs.Looking.{IsFoundAt, course_of}
+use Rattle.builder.proofs.Looking.{IsFoundAt, course_of, left_before}
 use Rattle.builder.proofs.Builds.{any_own, own_in, none_kept, looked_nothing, idle_after}
 use Rattle.builder.proofs.Entry.{AreUnasked, none_asked, all_there}
 use Rattle.builder.proofs.Folders.{logs_apart, tick_is_no_build_log, tick_is_no_deps_log}
 use Rattle.builder.proofs.Formed.{have_outputs}
-use Rattle.work.proofs.Unedited.{left_before}
 
 -- A run of what was asked for may begin now: no command ran at the entry, since which there was only looked; where files are kept, the
 -- records that were read are those of the entry.

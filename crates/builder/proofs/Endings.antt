@@ -1,13 +1,13 @@
 -- How a build ends that ran what was asked for, in the words of its contract.
 use Rattle.std.specs.Prelude.{IfErr}
 use Rattle.std.proofs.Common.{◌≡◌, ◌⊎◌, inl, inr, ℕ, suc, Bool, true, false, cond, IsTrue, List, [], ◌∷◌, ◌++◌, map, Option, Some, None, bytes_eq, Vec, Global, Result, Ok, Err, refl, sym, ◌∙◌, ap, subst, append_assoc}
-use Rattle.std.proofs.lemmas.Bool.{cases_Bool}
+use Rattle.std.proofs.lemmas.Bool.{cases_Bool, false≢true}
 use Rattle.theory.proofs.Builds.{idle_at_end}
 use Rattle.theory.proofs.Looks.{kept_before, edits_before}
 use Rattle.theory.proofs.Settled.{settled_command}
 use Rattle.model.specs.declared.event.Moment.{Moment}
 use Rattle.model.specs.declared.fault.SiteFault.{SiteFault}
-use Rattle.model.specs.declared.fault.SiteFault.TheVariants.{Stopped, Memory}
+use Rattle.model.specs.declared.fault.SiteFault.TheVariants.{Device, Stopped, Memory}
 use Rattle.model.specs.declared.graph.Edge.{Edge}
 use Rattle.model.specs.World.{World, View, view_of, IsIdle}
 use Rattle.model.specs.Graph.{Addition, edge_at, first_output, maker, IsMadeOnce, IsMadeTwice}
@@ -29,7 +29,9 @@ use Rattle.theory.proofs.PhasesGoOn.{HoldsAll, with_text, no_text, holds_all, ho
 use Rattle.work.specs.declared.summary.Summary.{Summary}
 use Rattle.work.specs.declared.summary.Summary.TheVariants.{Well, Failed as SomeFailed}
 use Rattle.work.specs.Course.{Course}
-use Rattle.work.specs.Cut.{fault_of}
+use Rattle.work.specs.declared.cut.Cut.{Cut}
+use Rattle.work.specs.declared.cut.Cut.TheVariants.{Waiting, Other}
+use Rattle.work.specs.Cut.{fault_of, IsLeft}
 use Rattle.work.specs.declared.report.Missing.{Missing as Lacking}
 use Rattle.work.specs.declared.report.Refusal.{Refusal}
 use Rattle.work.specs.declared.report.Refusal.TheVariants.{File, MadeTwice, NoDyndepInput, Occupied, NoDyndep, BadVersion, BadStatement, Unfit, UnknownTarget, Cycle, Missing}
@@ -47,11 +49,22 @@ use Rattle.builder.specs.Reports.{HasRead, IsConeRecorded, SaysEnd}
 use Rattle.work.specs.Ends.{first_output_of, IsMissingFor, report_of}
 use Rattle.builder.proofs.Beginning.{found_later}
 use Rattle.builder.proofs.Builds.{any_own, names_inputs, builds_over}
-use Rattle.work.proofs.Faults.{idle_left}
 use Rattle.builder.proofs.Opening.{cause_since}
 use Rattle.builder.proofs.Looking.{Built, IsFoundAt, course_of, passes_any, passes_after}
 use Rattle.builder.proofs.Running.{holds_still, held, held_so, right_so, built_ended, built_cut, built_failed, built_well, was_in_order}
-use Rattle.work.proofs.CountedSlices.{map_suc}
+use Rattle.builder.proofs.Values.{map_suc}
+
+-- ---- behind a fault
+
+none_some : (count : ℕ) → None ≡ Some count → ⊥
+none_some count is = cc
+
+-- no command runs then, unless a wait was refused or the site has stopped
+idle_left : (now : World) (cut : Cut) → IsLeft now cut → (fault_of cut ≡ Stopped → now.stopped ≡ true) → now.stopped ≡ false → now.wait_refused ≡ None → IsIdle now.events
+idle_left now (Waiting fault) left stopped goes none = absurd (none_some left.noted.0 (sym none ∙ left.noted.1))
+idle_left now (Other Device) left stopped goes none = left
+idle_left now (Other Stopped) left stopped goes none = absurd (false≢true (sym goes ∙ stopped refl))
+idle_left now (Other Memory) left stopped goes none = left
 
 -- ---- other files that are held
 

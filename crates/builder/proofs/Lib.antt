@@ -9,4 +9,5 @@ pub mod Opening
 pub mod Running
 pub mod Said
 pub mod Stages
+pub mod Values
 pub mod Dueing

@@ -3,6 +3,7 @@ use Rattle.std.proofs.Common.{◌≡◌, inl, inr, ℕ, Bool, true, IsTrue, List
 use Rattle.std.proofs.lemmas.Bool.{false≢true}
 use Rattle.std.proofs.lemmas.List.{append-nil}
 use Rattle.model.specs.declared.event.Event.{Event}
+use Rattle.model.specs.declared.event.Moment.{Moment}
 use Rattle.model.specs.declared.fault.SiteFault.{SiteFault}
 use Rattle.model.specs.declared.fault.SiteFault.TheVariants.{Device, Stopped, Memory}
 use Rattle.model.specs.World.{World, View, view_of, IsIdle}
@@ -19,7 +20,7 @@ use Rattle.model.specs.SingleBuild.{Asked, Answer, is_fault, IsSuccess, IsSchedu
 use Rattle.theory.specs.Run.{IsRunOrRest}
 use Rattle.theory.specs.Seen.{Looked}
 use Rattle.theory.proofs.SiteCalls.{seen_of}
-use Rattle.theory.proofs.Looks.{logs_left, frame_of_looks}
+use Rattle.theory.proofs.Looks.{edits_before, logs_left, frame_of_looks}
 use Rattle.theory.proofs.Runs.{run_begins, rest_begins, rest_looks}
 use Rattle.theory.proofs.Starting.{ready_nothing}
 use Rattle.theory.specs.Builds.{IsRunOf}
@@ -38,6 +39,11 @@ use Rattle.work.specs.declared.report.Report.{Report}
 use Rattle.work.specs.declared.report.Report.TheVariants.{Fault}
 use Rattle.builder.specs.Build.{RemovesFiles, LeavesAlone}
 use Rattle.work.specs.Loads.{RefusesFile}
+
+-- the logs, up to each point before
+pub left_before : (own : OwnFiles) (old mid new later : List Moment) → new ≡ mid ++ later → LogsAreLeft own old new → LogsAreLeft own old mid
+left_before own old mid new later grows left =
+    record { free = left.free; build_log = left.build_log; deps_log = left.deps_log; edits = edits_before left.free old mid new later grows left.edits }
 
 none_before : (before after : List Done) (step : Done) → [] ≡ before ++ step ∷ after → ⊥
 none_before [] after step is = cc

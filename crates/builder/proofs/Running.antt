@@ -37,7 +37,7 @@ use Rattle.work.specs.declared.report.Report.{Report}
 use Rattle.work.specs.declared.report.Report.TheVariants.{Success, Failed, Fault}
 use Rattle.work.specs.Loads.{RefusesFile}
 use Rattle.builder.proofs.Looking.{Built, built_by, IsFoundAt}
-use Rattle.work.proofs.CountedSlices.{suc_has}
+use Rattle.builder.proofs.Values.{suc_has}
 
 -- where nothing was missing when phases began, and the last one, nothing was when they and a last one that has steps began
 in_phases : (own : OwnFiles) (task : Task) (store : Store) (old new : List Moment) (before : List Done) (phases : List Phase) (last : List Done) → WasNothingMissing own task store old new before phases → WasNothingMissingIn own task store old new before phases last

@@ -63,6 +63,17 @@ pub record Explains (tells : Bool) (tick : List ℕ) (course : Course) (old new 
   pub after : Looks
   pub dues : TellsDue tells graph cone state.plan state.records begun new state.looks after said
 
+-- so it is of each build that begins a phase here
+abbrev pub ExplainsFrom : Bool → Graph → Cone → State → World → World → List Explanation → Type 0
+ExplainsFrom tells graph cone state old new said =
+    (tick : List ℕ) (course : Course) (edges : List Edge) (phases : List Phase) → BeginsAt tells tick course edges phases graph cone state old → Explains tells tick course old new said
+
+-- each build that began a phase here begins one there
+abbrev pub BeginsStill : Bool → Graph → Cone → State → World → Graph → Cone → State → World → Type 0
+BeginsStill tells graph cone state old grown next after new =
+    (tick : List ℕ) (course : Course) (edges : List Edge) (phases : List Phase) → BeginsAt tells tick course edges phases graph cone state old
+    → (many : List Edge) × (more : List Phase) × BeginsAt tells tick course many more grown next after new
+
 -- So it is of a build of what was asked over this graph, with what the loads add that it does before it starts anything, and for some files of
 -- its own, format of logs and reading of depfiles and dyndep files.
 pub record ExplainsBuild (tells : Bool) (graph : BuildGraph) (request : Request) (old new : World) (said : List Explanation) : Type 0 where

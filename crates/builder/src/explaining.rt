@@ -2,10 +2,8 @@
 
 ghost use Rattle.std.specs.Prelude.{◌≡◌, ◌<◌, All, List, ℕ, IfOk, OnOk, false, length};
 ghost use Rattle.std.specs.Option.{option_map};
-ghost use Rattle.model.specs.declared.graph.Edge.{Edge};
 ghost use Rattle.model.specs.Calls.{OnlyLooks};
 ghost use Rattle.model.specs.Graph.{IsMadeOnce};
-ghost use Rattle.model.specs.Phases.{Phase};
 ghost use Rattle.model.specs.SingleBuild.{NamesOther};
 ghost use Rattle.model.specs.World.{IsIdle};
 ghost use Rattle.graph.specs.Told.{declared_by};
@@ -13,9 +11,8 @@ ghost use Rattle.judge.specs.Looking.{HasLooked};
 ghost use Rattle.manifest.specs.Answer.{IsGraph};
 ghost use Rattle.paths.specs.Told.{graph_of, text_at};
 ghost use Rattle.work.specs.Course.{Course};
-ghost use Rattle.work.specs.Going.{AreSet};
-ghost use Rattle.builder.specs.Explained.{AreSaid, IsSaid, SaysDue, TellsDue, Explains, ExplainsBuild};
-ghost use Rattle.work.specs.Standing.{BeginsAt};
+ghost use Rattle.builder.specs.Explained.{AreSaid, IsSaid, SaysDue, TellsDue, ExplainsFrom, BeginsStill, ExplainsBuild};
+ghost use Rattle.work.specs.Standing.{IsBeginningBy};
 ghost use Rattle.builder.specs.Reports.{HasRead, IsLinked};
 
 use crate::asked::Asked;
@@ -35,8 +32,8 @@ use site::Site;
 use std::alloc::{AllocError, Global};
 use text::{Path, Text};
 use work::{
-    Options, Report, State, Stop, check_sources, first_output, join_recorded, load, path_text,
-    source_to_load,
+    Options, Report, State, Stop, check_sources, first_output, join_recorded, load, orders_stand,
+    path_text, source_to_load, sources_load,
 };
 
 /// Why commands are due that [`crate::build`] would start, by what the build files, the logs and the files say now. It takes the same
@@ -130,10 +127,9 @@ fn explain_state<S: Site>(
     state: &mut State<'_>,
 ) -> Result<Explained, Report>
     requires running { (S.world site.old).stopped ≡ false }
-    requires begins { (tick : List ℕ) × (course : Course) × (edges : List Edge) × (phases : List Phase) × BeginsAt S.tells tick course edges phases graph.old cone.old state.old (S.world site.old) }
-    requires enough { AreSet graph.old state.old.set.items }
+    requires begins { IsBeginningBy S.tells graph.old cone.old state.old (S.world site.old) }
     ensures looks { OnlyLooks S.tells (S.world site.old) (S.world site.new) }
-    ensures explains { IfOk result (λ explained. (tick : List ℕ) (course : Course) (edges : List Edge) (phases : List Phase) → BeginsAt S.tells tick course edges phases graph.old cone.old state.old (S.world site.old) → Explains S.tells tick course (S.world site.old) (S.world site.new) explained.commands.items) }
+    ensures explains { IfOk result (λ explained. ExplainsFrom S.tells graph.old cone.old state.old (S.world site.old) (S.world site.new) explained.commands.items) }
 {
     load_sources(alloc, site, graph, cone, state)?;
     Ok(explain_run(alloc, site, graph, cone, state)?)
@@ -148,12 +144,12 @@ fn load_sources<S: Site>(
     state: &mut State<'_>,
 ) -> Result<(), Stop>
     requires running { (S.world site.old).stopped ≡ false }
-    requires begins { (tick : List ℕ) × (course : Course) × (edges : List Edge) × (phases : List Phase) × BeginsAt S.tells tick course edges phases graph.old cone.old state.old (S.world site.old) }
-    requires enough { AreSet graph.old state.old.set.items }
+    requires begins { IsBeginningBy S.tells graph.old cone.old state.old (S.world site.old) }
     ensures looks { OnlyLooks S.tells (S.world site.old) (S.world site.new) }
     ensures running { OnOk result ((S.world site.new).stopped ≡ false) }
-    ensures begun { OnOk result ((tick : List ℕ) (course : Course) (edges : List Edge) (phases : List Phase) → BeginsAt S.tells tick course edges phases graph.old cone.old state.old (S.world site.old) → (many : List Edge) × (more : List Phase) × BeginsAt S.tells tick course many more graph.new cone.new state.new (S.world site.new)) }
+    ensures begun { OnOk result (BeginsStill S.tells graph.old cone.old state.old (S.world site.old) graph.new cone.new state.new (S.world site.new)) }
 {
+    sources_load();
     'sources: loop {
         match source_to_load(graph, &state.plan) {
             Some(file) => load(alloc, site, graph, cone, state, file)?,
@@ -171,10 +167,11 @@ fn explain_run<S: Site>(
     state: &mut State<'_>,
 ) -> Result<Explained, Stop>
     requires running { (S.world site.old).stopped ≡ false }
-    requires begins { (tick : List ℕ) × (course : Course) × (edges : List Edge) × (phases : List Phase) × BeginsAt S.tells tick course edges phases graph.now cone.now state.old (S.world site.old) }
+    requires begins { IsBeginningBy S.tells graph.now cone.now state.old (S.world site.old) }
     ensures looks { OnlyLooks S.tells (S.world site.old) (S.world site.new) }
     ensures tells { IfOk result (λ explained. TellsDue S.tells graph.now cone.now state.old.plan state.old.records (S.world site.old) (S.world site.new) state.old.looks state.new.looks explained.commands.items) }
 {
+    orders_stand(graph);
     let due = check_sources(
         alloc,
         site,

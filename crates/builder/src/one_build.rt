@@ -20,9 +20,7 @@ ghost use Rattle.work.specs.Course.{Course};
 ghost use Rattle.work.specs.Ran.{AreEdgesOf};
 ghost use Rattle.builder.specs.Build.{limits_of, Builds, IsBuild};
 ghost use Rattle.builder.specs.Parts.{BuildsAsked, BuildsGraph, BuildsReading, IsReportOfNoGraph};
-ghost use Rattle.model.specs.Phases.{Phase};
-ghost use Rattle.work.specs.Going.{AreSet};
-ghost use Rattle.work.specs.Standing.{BeginsAt};
+ghost use Rattle.work.specs.Standing.{IsBeginning};
 ghost use Rattle.builder.specs.Reported.{IsFresh, IsReported};
 ghost use Rattle.builder.specs.Reports.{report_in, IsLinked, HasRead, IsConeRecorded, SaysNoCone, SaysFault, ShowsFault, IsPlanFor, SaysEnd};
 
@@ -43,7 +41,7 @@ use std::alloc::{AllocError, Global};
 use text::Text;
 use work::{
     Display, Options, Refusal, Report, State, Summary, first_outputs, join_recorded, path_texts,
-    run_graph,
+    phonies_record_none, run_graph,
 };
 
 /// Builds the targets, or the default ones where none is given (manual: "Default target statements").
@@ -253,7 +251,6 @@ pub(crate) fn state_of<'a>(
 ) -> Result<State<'a>, AllocError>
     requires marks { vec_len cone.now.marks ≡ length graph.now.manifest.lines }
     ensures fresh { IfOk result (IsFresh graph.now cone.now asked.now.limits records) }
-    ensures enough { IfOk result (λ state. AreSet graph.now state.set.items) }
 {
     let plan = plan_of(alloc, graph, cone, asked.limits)?;
     let looks = Looks::new(alloc, graph)?;
@@ -273,8 +270,7 @@ fn run_state<S: Site>(
     state: &mut State<'_>,
 ) -> Result<Report, Report>
     requires running { (S.world site.old).stopped ≡ false }
-    requires begins { (course : Course) × (edges : List Edge) × (phases : List Phase) × BeginsAt S.tells tick.now course edges phases graph.old cone.old state.old (S.world site.old) }
-    requires enough { AreSet graph.old state.old.set.items }
+    requires begins { IsBeginning S.tells tick.now graph.old cone.old state.old (S.world site.old) }
     ensures { IsReported S.tells tick.now graph.old cone.old state.old (S.world site.old) graph.new cone.new (S.world site.new) (report_in result) }
 {
     let summary = run_graph(alloc, site, graph, cone, tick, state)?;
@@ -329,6 +325,7 @@ fn plan_of(alloc: Global, graph: &Graph, cone: &Cone, limits: Limits) -> Result<
     ensures { IfOk result (IsPlanFor graph.now cone.now limits) }
 {
     task_of(graph);
+    phonies_record_none();
     Plan::new(
         alloc,
         graph,

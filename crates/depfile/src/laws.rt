@@ -4,7 +4,7 @@ ghost use Rattle.std.specs.Prelude.{◌≡◌, ℕ, List, Result};
 ghost use Rattle.depfile.specs.Depfile.{IsRead, HasReading};
 ghost use Rattle.depfile.specs.declared.fault.DepFault.{DepFault};
 
-use lexer::one_form;
+use lexer::{has_canonical, one_form};
 
 /// A law, which runs nothing: bytes say one list of inputs, or are refused for one reason, and never both.
 pub fn one_answer()
@@ -16,4 +16,6 @@ pub fn one_answer()
 /// A law, which runs nothing: there is a function that reads each depfile as its grammar says.
 pub fn has_reading()
     ensures { HasReading }
-{}
+{
+    has_canonical();
+}

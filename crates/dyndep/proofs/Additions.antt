@@ -6,14 +6,14 @@ use Rattle.lexer.specs.Said.Form.{binding, block_binding, rule, build, pool, def
 use Rattle.dyndep.specs.declared.addition.Addition.{Addition}
 use Rattle.dyndep.specs.Dyndep.{IsAddition, AreAdditions, BindsRestat, binds_restat}
 use Rattle.dyndep.specs.Dyndep.AreAdditions.{nothing, one_more}
-use Rattle.dyndep.specs.Refused.{AddsOne, AddsNone, AreNoAdditions, is_of_block, begins_block, IsSplit}
+use Rattle.dyndep.specs.Refused.{AddsOne, AddsNone, AreNoAdditions, is_of_block, begins_block, IsSplit, StatementsAdd}
 
 -- what is left adds more, and only so
 pub record AddsSoFar (forms left : List Form) (additions : List Addition) : Type 0 where
   pub goes_on : (more : List Addition) → AreAdditions left more → AreAdditions forms (additions ++ more)
   pub comes_from : (all : List Addition) → AreAdditions forms all → (more : List Addition) × AreAdditions left more
 
-pub nothing_added : (forms : List Form) → AddsSoFar forms forms []
+nothing_added : (forms : List Form) → AddsSoFar forms forms []
 nothing_added forms = record { goes_on = λ more are. are; comes_from = λ all are. (all, are) }
 
 -- additions begin with no line of a block
@@ -98,3 +98,10 @@ none_added forms rest block behind form additions far split never all are =
     let before = far.comes_from all are in
     let parts = inverted (form ∷ rest) before.0 before.1 form rest block behind refl split in
     never parts.addition parts.is
+
+pub statements_add : StatementsAdd
+statements_add = record {
+  one = λ form rest block behind addition split is more are. (one_more_added (form ∷ rest) rest block behind form addition [] (nothing_added (form ∷ rest)) split is).goes_on more are;
+  rest = λ form rest block behind addition split is all are. (one_more_added (form ∷ rest) rest block behind form addition [] (nothing_added (form ∷ rest)) split is).comes_from all are;
+  none = λ form rest block behind split none. none_added (form ∷ rest) rest block behind form [] (nothing_added (form ∷ rest)) split none;
+}

@@ -83,3 +83,10 @@ RefusesForms forms fault (Fault BadStatement) = IsUnfit forms fault
 -- a line of a block binds `restat` to this
 abbrev pub BindsAs : Form → Bool → Type 0
 BindsAs form restat = (binds_restat form ≡ true) × ((before : Bool) → restat ≡ restat_behind before form)
+
+-- What a statement with its block adds stands before what the forms behind it add, and only so; where it adds nothing of the kind, nor
+-- do all of them.
+pub record StatementsAdd : Type 0 where
+  pub one : (form : Form) (rest block behind : List Form) (addition : Addition) → IsSplit rest block behind → AddsOne form block addition → (more : List Addition) → AreAdditions behind more → AreAdditions (form ∷ rest) (addition ∷ more)
+  pub rest : (form : Form) (rest block behind : List Form) (addition : Addition) → IsSplit rest block behind → AddsOne form block addition → (all : List Addition) → AreAdditions (form ∷ rest) all → (more : List Addition) × AreAdditions behind more
+  pub none : (form : Form) (rest block behind : List Form) → IsSplit rest block behind → AddsNone form block → AreNoAdditions (form ∷ rest)

@@ -11,5 +11,5 @@ mod values;
 
 pub use addition::Addition;
 pub use fault::{DynFault, ReadError};
-pub use laws::one_answer;
+pub use laws::{one_answer, statements_add};
 pub use reading::parse;

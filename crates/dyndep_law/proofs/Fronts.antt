@@ -10,7 +10,6 @@ use Rattle.lexer.specs.Grammar.Outcome.{Reached}
 use Rattle.lexer.specs.Said.{Fragment}
 use Rattle.lexer.specs.Said.Fragment.{literal, expansion}
 use Rattle.lexer.specs.Tokens.{behind, newline, join, is_quoted, quoted, braced, bare, names, signs, joins, escape, token, one, line_end, named, name, piece_of, piece, word_end, begins_path, mark_behind, mark}
-use Rattle.lexer.proofs.Places.{stripped}
 use Rattle.dyndep_law.proofs.Answered.{Ends, ends_itself, ends_both, no_longer, place_of, Under, Answer, Takes, Total, is_answered}
 
 -- what stands behind something, and is shorter for it
@@ -50,7 +49,16 @@ some_run_behind class (b ∷ bytes) c run is = by (is_of class b) refl
     by false passes = let none : [] ≡ run_of class (b ∷ bytes) = rw passes refl in let clash : [] ≡ c ∷ run = none ∙ is in absurd (cc)
 
 behind_one : (wanted : ℕ) (bytes rest : List ℕ) → behind wanted bytes ≡ Some rest → Behind bytes rest
-behind_one wanted bytes rest is = rw (stripped wanted bytes rest (sym is)) (behind_first wanted rest rest (ends_itself rest))
+behind_one wanted [] rest is = let clash : None ≡ Some rest = is in absurd (cc)
+behind_one wanted (b ∷ bytes) rest is = by (b == wanted) refl
+  where
+    by : (same : Bool) → (b == wanted) ≡ same → Behind (b ∷ bytes) rest
+    by true same =
+        let some : Some bytes ≡ behind wanted (b ∷ bytes) = rw same refl in
+        let whole : Some bytes ≡ Some rest = some ∙ is in
+        let ends : bytes ≡ rest = cc in
+        rw ends (behind_first b rest rest (ends_itself rest))
+    by false same = let none : None ≡ behind wanted (b ∷ bytes) = rw same refl in let clash : None ≡ Some rest = none ∙ is in absurd (cc)
 
 newline_behind : (bytes rest : List ℕ) → newline bytes ≡ Some rest → Behind bytes rest
 newline_behind bytes rest is = by_feed (behind 10 bytes) refl

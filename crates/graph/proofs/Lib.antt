@@ -8,6 +8,7 @@ pub mod Texts
 pub mod Makes
 pub mod Sets
 pub mod GraphIs
+pub mod FilesNamed
 pub mod ReadThrough
 pub mod Spaces
 pub mod Turns

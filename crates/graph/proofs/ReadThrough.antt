@@ -18,7 +18,7 @@ use Rattle.graph.specs.Held.{StandOnce}
 use Rattle.graph.specs.Links.{Links, links_of}
 use Rattle.graph.specs.Told.{declared_by}
 use Rattle.graph.specs.Alias.{if_phony, alias_at, is_any, has_inputs, counts_if_present, aliases_of, any_alias}
-use Rattle.graph.specs.ReadingOf.{IsCountedIn, IsReadingOf}
+use Rattle.graph.specs.ReadingOf.{IsCountedIn, IsReadingOf, IsReadNext, ReadingStands}
 use Rattle.graph.proofs.GraphIs.{edge_is, inputs_are, maker_within}
 use Rattle.graph.proofs.Lists.{once_none, once_push}
 use Rattle.graph.proofs.Makes.{maker_is, input_below}
@@ -181,24 +181,18 @@ module _ (graph : Graph) where
       Itself (suc d) (text_at graph.manifest.paths p) (subst (λ (l : List (List ℕ)). has l (text_at graph.manifest.paths p) ≡ true) (sym (regular_are d)) (has_text graph.manifest.paths ((links_of graph).regular d) p input))
       (text_counts view p (regular_within d p input) counts)
 
-  pub read_through : (d p j : ℕ) → has_number ((links_of graph).regular d) p ≡ true → alias_at (links_of graph) p ≡ Some j → IsReadBy j d
+  read_through : (d p j : ℕ) → has_number ((links_of graph).regular d) p ≡ true → alias_at (links_of graph) p ≡ Some j → IsReadBy j d
   read_through d p j input alias view t read =
       Through (suc d) (suc j) (text_at graph.manifest.paths p) t (subst (λ (l : List (List ℕ)). has l (text_at graph.manifest.paths p) ≡ true) (sym (regular_are d)) (has_text graph.manifest.paths ((links_of graph).regular d) p input))
       (alias_text p j (regular_within d p input) alias) read
 
   -- what is counted at some edge is read by that edge
-  pub read_counted : (edges : List ℕ) (view : View) (p : List ℕ) (is : IsCountedIn graph edges view p) → IsRead (declared_by graph).edges view (suc is.edge) p
+  read_counted : (edges : List ℕ) (view : View) (p : List ℕ) (is : IsCountedIn graph edges view p) → IsRead (declared_by graph).edges view (suc is.edge) p
   read_counted edges view p is =
       subst (IsRead (declared_by graph).edges view (suc is.edge)) is.text
       (read_at view is.edge is.path is.input (subst (λ (t : List ℕ). (counts_if_present (links_of graph) is.path ≡ false) ⊎ IsSome (view t)) (sym is.text) is.counts))
 
-  -- what an edge reads is counted at it, or read by a phony edge that makes one of its inputs
-  abbrev pub IsReadNext : View → List ℕ → ℕ → Type 0
-  IsReadNext view p d =
-      IsCountedIn graph (d ∷ []) view p
-      ⊎ ((q : ℕ) × (j : ℕ) × (has_number ((links_of graph).regular d) q ≡ true) × (alias_at (links_of graph) q ≡ Some j) × IsRead (declared_by graph).edges view (suc j) p)
-
-  read_next : (view : View) (i : ℕ) (p : List ℕ) → IsRead (declared_by graph).edges view i p → (d : ℕ) → suc d ≡ i → IsReadNext view p d
+  read_next : (view : View) (i : ℕ) (p : List ℕ) → IsRead (declared_by graph).edges view i p → (d : ℕ) → suc d ≡ i → IsReadNext graph view p d
   read_next view _ _ (Itself i p regular counts) d same =
       let named : has (texts_at graph.manifest.paths ((links_of graph).regular d)) p ≡ true =
       subst (λ (l : List (List ℕ)). has l p ≡ true) (regular_are d) (subst (λ (n : ℕ). has (regular_inputs (edge_at (declared_by graph).edges n)) p ≡ true) (sym same) regular) in
@@ -220,8 +214,11 @@ module _ (graph : Graph) where
       let edge = text_alias number.0 j low (subst (λ (t : List ℕ). IsAlias (declared_by graph).edges t j) (sym number.2) alias) in
       inr (number.0, edge.0, number.1, edge.2, subst (λ (n : ℕ). IsRead (declared_by graph).edges view n p) (sym edge.1) read)
 
-  pub read_by_step : (view : View) (d : ℕ) (p : List ℕ) → IsRead (declared_by graph).edges view (suc d) p → IsReadNext view p d
+  read_by_step : (view : View) (d : ℕ) (p : List ℕ) → IsRead (declared_by graph).edges view (suc d) p → IsReadNext graph view p d
   read_by_step view d p read = read_next view (suc d) p read d refl
+
+  pub reading_stands : ReadingStands graph
+  reading_stands = record { next = read_by_step; counted = read_counted; through = read_through }
 
   -- a closed set of edges that are read through
   pub reading_of : (e : ℕ) (edges : List ℕ) → has_number edges e ≡ true → StandOnce edges → ((d : ℕ) → has_number edges d ≡ true → d < length graph.manifest.lines)

@@ -9,7 +9,7 @@ use Rattle.std.proofs.lemmas.Option.{slice_get-get_or}
 use Rattle.indexmap.specs.IndexSet.{insert_key, insert_all}
 use Rattle.model.specs.Graph.{has_number}
 use Rattle.theory.proofs.Lists.{has_number-left, has_number-cases, has_number-is, has_number-push}
-use Rattle.graph.specs.Held.{StandOnce}
+use Rattle.graph.specs.Held.{HasPut, StandOnce}
 use Rattle.graph.proofs.Lists.{once_push, apart_of_once}
 
 -- ---- a set of numbers that grows
@@ -29,11 +29,14 @@ pub record Gains (old new numbers : List ℕ) : Type 0 where
   pub each : (n : ℕ) → has_number new n ≡ true → (has_number old n ≡ true) ⊎ (has_number numbers n ≡ true)
 
 -- a set into which a number is put keeps its list, or has the number behind
-pub inserted : (xs new : List ℕ) (n : ℕ) → new ≡ insert_key nat_eq xs n → ((has_number xs n ≡ true) × (new ≡ xs)) ⊎ (new ≡ xs ++ n ∷ [])
-inserted xs new n is = elim (cases_Bool (list_any (nat_eq n) xs)) [
-  | inl here ↦ inl (any_number xs n here, is ∙ ap (λ (b : Bool). if b then xs else xs ++ n ∷ []) here)
-  | inr fresh ↦ inr (is ∙ ap (λ (b : Bool). if b then xs else xs ++ n ∷ []) fresh)
-]
+pub put_in : (xs new : List ℕ) (n : ℕ) → new ≡ insert_key nat_eq xs n → HasPut xs n new
+put_in xs new n is = record {
+  set = is;
+  either = elim (cases_Bool (list_any (nat_eq n) xs)) [
+    | inl here ↦ inl (any_number xs n here, is ∙ ap (λ (b : Bool). if b then xs else xs ++ n ∷ []) here)
+    | inr fresh ↦ inr (is ∙ ap (λ (b : Bool). if b then xs else xs ++ n ∷ []) fresh)
+  ];
+}
 
 gains_one : (xs : List ℕ) (n : ℕ) → Gains xs (insert_key nat_eq xs n) (n ∷ [])
 gains_one xs n = by (list_any (nat_eq n) xs) refl

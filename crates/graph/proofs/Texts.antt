@@ -7,7 +7,8 @@ use Rattle.std.proofs.lemmas.List.{map-append}
 use Rattle.std.proofs.lemmas.Option.{slice_get-get_or}
 use Rattle.model.specs.declared.graph.Edge.{Edge}
 use Rattle.model.specs.Graph.{has, has_number, no_edge, inputs, outputs, regular_inputs, all_inputs, all_outputs}
-use Rattle.theory.proofs.Lists.{same_bytes, bytes_same}
+use Rattle.theory.proofs.Lists.{same_bytes}
+use Rattle.theory.proofs.Mapped.{has_mapped, mapped_has}
 use Rattle.paths.specs.declared.line.Line.{Line}
 use Rattle.paths.specs.declared.manifest.Action.{Action}
 use Rattle.paths.specs.declared.manifest.Action.TheVariants.{Alias, Command}
@@ -40,12 +41,7 @@ within_of n [] each = tt
 within_of n (q ∷ numbers) each = (each q (or_left (q == q) (has_number numbers q) (eq-eqb q q refl)), within_of n numbers (λ p h. each p (or_right (q == p) (has_number numbers p) h)))
 
 pub has_text : (paths : List (List ℕ)) (numbers : List ℕ) (n : ℕ) → has_number numbers n ≡ true → has (texts_at paths numbers) (text_at paths n) ≡ true
-has_text paths [] n h = absurd (false≢true h)
-has_text paths (m ∷ numbers) n h = elim (or_cases (m == n) (has_number numbers n) h) [
-  | inl here ↦ or_left (bytes_eq (text_at paths m) (text_at paths n)) (has (texts_at paths numbers) (text_at paths n))
-      (subst (λ (k : ℕ). bytes_eq (text_at paths m) (text_at paths k) ≡ true) (eqb-true m n here) (bytes_same (text_at paths m)))
-  | inr later ↦ or_right (bytes_eq (text_at paths m) (text_at paths n)) (has (texts_at paths numbers) (text_at paths n)) (has_text paths numbers n later)
-]
+has_text paths numbers n h = has_mapped (text_at paths) numbers n h
 
 pub text_has : (paths : List (List ℕ)) → HaveOnePlace paths → (numbers : List ℕ) (n : ℕ) → n < length paths → AreWithin paths numbers → has (texts_at paths numbers) (text_at paths n) ≡ true → has_number numbers n ≡ true
 text_has paths once [] n lt within h = absurd (false≢true h)
@@ -62,11 +58,7 @@ has_texts paths once numbers n lt within = elim (cases_Bool (has_number numbers 
 
 -- the number of a text
 pub number_of : (paths : List (List ℕ)) (numbers : List ℕ) (p : List ℕ) → has (texts_at paths numbers) p ≡ true → (n : ℕ) × (has_number numbers n ≡ true) × (text_at paths n ≡ p)
-number_of paths [] p h = absurd (false≢true h)
-number_of paths (n ∷ numbers) p h = elim (or_cases (bytes_eq (text_at paths n) p) (has (texts_at paths numbers) p) h) [
-  | inl here ↦ (n, or_left (n == n) (has_number numbers n) (eq-eqb n n refl), same_bytes (text_at paths n) p here)
-  | inr later ↦ let rest = number_of paths numbers p later in (rest.0, or_right (n == rest.0) (has_number numbers rest.0) rest.1, rest.2)
-]
+number_of paths numbers p h = mapped_has (text_at paths) numbers p h
 
 -- ---- the edge of a line
 

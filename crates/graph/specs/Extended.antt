@@ -21,6 +21,10 @@ addition_of statement = record { output = statement.output; outputs = statement.
 abbrev pub dyndep_at : Graph → ℕ → Option ℕ
 dyndep_at graph e = dyndep_of (get_or graph.manifest.actions e no_action)
 
+-- what names a file is an edge, and the file a path
+abbrev pub FilesStand : Type 0
+FilesStand = (graph : Graph) (e file : ℕ) → dyndep_at graph e ≡ Some file → (e < length graph.manifest.lines) × (file < length graph.manifest.paths)
+
 -- ---- a file that is loaded
 
 -- The edges that name the file have what its statements say, and name it no more; nothing else is changed, and paths keep their numbers.

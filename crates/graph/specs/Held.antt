@@ -1,5 +1,6 @@
 -- What a graph keeps beside what build files declare, in numbers.
-use Rattle.std.specs.Prelude.{◌≡◌, ℕ, suc, ◌==◌, ◌<◌, ◌≤◌, ◌-◌, Bool, true, false, if◌then◌else◌, List, [], ◌∷◌, ◌++◌, length, take, get_or, slice_set, Option, Some, None}
+use Rattle.std.specs.Prelude.{◌≡◌, ◌⊎◌, ℕ, suc, ◌==◌, ◌<◌, ◌≤◌, ◌-◌, Bool, true, false, if◌then◌else◌, nat_eq, List, [], ◌∷◌, ◌++◌, length, take, get_or, slice_set, Option, Some, None}
+use Rattle.indexmap.specs.IndexSet.{insert_key}
 use Rattle.model.specs.Graph.{has_number}
 use Rattle.paths.specs.declared.manifest.Action.{Action}
 use Rattle.paths.specs.declared.manifest.Action.TheVariants.{Alias, Command}
@@ -19,6 +20,11 @@ times (m ∷ ms) n = if m == n then suc (times ms n) else times ms n
 -- no number stands twice in the list
 abbrev pub StandOnce : List ℕ → Type 0
 StandOnce numbers = (n : ℕ) → times numbers n ≤ 1
+
+-- the set has the number, too: it is as it was, or the number stands behind
+pub record HasPut (old : List ℕ) (n : ℕ) (new : List ℕ) : Type 0 where
+  pub set : new ≡ insert_key nat_eq old n
+  pub either : ((has_number old n ≡ true) × (new ≡ old)) ⊎ (new ≡ old ++ n ∷ [])
 
 abbrev pub maker_in : List (Option ℕ) → ℕ → Option ℕ
 maker_in makers p = get_or makers p None

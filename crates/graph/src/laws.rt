@@ -1,8 +1,10 @@
 //! Laws of graphs in numbers.
 
 ghost use Rattle.std.specs.Prelude.{◌≡◌, ℕ};
+ghost use Rattle.graph.specs.Extended.{FilesStand};
 ghost use Rattle.graph.specs.Links.{links_of, NeedsArePaths};
 ghost use Rattle.graph.specs.Linked.{StandFor};
+ghost use Rattle.graph.specs.ReadingOf.{ReadingStands};
 ghost use Rattle.graph.specs.Targets.{IsLinked};
 ghost use Rattle.graph.specs.Told.{declared_by, declared_edge, line_edge};
 
@@ -21,4 +23,14 @@ pub fn numbers_stand(graph: &Graph)
 /// numbers of paths, recorded inputs too.
 pub fn lists_stand(graph: &Graph)
     ensures { StandFor (declared_by graph.now).edges graph.now.manifest.paths (links_of graph.now) }
+{}
+
+/// A law, which runs nothing: what an edge reads, by its own inputs and by one phony edge among their makers.
+pub fn reading_stands(graph: &Graph)
+    ensures { ReadingStands graph.now }
+{}
+
+/// A law, which runs nothing: what names a dyndep file is an edge of the graph, and the file one of its paths.
+pub fn files_stand()
+    ensures { FilesStand }
 {}

@@ -26,6 +26,6 @@ pub use back::{Before, LoadedEdge};
 pub use cone::{Cone, ConeFault, Mark};
 pub use fault::{ExtendFault, GraphFault, Occupied, SideFile};
 pub use graph::Graph;
-pub use laws::{lists_stand, numbers_stand};
+pub use laws::{files_stand, lists_stand, numbers_stand, reading_stands};
 pub use path_set::PathSet;
 pub use reading::Reading;

@@ -1,8 +1,7 @@
 //! Paths, each once.
 
-ghost use Rattle.std.specs.Prelude.{◌≡◌, ◌<◌, [], ℕ, nat_eq, OnOk, length, get_or};
-ghost use Rattle.indexmap.specs.IndexSet.{insert_key};
-ghost use Rattle.graph.specs.Held.{StandOnce};
+ghost use Rattle.std.specs.Prelude.{◌≡◌, ◌<◌, [], ℕ, OnOk, length, get_or};
+ghost use Rattle.graph.specs.Held.{HasPut, StandOnce};
 
 use paths::PathId;
 use std::alloc::{AllocError, Global};
@@ -76,7 +75,7 @@ impl PathSet {
     /// Puts a path in, where it is not in.
     #[inline(always)]
     pub fn insert(&mut self, path: PathId) -> Result<(), AllocError>
-        ensures { OnOk result (self.new ≡ insert_key nat_eq self.old path) }
+        ensures { OnOk result (HasPut self.old path self.new) }
     {
         let place = path.index();
         reach(&mut self.rounds, place)?;

@@ -1,9 +1,9 @@
 -- Lists of numbers, and the texts that they stand for.
-use Rattle.std.proofs.Common.{◌≡◌, ◌⊎◌, inl, inr, ℕ, zero, suc, ◌<◌, ◌==◌, Bool, true, List, [], ◌∷◌, Option, Some, None, IfSome, Result, Ok, Err, IfOk, bytes_eq, map, get_or, length, refl, sym, ◌∙◌, ap, arith, subst}
+use Rattle.std.proofs.Common.{◌≡◌, ◌⊎◌, inl, inr, ℕ, zero, suc, ◌<◌, ◌==◌, Bool, true, List, [], ◌∷◌, Option, Some, None, IfSome, Result, Ok, Err, IfOk, map, get_or, length, refl, sym, ◌∙◌, ap, arith, subst}
 use Rattle.std.specs.List.{list_any}
 use Rattle.std.proofs.lemmas.Bool.{eqb-true, eq-eqb, or_cases, or_left, or_right, false≢true, cases_Bool}
 use Rattle.model.specs.Graph.{has, has_number}
-use Rattle.theory.proofs.Lists.{same_bytes, bytes_same}
+use Rattle.theory.proofs.Mapped.{has_mapped, mapped_has}
 use Rattle.paths.specs.Told.{text_at, texts_at}
 
 pub if_ok_then : {T E : Type 0} {P Q : T → Type 0} (r : Result T E) → IfOk r P → ((x : T) → P x → Q x) → IfOk r Q
@@ -58,19 +58,10 @@ suc_has (x ∷ xs) i h = elim (or_cases (suc x == i) (has_number (map suc xs) i)
 -- ---- the texts of numbers
 
 pub has_text : (paths : List (List ℕ)) (numbers : List ℕ) (n : ℕ) → has_number numbers n ≡ true → has (texts_at paths numbers) (text_at paths n) ≡ true
-has_text paths [] n h = absurd (false≢true h)
-has_text paths (m ∷ numbers) n h = elim (or_cases (m == n) (has_number numbers n) h) [
-  | inl here ↦ or_left (bytes_eq (text_at paths m) (text_at paths n)) (has (texts_at paths numbers) (text_at paths n))
-      (subst (λ (k : ℕ). bytes_eq (text_at paths m) (text_at paths k) ≡ true) (eqb-true m n here) (bytes_same (text_at paths m)))
-  | inr later ↦ or_right (bytes_eq (text_at paths m) (text_at paths n)) (has (texts_at paths numbers) (text_at paths n)) (has_text paths numbers n later)
-]
+has_text paths numbers n h = has_mapped (text_at paths) numbers n h
 
 pub number_of : (paths : List (List ℕ)) (numbers : List ℕ) (p : List ℕ) → has (texts_at paths numbers) p ≡ true → (n : ℕ) × (has_number numbers n ≡ true) × (text_at paths n ≡ p)
-number_of paths [] p h = absurd (false≢true h)
-number_of paths (n ∷ numbers) p h = elim (or_cases (bytes_eq (text_at paths n) p) (has (texts_at paths numbers) p) h) [
-  | inl here ↦ (n, has_here n numbers, same_bytes (text_at paths n) p here)
-  | inr later ↦ let rest = number_of paths numbers p later in (rest.0, or_right (n == rest.0) (has_number numbers rest.0) rest.1, rest.2)
-]
+number_of paths numbers p h = mapped_has (text_at paths) numbers p h
 
 -- ---- whether one passes a test
 

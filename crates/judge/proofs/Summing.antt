@@ -15,9 +15,8 @@ use Rattle.theory.proofs.Lists.{all_append, has_number-left, has_number-right, h
 use Rattle.graph.specs.declared.graph.Graph.{Graph}
 use Rattle.graph.specs.Links.{Links, links_of}
 use Rattle.graph.specs.Alias.{alias_at, counts_if_present}
-use Rattle.graph.specs.ReadingOf.{IsReadingOf}
+use Rattle.graph.specs.ReadingOf.{IsReadingOf, ReadingStands}
 use Rattle.graph.specs.Told.{declared_by}
-use Rattle.graph.proofs.ReadThrough.{read_by_step, read_counted, read_through}
 use Rattle.judge.specs.declared.looks.Look.{Look}
 use Rattle.judge.specs.Seen.{look_at, look_of, is_asked, AreSeenOf}
 use Rattle.judge.specs.declared.input_facts.Inputs.{Inputs}
@@ -265,9 +264,9 @@ module _ (graph : Graph) (flags : List Bool) where
   -- ---- all that an edge reads
 
   -- its own inputs, and what is read through the phony edges among those that make them
-  pub read_by_all : (seen : List Look) (e : ℕ) (a b : Inputs) (joined : HasJoined graph flags seen ((links_of graph).regular e) a b) → IsReadBy graph e (e ∷ joined.edges)
-  read_by_all seen e a b joined view p = (
-    (λ read. elim (read_by_step graph view e p read) [
+  pub read_by_all : ReadingStands graph → (seen : List Look) (e : ℕ) (a b : Inputs) (joined : HasJoined graph flags seen ((links_of graph).regular e) a b) → IsReadBy graph e (e ∷ joined.edges)
+  read_by_all reads seen e a b joined view p = (
+    (λ read. elim (reads.next view e p read) [
       | inl is ↦ record {
         edge = is.edge;
         listed = or_left (e == is.edge) (has_number joined.edges is.edge) (eq-eqb e is.edge (has_number-is e is.edge is.listed));
@@ -281,10 +280,10 @@ module _ (graph : Graph) (flags : List Bool) where
           record { edge = is.edge; listed = or_right (e == is.edge) (has_number joined.edges is.edge) is.listed; path = is.path; input = is.input; text = is.text; counts = is.counts }
     ]),
     (λ is. elim (has_number-cases (e ∷ []) joined.edges is.edge is.listed) [
-      | inl here ↦ subst (λ (n : ℕ). IsRead (declared_by graph).edges view (suc n) p) (sym (has_number-is e is.edge here)) (read_counted graph (e ∷ joined.edges) view p is)
+      | inl here ↦ subst (λ (n : ℕ). IsRead (declared_by graph).edges view (suc n) p) (sym (has_number-is e is.edge here)) (reads.counted (e ∷ joined.edges) view p is)
       | inr later ↦
           let through = (joined.read view p).1 (record { edge = is.edge; listed = later; path = is.path; input = is.input; text = is.text; counts = is.counts }) in
-          read_through graph e through.path through.alias through.listed through.made view p through.read
+          reads.through e through.path through.alias through.listed through.made view p through.read
     ]),
   )
 

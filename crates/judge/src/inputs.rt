@@ -17,7 +17,7 @@ use crate::laws::looks_follow;
 use crate::looks::{Look, Looks};
 use crate::stamp::stamp_of;
 use crate::sums::Sums;
-use graph::{Graph, Reading, lists_stand};
+use graph::{Graph, Reading, lists_stand, reading_stands};
 use model::SiteFault;
 use paths::{EdgeId, PathId};
 use site::Site;
@@ -46,6 +46,7 @@ pub(crate) fn inputs_of<S: Site>(
 {
     looks_follow();
     lists_stand(graph);
+    reading_stands(graph);
     let mut inputs = Inputs::new();
     let regular = graph.regular_inputs(edge);
     add_paths(site, graph, looks, changed, false, regular, &mut inputs)?;

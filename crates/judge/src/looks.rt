@@ -1,6 +1,6 @@
 //! What was seen of each path.
 
-ghost use Rattle.std.specs.Prelude.{◌≡◌, ◌<◌, ◌≤◌, ◌++◌, ℕ, List, IfOk, OnOk, OnErr, true, false, length, slice_set};
+ghost use Rattle.std.specs.Prelude.{◌≡◌, ◌<◌, ◌≤◌, ◌++◌, ℕ, List, take, IfOk, OnOk, OnErr, true, false, length, slice_set};
 ghost use Rattle.std.proofs.Math.ListN.{replicate};
 ghost use Rattle.model.specs.Calls.{OnlyLooks, HasCause};
 ghost use Rattle.model.specs.Graph.{has_number};
@@ -103,10 +103,18 @@ impl Looks {
         ensures fits { OnOk result (length self.new.seen.items ≡ length graph.now.manifest.paths) }
         ensures same { OnOk result ((p : ℕ) → look_at self.new.seen.items p ≡ look_at self.old.seen.items p) }
         ensures seen { OnOk result ((paths more : List (List ℕ)) → graph.now.manifest.paths ≡ paths ++ more → length self.old.seen.items ≡ length paths → StaysSeen paths graph.now.manifest.paths self.old.seen.items self.new.seen.items) }
+        ensures front { take (length self.old.seen.items) self.new.seen.items ≡ self.old.seen.items }
         ensures err { OnErr result (self.new.seen.items ≡ self.old.seen.items) }
     {
         self.seen.resize(graph.paths(), Look::Unasked)?;
         Ok(())
+    }
+
+    /// Forgets what was seen of paths that the graph has no more, as a load was taken back. It takes no memory.
+    pub fn shrink(&mut self, graph: &Graph)
+        ensures { self.new.seen.items ≡ take (length graph.now.manifest.paths) self.old.seen.items }
+    {
+        self.seen.truncate(graph.paths());
     }
 
     /// What was seen of the path, without asking for it.

@@ -17,6 +17,7 @@ pub mod Decided
 pub mod EachRead
 pub mod BuildRecordOf
 mod Plain
+mod OneOutputLines
 pub mod Digits
 pub mod HeadFields
 pub mod Sayings

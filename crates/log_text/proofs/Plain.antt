@@ -20,7 +20,7 @@ use Rattle.log_text.specs.DepsRecordLine.{head_fields, fields_of, forms}
 abbrev pub plain_record : List ℕ → ℕ → List (List ℕ) → DepsRecord
 plain_record output start paths = record { outputs = output ∷ []; start = start; paths = paths }
 
-one : decimal 1 ≡ 49 ∷ []
+pub one : decimal 1 ≡ 49 ∷ []
 one = decimal_digit 1 (omega arith)
 
 fields_are : (output : List ℕ) (start count : ℕ) (paths : List (List ℕ)) → length paths ≡ count → head_fields output start count ++ paths ≡ fields_of Two (plain_record output start paths)
@@ -72,11 +72,14 @@ ascii_one : (b : ℕ) → b < 128 → IsAscii (b ∷ [])
 ascii_one b lt zero = lt
 ascii_one b lt (suc i) = omega arith
 
+pub byte_utf8 : (b : ℕ) → b < 128 → IsUtf8 (b ∷ [])
+byte_utf8 b low = IsUtf8-from_ascii (b ∷ []) (ascii_one b low)
+
 pub kind_utf8 : IsUtf8 (114 ∷ [])
-kind_utf8 = IsUtf8-from_ascii (114 ∷ []) (ascii_one 114 (omega arith))
+kind_utf8 = byte_utf8 114 (omega arith)
 
 pub one_utf8 : IsUtf8 (49 ∷ [])
-one_utf8 = IsUtf8-from_ascii (49 ∷ []) (ascii_one 49 (omega arith))
+one_utf8 = byte_utf8 49 (omega arith)
 
 -- the line is that of a record
 pub record IsLineOfPlain (version : Version) (line output : List ℕ) (start : ℕ) (paths : List (List ℕ)) : Type 0 where

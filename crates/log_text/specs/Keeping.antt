@@ -1,5 +1,5 @@
 -- What is said of what is kept of a log, whatever records it stands for.
-use Rattle.std.specs.Prelude.{◌≡◌, ℕ, List, [], ◌∷◌, ◌++◌, Option, slice_get, length}
+use Rattle.std.specs.Prelude.{◌≡◌, ℕ, List, [], ◌∷◌, ◌++◌, Option, Some, slice_get, length}
 use Rattle.std.specs.Option.{option_and_then}
 use Rattle.log_text.specs.declared.form.Version.{Version}
 use Rattle.log_text.specs.declared.tail.Tail.{Tail}
@@ -51,3 +51,7 @@ at_number xs number = option_and_then (slice_get xs) number
 -- a log of these records, of which those are in force, is to be compacted
 abbrev pub IsToCompact : {A B : Type 0} → List A → List B → Type 0
 IsToCompact all in_force = WantsCompaction (length all) (length in_force)
+
+-- the output with this number was said this of: a record more
+abbrev pub PutsOne : {T : Type 0} → ℕ → Option T → Table T → Table T → Type 0
+PutsOne number said old new = (text : List ℕ) → slice_get old.outputs number ≡ Some text → KeepsAlso IsTableOf (text ∷ [], said) old new

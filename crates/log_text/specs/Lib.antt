@@ -11,6 +11,7 @@ pub mod Found
 pub mod Keeping
 pub mod Steps
 pub mod BuildRecord
+pub mod OneOutput
 pub mod BuildLog
 pub mod Written
 pub mod DepsRecordLine

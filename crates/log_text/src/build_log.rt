@@ -15,6 +15,7 @@ use crate::done::Done;
 use crate::field::{Field, plain_fields};
 use crate::form::{Records, Version};
 use crate::kept::Kept;
+use crate::one_output::{Last, put_short};
 use crate::tail::Tail;
 use model::Record;
 use std::alloc::{AllocError, Global};
@@ -25,6 +26,7 @@ use text::Path;
 #[derive(Drop)]
 pub struct BuildLog {
     kept: Kept<Done>,
+    last: Last,
 }
 
 impl Model for BuildLog {
@@ -61,6 +63,7 @@ impl Records for BuildLog {
     fn new(alloc: Global) -> BuildLog {
         BuildLog {
             kept: Kept::new(alloc),
+            last: Last::new(),
         }
     }
 
@@ -86,11 +89,12 @@ impl Records for BuildLog {
 
     fn put_plain(
         &mut self,
-        _alloc: Global,
-        _version: Version,
-        _line: &[u8],
+        alloc: Global,
+        version: Version,
+        line: &[u8],
     ) -> Result<bool, AllocError> {
-        Ok(false)
+        let is_put = put_short(&mut self.kept, &mut self.last, alloc, version, line)?;
+        Ok(is_put)
     }
 
     fn find(&self, output: &str) -> Option<usize> {

@@ -97,6 +97,18 @@ fn cut_at_escape(bytes: &[u8]) -> Option<(&[u8], u8, &[u8])>
     Some((&bytes[..place], bytes[place], &bytes[place + 1..]))
 }
 
+/// What stands before the first tab and what stands behind it, where no byte before it is written as two.
+pub(crate) fn cut_plain(bytes: &[u8]) -> Option<(&[u8], &[u8])>
+    ensures found { IfSome result (λ parts. bytes.now ≡ parts.0.now ++ 9 ∷ parts.1.now) }
+    ensures plain { IfSome result (λ parts. IsPlain parts.0.now) }
+{
+    let (front, byte, after) = cut_at_escape(bytes)?;
+    if byte != b'\t' {
+        return None;
+    }
+    Some((front, after))
+}
+
 /// Writes what a byte is written as at the end of a line.
 fn push_escape(line: &mut Vec<u8>, byte: u8) -> Result<(), AllocError>
     ensures { OnOk result (line.new.items ≡ line.old.items ++ escaped byte) }

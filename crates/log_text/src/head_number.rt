@@ -62,7 +62,8 @@ fn digit_in(bytes: &[u8]) -> Option<(u64, &[u8])>
 }
 
 /// What stands behind a tab in front.
-fn behind_tab(bytes: &[u8]) -> Option<&[u8]>
+#[inline(always)]
+pub(crate) fn behind_tab(bytes: &[u8]) -> Option<&[u8]>
     ensures { IfSome result (λ after. bytes.now ≡ 9 ∷ after.now) }
 {
     match bytes {

@@ -1,10 +1,10 @@
 //! What is kept of the records of a log: outputs by number, and for each the record in force.
 
-ghost use Rattle.std.specs.Prelude.{◌≡◌, ◌<◌, ◌≤◌, ◌↔◌, ◌-◌, [], ◌++◌, Option, Some, IsTrue, IfOk, OnOk, OnErr, length, take, slice_get};
+ghost use Rattle.std.specs.Prelude.{◌≡◌, ◌<◌, ◌≤◌, ◌↔◌, ◌-◌, [], ◌∷◌, ◌++◌, Option, Some, IsTrue, IfOk, OnOk, OnErr, length, take, slice_get};
 ghost use Rattle.std.specs.List.{list_any};
 ghost use Rattle.std.specs.Option.{option_copied, option_map};
 ghost use Rattle.log_text.specs.Kept.{IsTableOf, AreDistinct, AreNumbersOf, told_of, tolds, place_of, place_at, is_place, is_left, tellings, in_force_of, outputs_left, texts_at, if_some};
-ghost use Rattle.log_text.specs.Keeping.{OfTable, KeepsSame, KeepsAlso, at_number, IsToCompact};
+ghost use Rattle.log_text.specs.Keeping.{OfTable, KeepsSame, KeepsAlso, PutsOne, at_number, IsToCompact};
 ghost use Rattle.log_text.specs.Found.{texts_in, tellings_in, AreNamed, PutsFound, PutsLeft, Leaves};
 ghost use Rattle.log_text.specs.Steps.{IsFilled, IsGrown, IsSaid};
 ghost use Rattle.text.specs.Marks.{Lacks};
@@ -91,6 +91,23 @@ impl<T: Drop> Kept<T> {
         let records = self.records.checked_add(1).ok_or(AllocError)?;
         let numbers = self.numbers(alloc, outputs)?;
         self.say(numbers, said)?;
+        self.records = records;
+        Ok(())
+    }
+
+    /// Puts a record of the output with this number at the end. Where memory is refused, what is kept stands for the same records as
+    /// before.
+    pub(crate) fn put_one(
+        &mut self,
+        alloc: Global,
+        number: usize,
+        said: Option<T>,
+    ) -> Result<(), AllocError>
+        ensures ok { OnOk result (PutsOne number said self.old self.new) }
+        ensures err { OnErr result (KeepsSame IsTableOf self.old self.new) }
+    {
+        let records = self.records.checked_add(1).ok_or(AllocError)?;
+        self.say_one(alloc, number, said)?;
         self.records = records;
         Ok(())
     }
@@ -315,6 +332,26 @@ impl<T: Drop> Kept<T> {
         Ok(Some((number, after)))
     }
 
+    /// The number of the text whose field stands in front, and what stands behind its tab, where no byte of it is written as two.
+    /// One that came behind the text with the number `last` before is compared, another one is looked up. A text that has no
+    /// number gets one. What is kept stands for the same records as before.
+    pub(crate) fn take_behind<'a>(
+        &mut self,
+        alloc: Global,
+        last: usize,
+        bytes: &'a [u8],
+    ) -> Result<Option<(usize, &'a [u8])>, AllocError>
+        requires { Lacks 10 bytes.now }
+        ensures same { KeepsSame IsTableOf self.old self.new }
+        ensures number { IfFound result (λ parts. IsTaken self.new.outputs bytes.now parts.0 parts.1.now) }
+    {
+        if let Some((number, after)) = self.outputs.follow(last, bytes) {
+            return Ok(Some((number, after)));
+        }
+        let found = self.take_unknown(alloc, last, bytes, None)?;
+        Ok(found)
+    }
+
     /// The number of an output; if it has none, it gets one.
     fn number(&mut self, alloc: Global, output: &str) -> Result<usize, AllocError>
         ensures same { KeepsSame IsTableOf self.old self.new }
@@ -340,6 +377,23 @@ impl<T: Drop> Kept<T> {
             Some(told) => self.tell(numbers, told),
             None => {
                 fill(self.in_force.as_mut_slice(), numbers.as_slice(), None);
+                Ok(())
+            }
+        }
+    }
+
+    /// Takes down what a record says of the output with this number. Where memory is refused, nothing changes.
+    fn say_one(&mut self, alloc: Global, number: usize, said: Option<T>) -> Result<(), AllocError>
+        ensures ok { OnOk result (IsSaid self.old (number ∷ []) said self.new) }
+        ensures err { OnErr result (self.new ≡ self.old) }
+    {
+        match said {
+            Some(told) => {
+                let numbers = Vec::from_slice(alloc, &[number])?;
+                self.tell(Items::from_vec(numbers), told)
+            }
+            None => {
+                fill(self.in_force.as_mut_slice(), &[number], None);
                 Ok(())
             }
         }

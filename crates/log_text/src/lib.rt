@@ -16,6 +16,7 @@ mod kept;
 mod laws;
 mod line;
 mod number;
+mod one_output;
 mod outputs;
 mod read;
 mod tail;

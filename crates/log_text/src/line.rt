@@ -7,7 +7,7 @@ ghost use Rattle.log_text.specs.Line.{field_and_tab, fields_text, line_text, Are
 ghost use Rattle.log_text.specs.Found.{texts_in};
 ghost use Rattle.log_text.specs.Answered.{IfFound, IfMissing, IfYes, IfNo};
 
-use crate::field::{Field, field_of, is_plain, push_field};
+use crate::field::{Field, cut_plain, field_of, is_plain, push_field};
 use itoa::Buffer;
 use std::alloc::{AllocError, Global};
 use std::str::from_utf8;
@@ -72,10 +72,7 @@ pub fn plain_field(bytes: &[u8]) -> Option<(&str, &[u8])>
     ensures plain { IfSome result (λ parts. IsPlain parts.0.now) }
     ensures line_feed { IfSome result (λ parts. Lacks 10 parts.1.now) }
 {
-    let (field, after) = cut(bytes, b'\t')?;
-    if !is_plain(field) {
-        return None;
-    }
+    let (field, after) = cut_plain(bytes)?;
     match from_utf8(field) {
         Ok(text) => Some((text, after)),
         Err(_) => None,

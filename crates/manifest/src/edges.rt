@@ -7,6 +7,7 @@ ghost use Rattle.lexer.specs.Quote.{quoted};
 ghost use Rattle.paths.specs.Commands.{dyndep_stop};
 ghost use Rattle.paths.specs.Lists.{line_at};
 ghost use Rattle.paths.specs.Told.{texts_at};
+ghost use Rattle.scopes.specs.Marks.{IsOfScope};
 ghost use Rattle.manifest.specs.Expanding.{OfEach, OfEachUse, IsMadeFor, HasValues, Expands, AreQuoted};
 ghost use Rattle.manifest.specs.Expanding.{IsPoolChecked, AreDepsChecked, IsShownOf};
 ghost use Rattle.manifest.specs.Held.{IsBuildOf, IsUseRefused};
@@ -22,7 +23,7 @@ use crate::values::Values;
 use indexmap::IndexMap;
 use lexer::{is_bare_path, quote};
 use paths::{Action, EdgeId, Lines, PathId, Paths as Table};
-use scopes::{Paths, Rule, Scopes, Use, UseFault, values_are_unique};
+use scopes::{Marks, Paths, Rule, Scopes, Use, UseFault, values_are_unique};
 use smallvec::SmallVec;
 use std::alloc::{AllocError, Global};
 use text::{Items, Path, Text};
@@ -35,11 +36,12 @@ pub struct Shown<'a> {
 }
 
 impl ReadEdge {
-    /// What the edge of the statement does, with its rule expanded. A dyndep file is put into the table.
+    /// What the edge of the statement does, with its rule expanded, by the marks of its scope. A dyndep file is put into the table.
     pub fn action(
         &self,
         alloc: Global,
         scopes: &Scopes,
+        marks: Marks,
         pools: &IndexMap<String, u32>,
         table: &mut Table,
         lines: &Lines,
@@ -47,6 +49,7 @@ impl ReadEdge {
         room: &mut String,
     ) -> Result<Action, ReadError>
         requires scope { self.now.scope < vec_len scopes.now.scopes }
+        requires marks { IsOfScope scopes.now self.now.scope marks }
         requires edge { edge < length lines.now }
         requires within { IsWithin table.old (line_at lines.now edge) }
         ensures edge { OfEach scopes.now pools.now.entries self.now (IsMadeFor table.old table.new (line_at lines.now edge) result) }
@@ -62,7 +65,7 @@ impl ReadEdge {
                 inputs: shown.inputs.as_slice(),
                 outputs: shown.outputs.as_slice(),
             };
-            self.values(alloc, scopes, pools, rule, plain, room)?
+            self.values(alloc, scopes, marks, pools, rule, plain, room)?
         };
         Ok(Action::Command(command_of(alloc, table, values)?))
     }
@@ -72,15 +75,17 @@ impl ReadEdge {
         &self,
         alloc: Global,
         scopes: &Scopes,
+        marks: Marks,
         pools: &IndexMap<String, u32>,
         rule: &Rule,
         plain: Paths<'_>,
         room: &mut String,
     ) -> Result<Values, ReadError>
-        requires { self.now.scope < vec_len scopes.now.scopes }
+        requires scope { self.now.scope < vec_len scopes.now.scopes }
+        requires marks { IsOfScope scopes.now self.now.scope marks }
         ensures { OfEach scopes.now pools.now.entries self.now (HasValues plain.entry rule.now result) }
     {
-        let values = self.expand(alloc, scopes, rule, plain, room)?;
+        let values = self.expand(alloc, scopes, marks, rule, plain, room)?;
         self.check_pool(alloc, pools, &values)?;
         self.check_deps(alloc, &values)?;
         Ok(values)
@@ -90,16 +95,18 @@ impl ReadEdge {
         &self,
         alloc: Global,
         scopes: &Scopes,
+        marks: Marks,
         rule: &Rule,
         plain: Paths<'_>,
         room: &mut String,
     ) -> Result<Values, ReadError>
-        requires { self.now.scope < vec_len scopes.now.scopes }
+        requires scope { self.now.scope < vec_len scopes.now.scopes }
+        requires marks { IsOfScope scopes.now self.now.scope marks }
         ensures { OfEachUse scopes.now self.now plain.entry (Expands rule.now result) }
     {
         // as nearly all
         if are_bare(plain.inputs) && are_bare(plain.outputs) {
-            return self.expand_quoted(alloc, scopes, rule, plain, plain, room);
+            return self.expand_quoted(alloc, scopes, marks, rule, plain, plain, room);
         }
         let inputs = quote_all(alloc, plain.inputs)?;
         let outputs = quote_all(alloc, plain.outputs)?;
@@ -109,7 +116,7 @@ impl ReadEdge {
             inputs: input_words.as_slice(),
             outputs: output_words.as_slice(),
         };
-        self.expand_quoted(alloc, scopes, rule, plain, quoted, room)
+        self.expand_quoted(alloc, scopes, marks, rule, plain, quoted, room)
     }
 
     /// The same, with the paths as words of a command.
@@ -117,12 +124,14 @@ impl ReadEdge {
         &self,
         alloc: Global,
         scopes: &Scopes,
+        marks: Marks,
         rule: &Rule,
         plain: Paths<'_>,
         quoted: Paths<'_>,
         room: &mut String,
     ) -> Result<Values, ReadError>
-        requires { self.now.scope < vec_len scopes.now.scopes }
+        requires scope { self.now.scope < vec_len scopes.now.scopes }
+        requires marks { IsOfScope scopes.now self.now.scope marks }
         ensures { OfEachUse scopes.now self.now plain.entry (AreQuoted quoted.entry rule.now result) }
     {
         let at = Use {
@@ -133,7 +142,7 @@ impl ReadEdge {
             quoted,
         };
         values_are_unique();
-        match Values::of(alloc, scopes, &at, room) {
+        match Values::of(alloc, scopes, &at, marks, room) {
             Ok(values) => Ok(values),
             Err(fault) => self.refuse_use(alloc, fault),
         }

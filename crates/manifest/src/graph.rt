@@ -23,7 +23,7 @@ use crate::place::Place;
 use indexmap::IndexMap;
 use model::Pool;
 use paths::{Action, EdgeId, Lines, Manifest, PathId, Paths};
-use scopes::Scopes;
+use scopes::{Scopes, marks_at, scope_marks};
 use std::alloc::{AllocError, Global};
 use text::{Items, Text};
 
@@ -104,11 +104,15 @@ fn expand_all(
     ensures count { IfOk result (λ actions. length actions ≡ length lines.now) }
     ensures dyndeps { IfOk result (AllByRecursion (λ action. dyndep_stop action ≤ length table.new)) }
 {
+    let marks = scope_marks(alloc, scopes)?;
     let mut actions = Items::from_vec(Vec::with_capacity(alloc, read.len())?);
     let mut room = String::new(alloc);
     for edge in read {
         let place = EdgeId::at_below(actions.len());
-        actions.push(edge.action(alloc, scopes, pools, table, lines, place, &mut room)?)?;
+        let of_scope = marks_at(scopes, marks.as_slice(), edge.scope);
+        actions.push(edge.action(
+            alloc, scopes, of_scope, pools, table, lines, place, &mut room,
+        )?)?;
     }
     Ok(actions)
 }

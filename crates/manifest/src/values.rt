@@ -1,12 +1,15 @@
 //! The values of rule variables of a build statement (manual: "Rule variables").
 
 ghost use Rattle.std.specs.Prelude.{◌<◌, vec_len, IfOk, IsErrOf, OnOk};
+ghost use Rattle.scopes.specs.Marks.{IsOfScope};
 ghost use Rattle.scopes.specs.Scopes.{Always};
 ghost use Rattle.scopes.specs.Use.{opened, HasCircle};
 ghost use Rattle.scopes.specs.declared.fault.UseFault.TheVariants.{Circle, TooLarge};
 ghost use Rattle.manifest.specs.Values.{AreValuesIn, AreSmall, HasNoCircleIn, LeadsIntoCircleAt, HasLargeValueAt};
 
-use scopes::{Scopes, Use, UseFault, expand_use, values_are_unique};
+use scopes::{
+    Marks, Scopes, Use, UseFault, expand_marked, expand_use, use_marks, values_are_unique,
+};
 use std::alloc::Global;
 use text::Text;
 
@@ -25,7 +28,7 @@ pub struct Values {
 }
 
 impl Values {
-    /// The values for this use of a rule, when all is read.
+    /// The values for this use of a rule, when all is read, with the marks of its scope.
     ///
     /// # Errors
     /// `Circle` where texts of the rule that a variable needs name each other in a circle, else `TooLarge` where some
@@ -34,16 +37,18 @@ impl Values {
         alloc: Global,
         scopes: &Scopes,
         at: &Use<'_>,
+        marks: Marks,
         room: &mut String,
     ) -> Result<Values, UseFault>
-        requires { at.now.scope < vec_len scopes.now.scopes }
+        requires scope { at.now.scope < vec_len scopes.now.scopes }
+        requires marks { IsOfScope scopes.now at.now.scope marks }
         ensures values { IfOk result (λ values. AreValuesIn scopes.now at.now values) }
         ensures size { IfOk result AreSmall }
         ensures circle { IsErrOf result Circle → LeadsIntoCircleAt at.now }
         ensures no_circle { IsErrOf result TooLarge → HasNoCircleIn scopes.now at.now }
         ensures large { IsErrOf result TooLarge → Always scopes.now (λ past. HasLargeValueAt at.now past) }
     {
-        match expand_all(alloc, scopes, at, room) {
+        match expand_all(alloc, scopes, at, marks, room) {
             Err(UseFault::TooLarge) => {
                 check_circles(alloc, scopes, at, room)?;
                 Err(UseFault::TooLarge)
@@ -57,24 +62,27 @@ fn expand_all(
     alloc: Global,
     scopes: &Scopes,
     at: &Use<'_>,
+    marks: Marks,
     room: &mut String,
 ) -> Result<Values, UseFault>
-    requires { at.now.scope < vec_len scopes.now.scopes }
+    requires scope { at.now.scope < vec_len scopes.now.scopes }
+    requires marks { IsOfScope scopes.now at.now.scope marks }
     ensures values { IfOk result (λ values. AreValuesIn scopes.now at.now values) }
     ensures size { IfOk result AreSmall }
     ensures circle { IsErrOf result Circle → LeadsIntoCircleAt at.now }
     ensures large { IsErrOf result TooLarge → Always scopes.now (λ past. HasLargeValueAt at.now past) }
 {
+    let marks = use_marks(scopes, at, marks);
     Ok(Values {
         command: expand_use(alloc, scopes, at, "command", room)?,
-        depfile: expand_use(alloc, scopes, at, "depfile", room)?,
-        deps: expand_use(alloc, scopes, at, "deps", room)?,
-        dyndep: expand_use(alloc, scopes, at, "dyndep", room)?,
-        description: expand_use(alloc, scopes, at, "description", room)?,
-        pool: expand_use(alloc, scopes, at, "pool", room)?,
-        restat: expand_use(alloc, scopes, at, "restat", room)?,
-        rspfile: expand_use(alloc, scopes, at, "rspfile", room)?,
-        rspfile_content: expand_use(alloc, scopes, at, "rspfile_content", room)?,
+        depfile: expand_marked(alloc, scopes, at, "depfile", marks, room)?,
+        deps: expand_marked(alloc, scopes, at, "deps", marks, room)?,
+        dyndep: expand_marked(alloc, scopes, at, "dyndep", marks, room)?,
+        description: expand_marked(alloc, scopes, at, "description", marks, room)?,
+        pool: expand_marked(alloc, scopes, at, "pool", marks, room)?,
+        restat: expand_marked(alloc, scopes, at, "restat", marks, room)?,
+        rspfile: expand_marked(alloc, scopes, at, "rspfile", marks, room)?,
+        rspfile_content: expand_marked(alloc, scopes, at, "rspfile_content", marks, room)?,
     })
 }
 

@@ -5,6 +5,7 @@ use Rattle.std.proofs.lemmas.List.{length-set, get_or-set_same, get_or-set_other
 use Rattle.std.proofs.lemmas.List.Sums.{sum_by-cons}
 use Rattle.std.proofs.lemmas.Bool.{false≢true, true≢false, or_cases, eq-eqb, eqb-true, cases_Bool, cases_eq, false_from_ne_true, lt-ltb, ltb-true}
 use Rattle.model.specs.Graph.{has_number}
+use Rattle.plan.specs.Changed.{AreSetAt}
 use Rattle.plan.specs.Flags.{has}
 use Rattle.graph.specs.Held.{times, list_at}
 use Rattle.graph.specs.declared.graph.Graph.{Graph}
@@ -226,3 +227,10 @@ come_next paths outputs k old there after lt fits is come =
     or_parts : (a b : Bool) → (a || b) ≡ false → (a ≡ false) × (b ≡ false)
     or_parts true b h = absurd (true≢false h)
     or_parts false b h = (refl, h)
+
+-- all of them came in
+pub all_come : (outputs : List ℕ) (k : ℕ) (old new : List Bool) → length outputs ≤ k → ((p : ℕ) → has_number outputs p ≡ true → p < length old) → HaveCome (length old) (take k outputs) old new → AreSetAt old new outputs
+all_come outputs k old new past within come = subst (λ (l : List ℕ). AreSetAt old new l) (take_all outputs k past) record {
+  set = λ p there. come.made p (within p (subst (λ (l : List ℕ). has_number l p ≡ true) (take_all outputs k past) there)) there;
+  others = come.others;
+}

@@ -1,5 +1,5 @@
 -- Which dyndep files are loaded, and in which order.
-use Rattle.std.proofs.Common.{◌≡◌, inl, inr, ℕ, zero, suc, ◌+◌, ◌<◌, Bool, true, false, List, [], ◌∷◌, ◌++◌, Option, None, Some, length, get_or, refl, sym, ◌∙◌, ap, subst, arith, append_assoc}
+use Rattle.std.proofs.Common.{◌≡◌, inl, inr, ℕ, zero, suc, ◌+◌, ◌<◌, Bool, true, false, List, [], ◌∷◌, ◌++◌, Option, None, Some, length, refl, sym, ◌∙◌, ap, subst, arith, append_assoc}
 use Rattle.std.specs.Option.{is_some}
 use Rattle.std.proofs.Math.ListN.{set}
 use Rattle.std.proofs.lemmas.List.{length-set, get_or-set_same, get_or-set_other}
@@ -7,35 +7,12 @@ use Rattle.std.proofs.lemmas.Bool.{false≢true, true≢false, cases_eq, cases_B
 use Rattle.model.specs.Graph.{has_number}
 use Rattle.theory.proofs.Lists.{has_number-left, has_number-right, has_number-cases, has_number-one, has_number-push, has_number-push_cases, has_number-push_other, same_some}
 use Rattle.plan.specs.Flags.{has}
-use Rattle.paths.specs.declared.manifest.Action.{Action}
-use Rattle.paths.specs.declared.manifest.Action.TheVariants as action
-use Rattle.paths.specs.Commands.{no_action, stop_of, dyndep_stop}
 use Rattle.graph.specs.declared.graph.Graph.{Graph}
-use Rattle.graph.specs.Held.{dyndep_of}
 use Rattle.graph.specs.Links.{links_of}
 use Rattle.graph.specs.Extended.{dyndep_at}
 use Rattle.plan.specs.declared.step.Standing.{Standing}
 use Rattle.plan.specs.Standing.{standing_at, is_outside}
 use Rattle.plan.specs.Loads.{IsWanted, NoneIsWanted, AreWanted, IsTaken, NoneIsTaken, IsFirstToName, IsNamedBefore, AreNamedInOrder, HavePushed, BySource, ByEdge, AreInOrder, AreLoads}
-
--- ---- edges that name files
-
--- only edges name files
-pub namer_within : (graph : Graph) (e file : ℕ) → dyndep_at graph e ≡ Some file → e < length graph.manifest.lines
-namer_within graph e file names = let low = inside graph.manifest.actions e names in omega (arith, low, graph.manifest.fits)
-  where
-    inside : (actions : List Action) (e : ℕ) → dyndep_of (get_or actions e no_action) ≡ Some file → e < length actions
-    inside [] e is = cc
-    inside (a ∷ actions) zero is = omega arith
-    inside (a ∷ actions) (suc e) is = let low = inside actions e is in omega (arith, low)
-
--- a file that is named is a path of the graph
-pub file_within : (graph : Graph) (e file : ℕ) → dyndep_at graph e ≡ Some file → file < length graph.manifest.paths
-file_within graph e file names = let below = graph.manifest.dyndeps e in omega (arith, below, stop (get_or graph.manifest.actions e no_action) names)
-  where
-    stop : (a : Action) → dyndep_of a ≡ Some file → dyndep_stop a ≡ suc file
-    stop action.Alias is = cc
-    stop (action.Command command) is = ap stop_of is
 
 -- ---- edges of the cone that name files
 

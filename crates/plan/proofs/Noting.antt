@@ -6,7 +6,7 @@ use Rattle.std.proofs.lemmas.Bool.{or_left, or_right, eq-eqb}
 use Rattle.model.specs.Graph.{has_number}
 use Rattle.plan.specs.Flags.{has}
 use Rattle.graph.specs.Held.{times, StandOnce}
-use Rattle.plan.specs.Plan.{AreFlagged}
+use Rattle.plan.specs.Changed.{AreFlagged}
 
 -- the flags once each is noted for its path
 abbrev pub noted : List Bool → List ℕ → List Bool → List Bool
@@ -76,3 +76,9 @@ set_past (x ∷ flags) (suc p) mark past = ap (λ (l : List Bool). x ∷ l) (set
 
 pub not_noted : (flags : List Bool) (p : ℕ) (mark : Bool) (paths : List ℕ) (marks : List Bool) → length flags ≤ p → noted flags paths marks ≡ noted flags (p ∷ paths) (mark ∷ marks)
 not_noted flags p mark paths marks past = ap (λ (l : List Bool). noted l paths marks) (sym (set_past flags p mark past))
+
+-- a path of the list is one of those that it names
+pub listed_at : (paths : List ℕ) (k : ℕ) → k < length paths → has_number paths (get_or paths k 0) ≡ true
+listed_at [] k lt = absurd (omega (arith, lt))
+listed_at (p ∷ paths) zero lt = or_left (p == p) (has_number paths p) (eq-eqb p p refl)
+listed_at (p ∷ paths) (suc k) lt = or_right (p == get_or paths k 0) (has_number paths (get_or paths k 0)) (listed_at paths k (omega (arith, lt)))

@@ -8,6 +8,7 @@ pub mod Standing
 pub mod Pools
 pub mod Places
 pub mod Plan
+pub mod Changed
 pub mod Loads
 pub mod First
 pub mod Planned

@@ -76,8 +76,3 @@ pub record IsSettling (old new : List Standing) (edge : ℕ) (standing : Standin
   pub fits : length new ≡ length old
   pub here : standing_at new edge ≡ standing
   pub others : (e : ℕ) → e ≢ edge → StaysOrSettles (standing_at old e) (standing_at new e)
-
--- the flags are those handed in for these paths, and for other paths as before
-pub record AreFlagged (old new : List Bool) (paths : List ℕ) (flags : List Bool) : Type 0 where
-  pub given : (k : ℕ) → k < length paths → has new (slice_index paths k) ≡ has flags k
-  pub others : (p : ℕ) → ((k : ℕ) → k < length paths → slice_index paths k ≢ p) → has new p ≡ has old p

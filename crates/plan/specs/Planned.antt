@@ -159,3 +159,9 @@ IsOffered plan (Judge e) = has plan.ready e ≡ true
 IsOffered plan (Start e) = may plan.queue e ≡ true
 IsOffered plan Wait = Unit {0}
 IsOffered plan (Over end) = Unit {0}
+
+-- this is said next: it may be told to the plan, is a lawful step where it is one, and is a load just where one is due
+pub record IsNext (plan : Plan) (step : Step) : Type 0 where
+  pub offered : IsOffered plan step
+  pub lawful : IsLawfulNext plan step
+  pub loads : IsDueNext plan step

@@ -6,7 +6,7 @@ ghost use Rattle.plan.specs.Planned.{IsDeclaredTask, IsTaskOf};
 ghost use Rattle.plan.specs.Extended.{LoadsGoOn};
 ghost use Rattle.plan.specs.Steps.{StepsMove, StandingsTell, StepsName, ListsCount};
 
-use graph::{Graph, lists_stand, numbers_stand};
+use graph::{Graph, files_stand, lists_stand, numbers_stand};
 
 /// To build what a graph declares is a task of that graph.
 pub fn task_of(graph: &Graph)
@@ -14,6 +14,7 @@ pub fn task_of(graph: &Graph)
 {
     numbers_stand(graph);
     lists_stand(graph);
+    files_stand();
 }
 
 /// A lawful step moves its edge to where it has to stand after it, and no other edge.

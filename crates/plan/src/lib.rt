@@ -18,4 +18,4 @@ pub use laws::{lists_count, loads_go_on, standings_tell, steps_move, steps_name,
 pub use lowest::Lowest;
 pub use plan::{Plan, note_changes};
 pub use queue::Queue;
-pub use step::{End, Standing, Step, Verdict};
+pub use step::{Changed, End, Standing, Step, Verdict};

@@ -3,14 +3,15 @@
 ghost use Rattle.std.specs.Prelude.{◌≡◌, ◌<◌, ◌≤◌, ◌^◌, ℕ, true, length, vec_len};
 ghost use Rattle.model.specs.Graph.{has_number};
 ghost use Rattle.graph.specs.Held.{StandOnce};
-ghost use Rattle.plan.specs.Plan.{IsReady, IsWaiting, IsTallied, AreFlagged};
+ghost use Rattle.plan.specs.Plan.{IsReady, IsWaiting, IsTallied};
+ghost use Rattle.plan.specs.Changed.{AreFlagged, AreSetAt, IsForEach, AreNoted};
 
 use crate::first::{first_counts, first_ready, first_standings, is_there, sources};
 use crate::loads::loads_of;
 use crate::lowest::Lowest;
 use crate::pools::queue_of;
 use crate::queue::Queue;
-use crate::step::{End, Standing, Step, Verdict};
+use crate::step::{Changed, End, Standing, Step, Verdict};
 use graph::{Cone, Graph};
 use paths::{EdgeId, PathId};
 use std::alloc::{AllocError, Global};
@@ -59,7 +60,8 @@ impl Plan {
     ghost use Rattle.graph.specs.declared.graph.Graph.{Graph};
     ghost use Rattle.graph.specs.Links.{links_of};
     ghost use Rattle.plan.specs.Standing.{standing_at};
-    ghost use Rattle.plan.specs.Plan.{standing_by, standing_after, has_limits, IsSettling, AreFlagged};
+    ghost use Rattle.plan.specs.Plan.{standing_by, standing_after, has_limits, IsSettling};
+    ghost use Rattle.plan.specs.Changed.{IsForEach, AreNoted};
     ghost use Rattle.plan.specs.First.{IsBegun};
     ghost use Rattle.plan.specs.Loads.{IsNextLoad};
     ghost use Rattle.plan.specs.Settling.{outputs_in};
@@ -186,15 +188,15 @@ impl Plan {
         self.running += 1;
     }
 
-    /// Notes that the command of a running edge ended, whether it ended well, what is settled by that, and for each of its
-    /// outputs whether it was changed.
-    pub fn finished(&mut self, graph: &Graph, edge: EdgeId, ok: bool, changed: &[bool])
+    /// Notes that the command of a running edge ended, whether it ended well, what is settled by that, and which of its outputs
+    /// were changed.
+    pub fn finished(&mut self, graph: &Graph, edge: EdgeId, ok: bool, changed: Changed<'_>)
         requires over { IsPlanOver graph.now self.old }
         requires running { standing_at self.old.standings.items edge ≡ Standing.Running }
-        requires flags { length changed.now ≡ length (outputs_in graph.now edge) }
+        requires flags { IsForEach changed (outputs_in graph.now edge) }
         ensures over { IsPlanOver graph.now self.new }
         ensures stands { IsSettling self.old.standings.items self.new.standings.items edge (standing_after ok) }
-        ensures flags { AreFlagged self.old.changed.items self.new.changed.items (outputs_in graph.now edge) changed.now }
+        ensures flags { AreNoted self.old.changed.items self.new.changed.items (outputs_in graph.now edge) changed.entry }
         ensures planned { TakesStep graph.now self.old self.new (Finished (suc edge) ok) }
     {
         let place = edge.index();
@@ -270,8 +272,34 @@ impl Plan {
     }
 }
 
-/// Notes for each of these paths whether it was changed: what is handed in for it. Flags of other paths stay.
-pub fn note_changes(flags: &mut [bool], paths: &[PathId], changed: &[bool])
+/// Notes for each of these paths whether it was changed. Flags of other paths stay.
+pub fn note_changes(flags: &mut [bool], paths: &[PathId], changed: Changed<'_>)
+    requires fits { IsForEach changed paths.now }
+    requires once { StandOnce paths.now }
+    requires within { (p : ℕ) → has_number paths.now p ≡ true → p < length flags.old }
+    ensures length { length flags.new ≡ length flags.old }
+    ensures flags { AreNoted flags.old flags.new paths.now changed.entry }
+{
+    match changed {
+        Changed::All => note_all(flags, paths),
+        Changed::Each(changed) => note_each(flags, paths, changed),
+    }
+}
+
+/// Notes for each of these paths that it was changed.
+fn note_all(flags: &mut [bool], paths: &[PathId])
+    requires { (p : ℕ) → has_number paths.now p ≡ true → p < length flags.old }
+    ensures length { length flags.new ≡ length flags.old }
+    ensures flags { AreSetAt flags.old flags.new paths.now }
+{
+    for path in paths {
+        let place = path.index();
+        flags[place] = true;
+    }
+}
+
+/// Notes for each of these paths the flag that is handed in for it.
+fn note_each(flags: &mut [bool], paths: &[PathId], changed: &[bool])
     requires fits { length changed.now ≡ length paths.now }
     requires once { StandOnce paths.now }
     requires within { (p : ℕ) → has_number paths.now p ≡ true → p < length flags.old }

@@ -32,6 +32,15 @@ pub enum Verdict {
     OutOfDate,
 }
 
+/// Which outputs of a command that has ended were changed.
+#[derive(Clone, Copy, Debug)]
+pub enum Changed<'a> {
+    /// Each of them.
+    All,
+    /// Those whose flag is set; each output has one.
+    Each(&'a [bool]),
+}
+
 /// How a plan ended.
 #[derive(Clone, Copy, Debug, PartialEq, Eq)]
 pub enum End {

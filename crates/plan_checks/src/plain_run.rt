@@ -5,7 +5,7 @@ ghost use Rattle.plan_plain.specs.Planned.{IsPlanOver};
 use crate::run::{Chance, flags_of, take_out};
 use graph::{Cone, Graph};
 use paths::EdgeId;
-use plan::{Standing, Step};
+use plan::{Changed, Standing, Step};
 use plan_plain::{Plan, names_none};
 use std::alloc::Global;
 use std::test::Fail;
@@ -67,7 +67,7 @@ impl<'a> PlainRun<'a> {
             return Err("an end of what does not run".into());
         }
         let flags = flags_of(alloc, self.graph.outputs(edge).len(), chance.changed)?;
-        self.plan.finished(self.graph, edge, chance.ok, &flags);
+        self.plan.finished(self.graph, edge, chance.ok, Changed::Each(flags.as_slice()));
         Ok(())
     }
 

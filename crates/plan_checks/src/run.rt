@@ -6,7 +6,7 @@ ghost use Rattle.plan.specs.Standing.{standing_at};
 use crate::made_up::Random;
 use graph::{Cone, Graph};
 use paths::EdgeId;
-use plan::{Plan, Standing, Step, Verdict};
+use plan::{Changed, Plan, Standing, Step, Verdict};
 use std::alloc::{AllocError, Global};
 use std::marker::Model;
 use std::test::Fail;
@@ -131,7 +131,7 @@ impl<'a> Run<'a> {
             return Err("an end of what does not run".into());
         }
         let flags = flags_of(alloc, self.graph.outputs(edge).len(), chance.changed)?;
-        self.plan.finished(self.graph, edge, chance.ok, &flags);
+        self.plan.finished(self.graph, edge, chance.ok, Changed::Each(flags.as_slice()));
         Ok(())
     }
 }

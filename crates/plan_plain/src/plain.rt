@@ -8,7 +8,8 @@ use crate::first::first_standings;
 use graph::{Cone, Graph};
 use paths::{EdgeId, PathId};
 use plan::{
-    End, Standing, Step, Verdict, lists_count, note_changes, standings_tell, steps_move, steps_name,
+    Changed, End, Standing, Step, Verdict, lists_count, note_changes, standings_tell, steps_move,
+    steps_name,
 };
 use std::alloc::{AllocError, Global};
 
@@ -32,7 +33,8 @@ impl Plan {
     ghost use Rattle.graph.specs.Links.{links_of};
     ghost use Rattle.graph.specs.Linked.{IsConeOf};
     ghost use Rattle.plan.specs.Standing.{standing_at};
-    ghost use Rattle.plan.specs.Plan.{standing_by, standing_after, IsSettling, AreFlagged};
+    ghost use Rattle.plan.specs.Plan.{standing_by, standing_after, IsSettling};
+    ghost use Rattle.plan.specs.Changed.{IsForEach, AreNoted};
     ghost use Rattle.plan.specs.Planned.{IsTaskOf, IsNextOf, IsDueOf, AreTaken, is_stale};
     ghost use Rattle.plan_plain.specs.Scan.{may_settle, NonePasses};
     ghost use Rattle.plan_plain.specs.Planned.{NamesNone, IsPlanOver, IsPlanned, IsOffered, IsSound, AreAliases, SettlesAliases};
@@ -114,15 +116,15 @@ impl Plan {
         self.standings[edge.index()] = Standing::Running;
     }
 
-    /// Notes that the command of a running edge ended, whether it ended well, what is settled by that, and for each of its
-    /// outputs whether it was changed.
-    pub fn finished(&mut self, graph: &Graph, edge: EdgeId, ok: bool, changed: &[bool])
+    /// Notes that the command of a running edge ended, whether it ended well, what is settled by that, and which of its outputs
+    /// were changed.
+    pub fn finished(&mut self, graph: &Graph, edge: EdgeId, ok: bool, changed: Changed<'_>)
         requires over { IsPlanOver graph.now self.old }
         requires running { standing_at self.old.standings.items edge ≡ Standing.Running }
-        requires flags { length changed.now ≡ length ((links_of graph.now).outputs edge) }
+        requires flags { IsForEach changed ((links_of graph.now).outputs edge) }
         ensures over { IsPlanOver graph.now self.new }
         ensures stands { IsSettling self.old.standings.items self.new.standings.items edge (standing_after ok) }
-        ensures flags { AreFlagged self.old.changed.items self.new.changed.items ((links_of graph.now).outputs edge) changed.now }
+        ensures flags { AreNoted self.old.changed.items self.new.changed.items ((links_of graph.now).outputs edge) changed.entry }
         ensures planned { (task : Task) (steps : List Done) → IsPlanned task graph.now self.old steps → AreTaken task steps → IsLawfulStep task steps (Finished (suc edge) ok) → IsPlanned task graph.now self.new (steps ++ Finished (suc edge) ok ∷ []) }
     {
         steps_move();

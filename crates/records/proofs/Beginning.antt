@@ -6,12 +6,13 @@ use Rattle.model.specs.declared.event.Event.{Event}
 use Rattle.model.specs.declared.event.Moment.{Moment}
 use Rattle.model.specs.declared.graph.Edge.{Edge}
 use Rattle.model.specs.declared.record.Record.{Record}
+use Rattle.model.specs.declared.record.DepsRecord.{DepsRecord}
 use Rattle.model.specs.World.{World, file_at, content_of, view_of, runs, IsIdle}
 use Rattle.model.specs.Calls.{OnlyLooks, Sees}
 use Rattle.model.specs.Graph.{has_number}
 use Rattle.model.specs.Records.{OwnFiles, store_in, read_log, in_force}
 use Rattle.model.specs.Schedule.{well_in}
-use Rattle.model.specs.Premises.{FilesAreKept}
+use Rattle.model.specs.Premises.{LogsAreLeft, FilesAreKept}
 use Rattle.theory.proofs.Looks.{looks_then, kept_before, looks_keep_file, looks_saw}
 use Rattle.theory.proofs.Makers.{one_maker}
 use Rattle.log_text.specs.declared.form.Version.{Version}
@@ -83,13 +84,16 @@ module _ (tells : Bool) (own : OwnFiles) (edges : List Edge) (first before after
         (content_is tell kept file.path (is_own file.path kept log) read.content (read.seen tell) ∙ sym (now_is tell kept file.path (is_own file.path kept log)))
         (read_holds forms Keeps compaction read.content rs file read.read)
 
-    pub read_store : (reader : List ℕ → Option (List R)) → Reads forms reader → (path : List ℕ) → file.path ≡ path → (path ≡ own.build_log) ⊎ (path ≡ own.deps_log) → (tell : IsTrue tells) → FilesAreKept own edges first.history now.history
-        → read_log reader (view_of first.history path) ≡ rs
-    read_store reader reads path is log tell kept =
-        ap (λ (c : Option (List ℕ)). read_log reader c)
-        (ap (λ (p : List ℕ). view_of first.history p) (sym is)
-        ∙ sym (content_is tell kept file.path (is_own file.path kept (subst (λ (p : List ℕ). (p ≡ own.build_log) ⊎ (p ≡ own.deps_log)) (sym is) log)) read.content (read.seen tell)))
+    -- a log that others left tells what it told at the entry
+    pub read_store : (reader : List ℕ → Option (List R)) → Reads forms reader → (path : List ℕ) → file.path ≡ path → (tell : IsTrue tells) (left : LogsAreLeft own first.history after.history) → left.free path ≡ false
+        → rs ≡ read_log reader (view_of first.history path)
+    read_store reader reads path is tell left bound =
+        sym (
+        ap (read_log reader)
+        (ap (view_of first.history) (sym {A = List ℕ} is)
+        ∙ sym (looks_saw tells own edges first before after idle one two tell left.free left.edits file.path (ap left.free is ∙ bound) read.content (read.seen tell)))
         ∙ records_told forms reader reads read.content rs read.read.records
+        )
 
 pub log_begins_so : LogBegins
 log_begins_so tells B format own edges first before after now logs rs ds idle one two three build deps apart reads read = (
@@ -106,10 +110,11 @@ log_begins_so tells B format own edges first before after now logs rs ds idle on
         looks_logged B format own edges (store_in format own (view_of first.history)) first first now [] (sym (append-nil first.history)) kept (λ job is. absurd (false≢true (sym (idle job) ∙ is)))
         [] None tells tell all (entry_logged B format own edges first);
   },
-  λ tell kept. (
-    read_store tells own edges first before after now idle one two three record_forms Keeps compaction rs logs.build_log read.build_log format.records reads.records own.build_log build (inl refl) tell kept,
-    read_store tells own edges first before after now idle one two three deps_forms KeepsDeps deps_compaction ds logs.deps_log read.deps_log format.deps reads.deps own.deps_log deps (inr refl) tell kept,
-  ),
+  λ tell left.
+      ap (λ (l : List Record). record { records = l; deps = ds })
+      (read_store tells own edges first before after now idle one two three record_forms Keeps compaction rs logs.build_log read.build_log format.records reads.records own.build_log build tell left left.build_log)
+      ∙ ap (λ (l : List DepsRecord). record { records = read_log format.records (view_of first.history own.build_log); deps = l })
+      (read_store tells own edges first before after now idle one two three deps_forms KeepsDeps deps_compaction ds logs.deps_log read.deps_log format.deps reads.deps own.deps_log deps tell left left.deps_log),
 )
   where
     all : OnlyLooks tells first now

@@ -8,6 +8,7 @@ use Rattle.model.specs.World.{World, view_of, runs, IsRunning, IsIdle}
 use Rattle.model.specs.Calls.{OnlyLooks, Starts, Finishes}
 use Rattle.model.specs.Graph.{has_number, IsCommand, IsMadeOnce}
 use Rattle.model.specs.Outcome.{Behaviour}
+use Rattle.model.specs.Premises.{LogsAreLeft}
 use Rattle.model.specs.Records.{OwnFiles, LogFormat, Store, store_in}
 use Rattle.model.specs.Schedule.{Step, started_in, well_in}
 use Rattle.log_text.specs.BuildLog.{Keeps, compaction}
@@ -37,10 +38,10 @@ abbrev pub AreRead : Bool → World → World → Paths → Records → Type 0
 AreRead tells old new ps it =
     (rs : List Record) × (ds : List DepsRecord) × IsOf rs ps it × IsOfDeps ds ps it × WereRead tells old new rs ds it.logs
 
--- the records that were read are those of the store at the entry, where the files were kept
-abbrev pub AreOfEntry : Bool → LogFormat → OwnFiles → List Edge → World → World → List Record → List DepsRecord → Type 0
-AreOfEntry tells format own edges first now rs ds =
-    WhereKept tells own edges first now (((store_in format own (view_of first.history)).records ≡ rs) × ((store_in format own (view_of first.history)).deps ≡ ds))
+-- the records that were read are those of the store at the entry, where others left the logs until they were read
+abbrev pub AreOfEntry : Bool → LogFormat → OwnFiles → World → World → List Record → List DepsRecord → Type 0
+AreOfEntry tells format own first after rs ds =
+    IsTrue tells → LogsAreLeft own first.history after.history → record { records = rs; deps = ds } ≡ store_in format own (view_of first.history)
 
 -- Where no command runs, logs that were read are logged from there on, as what they told at the entry. Between the entry and the
 -- reading, and from then on until now, there were only calls that look.
@@ -50,7 +51,7 @@ LogBegins =
     → IsIdle first.events → OnlyLooks tells first before → OnlyLooks tells before after → OnlyLooks tells after now
     → logs.build_log.path ≡ own.build_log → logs.deps_log.path ≡ own.deps_log → own.build_log ≢ own.deps_log → ReadsLogs format
     → WereRead tells before after rs ds logs
-    → IsLogging tells B format own edges [] None (store_in format own (view_of first.history)) first now logs × AreOfEntry tells format own edges first now rs ds
+    → IsLogging tells B format own edges [] None (store_in format own (view_of first.history)) first now logs × AreOfEntry tells format own first after rs ds
 
 -- A call that starts and takes in nothing, in which the program wrote at one path alone, perhaps never: a tick, a write, a removal,
 -- a look. Where the files are kept, that path is no log's.

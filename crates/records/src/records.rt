@@ -14,7 +14,7 @@ ghost use Rattle.records.specs.Logging.{AreSameLogs};
 
 use crate::lines::{begun_line_of, deps_line_of, done_line_of};
 use crate::logs::Logs;
-use graph::Graph;
+use graph::{Graph, lists_stand};
 use log_text::{Deps, Done};
 use model::{Record, SiteFault};
 use paths::{EdgeId, PathId};
@@ -89,6 +89,7 @@ impl Records {
         ensures deps_places { self.new.deps_places.items ≡ take (length (paths_in graph.now)) self.old.deps_places.items }
         ensures known { AreStillKnown graph.now self.old self.new }
     {
+        lists_stand(graph);
         self.places.truncate(graph.paths());
         self.deps_places.truncate(graph.paths());
     }
@@ -101,6 +102,7 @@ impl Records {
         ensures places { IsLonger self.old.places.items self.new.places.items }
         ensures deps_places { IsLonger self.old.deps_places.items self.new.deps_places.items }
     {
+        lists_stand(graph);
         self.logs.build_log.look_up(graph, &mut self.places)?;
         self.logs.deps_log.look_up(graph, &mut self.deps_places)?;
         Ok(())

@@ -8,3 +8,5 @@ mod Knowing
 mod Alone
 mod Special
 mod Few
+mod LastBound
+mod Marking

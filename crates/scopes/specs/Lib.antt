@@ -1,15 +1,16 @@
 pub mod Faults
 pub mod Texts
 pub mod Bindings
-pub mod Block
 pub mod Rule
 pub mod Maps
 pub mod Moves
+pub mod Block
 pub mod Scopes
 pub mod Growing
 pub mod Place
 pub mod Expanding
 pub mod Use
+pub mod Marks
 pub mod Walk
 pub mod Steps
 pub mod WalkSteps

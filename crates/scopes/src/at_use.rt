@@ -10,6 +10,7 @@ ghost use Rattle.scopes.specs.Scopes.{Always};
 ghost use Rattle.scopes.specs.Use.{opened, rule_text, is_special, paths_for, HasCircle};
 ghost use Rattle.scopes.specs.Steps.{AllDone, IsDone};
 ghost use Rattle.scopes.specs.Large.{IsValueIn, IsTooLargeIn};
+ghost use Rattle.scopes.specs.Marks.{IsOfUse};
 ghost use Rattle.scopes.specs.Knowing.{IsKnownValue, IsLargeValue, IsOtherValue, IsTextOf, IsTextAt, IsLargeText, IsLargeTextAt, LearnsText};
 ghost use Rattle.scopes.specs.Knowing.{AddsName, AddsPart, AddsParts, IsTooMuchName, IsTooMuchPart, AreTooMuch};
 ghost use Rattle.scopes.specs.declared.fault.ExpandFault.TheVariants.{TooLarge as Larger};
@@ -18,6 +19,7 @@ ghost use Rattle.scopes.specs.declared.fault.UseFault.TheVariants.{Circle, TooLa
 use crate::all_scopes::Scopes;
 use crate::buffer::{LARGEST_VALUE, append, append_joined};
 use crate::fault::{ExpandFault, UseFault};
+use crate::marks::Marks;
 use crate::order::order_of;
 use crate::template::{Part, Template};
 use crate::usage::{Paths, Use, begins_as_special};
@@ -65,7 +67,34 @@ pub fn expand_use(
     expand_in_order(alloc, scopes, at, asked, room)
 }
 
-/// The same, where the rule's text may name others of its texts, which are expanded first.
+/// The same, where these are the keys of the names that are bound where the rule is used: a name that is bound nowhere is not
+/// looked for.
+///
+/// # Errors
+/// As `expand_use`.
+#[inline(always)]
+pub fn expand_marked(
+    alloc: Global,
+    scopes: &Scopes,
+    at: &Use<'_>,
+    asked: &str,
+    marks: Marks,
+    room: &mut String,
+) -> Result<Text, UseFault>
+    requires scope { at.now.scope < vec_len scopes.now.scopes }
+    requires marks { IsOfUse scopes.now at.now marks }
+    ensures value { IfOk result (λ text. IsValueIn scopes.now at.now asked.now text) }
+    ensures size { IfOk result (λ text. length text ≤ largest_value) }
+    ensures circle { IsErrOf result Circle → HasCircle (opened at.now) asked.now }
+    ensures large { IsErrOf result TooLarge → IsTooLargeIn scopes.now at.now asked.now }
+{
+    if marks.may_have(asked) || begins_as_special(asked) {
+        return expand_use(alloc, scopes, at, asked, room);
+    }
+    Ok(Text::new(alloc))
+}
+
+/// The same as `expand_use`, where the rule's text may name others of its texts, which are expanded first.
 fn expand_in_order(
     alloc: Global,
     scopes: &Scopes,

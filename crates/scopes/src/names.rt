@@ -8,7 +8,7 @@ ghost use Rattle.indexmap.specs.IndexMap.{get_by_text};
 use indexmap::IndexMap;
 
 /// So many names are compared one by one, which takes less than a hash.
-const FEW: usize = 8;
+pub const FEW: usize = 8;
 
 /// The value of a name.
 pub fn value_of<'a, V>(values: &'a IndexMap<String, V>, name: &str) -> Option<&'a V>
@@ -27,7 +27,7 @@ pub fn value_of<'a, V>(values: &'a IndexMap<String, V>, name: &str) -> Option<&'
 
 /// Whether the names are the same. Most differ in length.
 #[inline(always)]
-fn is_same(name: &str, other: &str) -> bool
+pub fn is_same(name: &str, other: &str) -> bool
     ensures { result ≡ bytes_eq name.now other.now }
 {
     if name.len() != other.len() {

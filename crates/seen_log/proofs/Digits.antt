@@ -7,8 +7,7 @@ use Rattle.std.proofs.lemmas.Fmt.{decimal_digit, decimal_step, decimal_is_IsNume
 use Rattle.std.proofs.lemmas.Str.{IsUtf8-from_ascii}
 use Rattle.text.specs.Marks.{Lacks}
 use Rattle.log_text.specs.Line.{field_and_tab, IsPlain}
-use Rattle.log_text.proofs.Bytes.{Lacks-back}
-use Rattle.log_text.proofs.Notes.{field_in_front}
+use Rattle.seen_log.proofs.InFront.{Lacks-back, field_in_front}
 
 -- how far a number has been read: it is not 0, and rest is left
 pub record IsReadTo (bytes : List ℕ) (number : ℕ) (rest : List ℕ) : Type 0 where

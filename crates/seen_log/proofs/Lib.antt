@@ -1,4 +1,5 @@
 pub mod Fields
+pub mod InFront
 pub mod RecordOf
 pub mod Plain
 pub mod Digits

@@ -1,4 +1,5 @@
 pub mod Lists
+pub mod Mapped
 pub mod Makers
 pub mod Settled
 mod Only

@@ -1,5 +1,5 @@
 -- The world after calls of a run is that of before, and more.
-use Rattle.std.proofs.Common.{◌≡◌, Bool, IsTrue, List, [], ◌∷◌, ◌++◌, ℕ, Option, None, Some, Result, Ok, Err, OnOk, OnErr, inl, inr, refl, sym, ◌∙◌, ap, append_assoc}
+use Rattle.std.proofs.Common.{◌≡◌, Bool, IsTrue, List, [], ◌∷◌, ◌++◌, ℕ, Option, Some, Result, Ok, Err, OnOk, OnErr, inl, inr, refl, sym, ◌∙◌, ap, append_assoc}
 use Rattle.std.proofs.lemmas.List.{append-nil}
 use Rattle.model.specs.declared.act.Act.{Act}
 use Rattle.model.specs.declared.event.Event.{Event}
@@ -7,14 +7,14 @@ use Rattle.model.specs.declared.event.Event.TheVariants.{Start, Finish}
 use Rattle.model.specs.declared.event.Moment.{Moment}
 use Rattle.model.specs.declared.event.Moment.TheVariants.{Wrote, Happened}
 use Rattle.model.specs.declared.event.Writer.TheVariants.{Program}
-use Rattle.model.specs.World.{World, file_at, runs}
-use Rattle.model.specs.Calls.{OnlyLooks, Ticks, TicksOrNot, Writes, WritesOrNot, Starts, StartsOrNot, Finishes, content_or_empty}
+use Rattle.model.specs.World.{World, file_at}
+use Rattle.model.specs.Calls.{OnlyLooks, Ticks, TicksOrNot, WritesOrNot, Starts, StartsOrNot, Finishes, content_or_empty}
 use Rattle.theory.proofs.Lists.{same_rest}
 use Rattle.graph.specs.declared.graph.Graph.{Graph}
 use Rattle.theory.specs.Writes.{WritesAt}
 use Rattle.theory.proofs.Writing.{writes_or_not_at}
 use Rattle.judge.specs.declared.looks.Looks.{Looks}
-use Rattle.judge.specs.Looking.{HasLooked, LooksFollow}
+use Rattle.judge.specs.Looking.{LooksFollow}
 use Rattle.work.specs.After.{ComesAfter, LooksUnlessMore}
 
 -- no list is itself and more

@@ -32,9 +32,8 @@ use Rattle.graph.specs.declared.cone.Cone.{Cone}
 use Rattle.graph.specs.declared.graph.Graph.{Graph}
 use Rattle.graph.specs.Cone.{mark_at, is_listed}
 use Rattle.graph.specs.Linked.{IsConeOf}
-use Rattle.graph.proofs.Texts.{length-edges}
 use Rattle.graph.specs.declared.cone.Mark.{Mark}
-use Rattle.judge.proofs.Numbers.{item_has}
+use Rattle.work.proofs.Noting.{item_has}
 use Rattle.graph.specs.Told.{declared_by, recorded_by}
 use Rattle.judge.specs.Seen.{AreKept, AreSeenOf}
 use Rattle.records.specs.Known.{AreKnown}
@@ -256,12 +255,11 @@ listed_below (mark ∷ marks) zero listed = omega arith
 listed_below (mark ∷ marks) (suc e) listed = let less = listed_below marks e listed in omega (arith, less)
 
 -- they are edges of the graph
-pub order_within : (graph : Graph) (cone : Cone) (edges : List Edge) (recorded : ℕ → List (List ℕ)) (targets : List (List ℕ)) → edges ≡ (declared_by graph).edges → IsConeOf edges recorded targets cone.order.items cone.marks.items
+pub order_within : (graph : Graph) → length (declared_by graph).edges ≡ length graph.manifest.lines → (cone : Cone) (edges : List Edge) (recorded : ℕ → List (List ℕ)) (targets : List (List ℕ)) → edges ≡ (declared_by graph).edges → IsConeOf edges recorded targets cone.order.items cone.marks.items
     → All (λ e. e < length graph.manifest.lines) cone.order.items
-order_within graph cone edges recorded targets same listed k d lt =
+order_within graph size cone edges recorded targets same listed k d lt =
     let e = slice_index_or cone.order.items k d in
     let less = listed_below cone.marks.items e (listed.marked e ∙ item_has cone.order.items k d lt) in
     let many = ap (λ (es : List Edge). length es) same in
     let fits = listed.fits in
-    let size = length-edges graph.manifest.paths graph.manifest.lines graph.manifest.actions graph.manifest.fits in
     omega (arith, less, many, fits, size)

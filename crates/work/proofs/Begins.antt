@@ -1,5 +1,5 @@
 -- An edge is taken in hand, and the log says that it is begun.
-use Rattle.std.proofs.Common.{◌≡◌, ◌≢◌, ℕ, suc, Bool, List, [], Some, None, inl, inr, refl, sym, ap, subst}
+use Rattle.std.proofs.Common.{◌≡◌, ◌≢◌, ℕ, suc, Bool, true, List, [], Some, None, inl, inr, refl, sym, ap, subst}
 use Rattle.model.specs.declared.graph.BuildGraph.{BuildGraph}
 use Rattle.model.specs.declared.graph.Edge.{Edge}
 use Rattle.model.specs.World.{World}
@@ -13,13 +13,15 @@ use Rattle.work.specs.declared.display.Display.{Display}
 use Rattle.graph.specs.declared.graph.Graph.{Graph}
 use Rattle.graph.specs.Told.{declared_by}
 use Rattle.plan.specs.declared.step.Step.TheVariants.{Start}
+use Rattle.plan.specs.Planned.{IsNext}
 use Rattle.records.specs.declared.records.Records.{Records}
 use Rattle.records.specs.Logging.{AreSameLogs, IsLogging, IsLoggedStill, NoneInForce}
 use Rattle.records.specs.Laws.{LogStays}
 use Rattle.work.specs.declared.state.State.{State}
-use Rattle.work.specs.Course.{Course, Suits, edges_of, IsOn}
+use Rattle.work.specs.Course.{Course, goes_on, Suits, edges_of, IsOn}
 use Rattle.work.specs.Going.{IsSaid, IsCut}
 use Rattle.work.specs.Starting.{IsBegun}
+use Rattle.work.proofs.Onward.{said_next}
 use Rattle.work.proofs.Keeping.{stale_is_command, looks_carried, on_looks, on_hand, on_log, log_carried, build_log_writes, cut_free, cut_met}
 
 module _ (tells : Bool) (course : Course) (graph : Graph) (tick : List ℕ) (suits : Suits course tick graph) where
@@ -32,7 +34,10 @@ module _ (tells : Bool) (course : Course) (graph : Graph) (tick : List ℕ) (sui
   same_edges : edges_of course ≡ (declared_by graph).edges
   same_edges = ap (λ (b : BuildGraph). b.edges) suits.same
 
-  module _ (stays : LogStays) (state : State) (now : World) (e : ℕ) (on : IsOn tells course graph None state now) (said : IsSaid course graph on.steps (Start e)) where
+  module _ (stays : LogStays) (state : State) (now : World) (e : ℕ) (on : IsOn tells course graph None state now) (goes : goes_on course ≡ true) (next : IsNext state.plan (Start e)) where
+    said : IsSaid course graph on.steps (Start e)
+    said = said_next course graph state.plan (Start e) on.steps goes on.planned on.taken next
+
     -- it is a command of the graph
     pub next_command : IsCommand (declared_by graph).edges (suc e)
     next_command = subst (λ (b : BuildGraph). IsCommand b.edges (suc e)) suits.same (stale_is_command tells course graph on.steps None now on.carried (suc e) said.lawful.1.stale)
@@ -67,7 +72,7 @@ module _ (tells : Bool) (course : Course) (graph : Graph) (tick : List ℕ) (sui
           → ((B : Behaviour) (format : LogFormat) (own : OwnFiles) (steps : List Done) (entry : Store) (first : World)
           → IsLogging tells B format own (declared_by graph).edges steps (Some (suc e)) entry first mid state.records.logs
           → IsLogging tells B format own (declared_by graph).edges steps (Some (suc e)) entry first new records.logs × NoneInForce tells format own (declared_by graph).edges (suc e) first new)
-          → IsBegun tells course graph (suc e) (record { plan = state.plan; looks = state.looks; records = records; display = display; due = state.due; starts = state.starts; failed = state.failed; set = state.set }) new
+          → IsBegun tells course graph (suc e) (record { plan = state.plan; looks = state.looks; records = records; display = display; due = state.due; starts = state.starts; failed = state.failed }) new
       begun_now records display same places deps_places begun =
           let told = begun course.behaviour course.format course.own on.steps course.store course.entry declared_logging in
           let logging = subst (λ (edges : List Edge). IsLogging tells course.behaviour course.format course.own edges on.steps (Some (suc e)) course.store course.entry new records.logs) (sym same_edges) told.0 in

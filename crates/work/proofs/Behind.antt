@@ -13,7 +13,7 @@ use Rattle.graph.specs.declared.graph.Graph.{Graph}
 use Rattle.work.specs.declared.cut.Cut.{Cut}
 use Rattle.work.specs.declared.state.State.{State}
 use Rattle.work.specs.After.{ComesAfter, LooksUnlessMore}
-use Rattle.work.specs.Course.{Course, goes_on, IsSince, Suits, IsOn}
+use Rattle.work.specs.Course.{Course, IsSince, Suits, IsOn}
 use Rattle.work.specs.Cut.{fault_of, IsLeft}
 use Rattle.work.specs.Going.{IsGoing, IsFinished}
 use Rattle.work.specs.Ran.{HasRun}
@@ -96,8 +96,8 @@ module _ (tells : Bool) (tick : List ℕ) (course : Course) (edges : List Edge) 
   pub ends_on : IsOn tells ends graph None state now
   ends_on = on_refused tells here graph state now stands.on cause
 
-  pub ends_going : (going : IsGoing tells tick graph state now) × (goes_on going.course ≡ false)
-  ends_going = (record { course = ends; suits = ends_suits; on = ends_on }, refl)
+  pub ends_going : IsGoing tells false tick graph state now
+  ends_going = record { course = ends; suits = ends_suits; is = refl; on = ends_on }
 
   module _ (new : World) (grows : ComesAfter tells now new) where
     had_new : HadAsked tells course edges phases last new

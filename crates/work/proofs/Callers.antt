@@ -1,5 +1,5 @@
 -- How callers come to what is asked, and what they get.
-use Rattle.std.proofs.Common.{◌≡◌, ℕ, suc, true, List, [], sym, subst}
+use Rattle.std.proofs.Common.{◌≡◌, ℕ, suc, true, List, sym, subst}
 use Rattle.model.specs.declared.graph.Edge.{Edge}
 use Rattle.model.specs.Graph.{has_number, IsCommand}
 use Rattle.model.specs.Reading.{IsInCone}

@@ -15,7 +15,7 @@ use Rattle.judge.specs.declared.looks.Looks.{Looks}
 use Rattle.judge.specs.Looking.{HasLooked}
 use Rattle.judge.specs.Seen.{look_at}
 use Rattle.work.proofs.Seeing.{saw_none}
-use Rattle.plan.specs.Plan.{AreFlagged}
+use Rattle.plan.specs.Changed.{AreFlagged}
 use Rattle.work.specs.declared.state.State.{State}
 use Rattle.work.specs.Going.{IsSameBeside, HasEnded}
 use Rattle.work.specs.Restat.{is_same_look, AreChangesOf, IsFlagged, IsForgotten, LooksAnew}

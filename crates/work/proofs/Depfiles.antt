@@ -1,20 +1,19 @@
 -- What was read in the depfile of a command is what it told when it ended.
-use Rattle.std.proofs.Common.{◌≡◌, ◌≢◌, ℕ, ◌&&◌, ◌||◌, not, Bool, true, false, IsTrue, List, [], ◌∷◌, ◌++◌, filter, bytes_eq, Option, Some, None, Result, Ok, Err, IfOk, refl, sym, ◌∙◌, ap, subst, append_assoc}
+use Rattle.std.proofs.Common.{◌≡◌, ◌≢◌, inl, inr, ℕ, ◌&&◌, ◌||◌, not, Bool, true, false, IsTrue, List, [], ◌∷◌, ◌++◌, filter, bytes_eq, Option, Some, None, Result, Ok, Err, IfOk, refl, sym, ◌∙◌, ap, subst, append_assoc}
 use Rattle.std.specs.List.{list_any}
-use Rattle.std.proofs.lemmas.Bool.{false≢true, or_from, or_parts}
+use Rattle.std.proofs.lemmas.Bool.{false≢true, or_cases, or_from, or_left, or_parts}
 use Rattle.std.proofs.lemmas.Map.Views.{any-filter_same}
-use Rattle.theory.proofs.Lists.{bytes_same, same_bytes}
+use Rattle.theory.proofs.Lists.{bytes_same, same_bytes, has-right}
 use Rattle.model.specs.declared.act.Act.{Act}
 use Rattle.model.specs.declared.fault.SiteFault.{SiteFault}
 use Rattle.model.specs.declared.event.Moment.{Moment}
 use Rattle.model.specs.World.{World, file_at, content_of, view_of}
 use Rattle.model.specs.Calls.{OnlyLooks, Sees, Finishes}
-use Rattle.model.specs.Graph.{has, edge_at}
+use Rattle.model.specs.Graph.{has, edge_at, StandsTwice}
 use Rattle.model.specs.Outcome.{read_depfile, depfile_in, is_accepted, listed}
 use Rattle.model.specs.Records.{ListsOnce}
 use Rattle.model.specs.Premises.{FilesAreKept, EndedAt}
 use Rattle.theory.proofs.SiteCalls.{looks_none}
-use Rattle.log_text.proofs.Distinct.{AreOnce, distinct_of_once}
 use Rattle.theory.proofs.Ledger.{SaysAtEnd, ReadAtEnd}
 use Rattle.theory.proofs.TakenIn.{says_failed, says_nothing, read_failed, read_nothing, read_seen, depfile_seen}
 use Rattle.graph.specs.declared.graph.Graph.{Graph}
@@ -27,6 +26,20 @@ use Rattle.work.specs.Course.{Course, goes_on, Suits, edges_of, IsOn}
 use Rattle.work.specs.Telling.{Says, WasRead, ended_well, HasTold}
 
 -- ---- each path once
+
+abbrev AreOnce : List (List ℕ) → Type 0
+AreOnce [] = Unit {0}
+AreOnce (p ∷ ps) = (has ps p ≡ false) × AreOnce ps
+
+not_twice : (before after : List (List ℕ)) (p : List ℕ) → AreOnce (before ++ p ∷ after) → has before p ≡ true → ⊥
+not_twice [] after p once there = false≢true there
+not_twice (b ∷ before) after p once there = elim (or_cases (bytes_eq b p) (has before p) there) [
+  | inl here ↦ false≢true (sym once.0 ∙ (ap (has (before ++ p ∷ after)) (same_bytes b p here) ∙ has-right before (p ∷ after) p (or_left (bytes_eq p p) (has after p) (bytes_same p))))
+  | inr later ↦ not_twice before after p once.1 later
+]
+
+apart_of_once : (ps : List (List ℕ)) → AreOnce ps → (p : List ℕ) → StandsTwice ps p → ⊥
+apart_of_once ps once p twice = not_twice twice.before twice.after p (subst AreOnce twice.splits once) twice.earlier
 
 abbrev others : List ℕ → List (List ℕ) → List (List ℕ)
 others x = filter (λ other. not (bytes_eq x other))
@@ -82,8 +95,8 @@ module _ (reading : List ℕ → Option (List (List ℕ))) (reads : IsReading re
 
 -- what is listed stands once
 once_in : (content : Option (List ℕ)) (paths : List (List ℕ)) → Says content (Inputs paths) → ListsOnce paths paths
-once_in None paths says = record { same = λ p. refl; once = distinct_of_once paths (subst AreOnce (sym says) tt) }
-once_in (Some bytes) paths says = record { same = λ p. refl; once = distinct_of_once paths (subst AreOnce (sym says.3.once) (firsts_once says.3.all)) }
+once_in None paths says = record { same = λ p. refl; once = apart_of_once paths (subst AreOnce (sym says) tt) }
+once_in (Some bytes) paths says = record { same = λ p. refl; once = apart_of_once paths (subst AreOnce (sym says.3.once) (firsts_once says.3.all)) }
 
 named_so : (d : List ℕ) (read : Option (List (List ℕ))) → d ≢ [] → elim d [ [] ↦ Some [] | q ∷ qs ↦ read ] ≡ read
 named_so [] read some = absurd (some refl)

@@ -2,7 +2,6 @@
 use Rattle.std.proofs.Common.{◌≡◌, ℕ, Bool, true, List, length, Option, None, Some, Ok, Err, refl, sym, subst}
 use Rattle.model.specs.World.{World}
 use Rattle.model.specs.Calls.{OnlyLooks}
-use Rattle.model.specs.Graph.{has_number}
 use Rattle.model.specs.Schedule.{Task, Step as Done, well_in}
 use Rattle.model.specs.SingleBuild.{task_of}
 use Rattle.theory.specs.Ledger.{IsCutOff}
@@ -10,14 +9,17 @@ use Rattle.theory.proofs.Ledger.{cut_off, carried_looks}
 use Rattle.graph.specs.declared.graph.Graph.{Graph}
 use Rattle.plan.specs.declared.plan.Plan.{Plan}
 use Rattle.plan.specs.declared.step.End.TheVariants as ending
-use Rattle.plan.specs.declared.step.Step.TheVariants.{Load}
+use Rattle.plan.specs.declared.step.End.{End}
+use Rattle.plan.specs.declared.step.Step.TheVariants.{Load, Ended as Over}
+use Rattle.plan.specs.Planned.{IsNext}
 use Rattle.work.specs.declared.cut.Cut.{Cut}
 use Rattle.work.specs.declared.summary.Summary.TheVariants.{Well, Failed}
 use Rattle.work.specs.declared.state.State.{State}
 use Rattle.work.specs.Course.{Course, goes_on, IsOn}
-use Rattle.work.specs.Going.{IsSaid, IsOver, IsAtLoad, IsCut, IsInHand}
+use Rattle.work.specs.Going.{IsOver, IsAtLoad, IsCut, IsInHand}
 use Rattle.work.specs.Ran.{HasRun, AreEdgesOf}
 use Rattle.work.proofs.Keeping.{Carried, cut_free}
+use Rattle.work.proofs.Onward.{said_next}
 use Rattle.work.proofs.Running.{noted_within}
 
 module _ (tells : Bool) (course : Course) (graph : Graph) (now : World) where
@@ -60,10 +62,19 @@ module _ (tells : Bool) (course : Course) (graph : Graph) (now : World) where
   )
 
   -- a load is next
-  pub at_load : (state : State) (file : ℕ) (on : IsOn tells course graph None state now) → IsSaid course graph on.steps (Load file) → has_number state.plan.loads.items file ≡ true → IsAtLoad tells course graph state file now
-  at_load state file on said wanted =
-      let named = on.planned.over.loading.loads_are.named file wanted in
-      record { on = on; next = said.loads; wanted = wanted; known = on.planned.stated.known named.edge file named.names }
+  pub at_load : (state : State) (file : ℕ) → IsNext state.plan (Load file) → IsOn tells course graph None state now → IsAtLoad tells course graph state file now
+  at_load state file next on =
+      let named = on.planned.over.loading.loads_are.named file next.offered in
+      record {
+        on = on;
+        next = next.loads (task_of course.asked course.store) graph on.steps on.planned on.taken;
+        wanted = next.offered;
+        known = on.planned.stated.known named.edge file named.names;
+      }
+
+  -- nothing is left to do
+  pub at_end : (state : State) (end : End) → IsNext state.plan (Over end) → goes_on course ≡ true → IsOn tells course graph None state now → IsOver tells course graph state end now
+  at_end state end next goes on = record { on = on; over = said_next course graph state.plan (Over end) on.steps goes on.planned on.taken next }
 
   -- a call that only looked met the fault
   pub cut_looking : (state : State) (plan : Plan) (new : World) → plan ≡ state.plan → OnlyLooks tells now new → IsOn tells course graph None state now → IsCut tells course graph plan new

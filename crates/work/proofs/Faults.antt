@@ -1,18 +1,17 @@
 -- What the site shows of a run that is stopped: each fault is passed on.
-use Rattle.std.proofs.Common.{◌≡◌, inl, inr, ℕ, Bool, true, false, Some, None, Err, refl, sym, ◌∙◌}
+use Rattle.std.proofs.Common.{◌≡◌, inl, inr, Bool, true, Err, refl, sym, ◌∙◌}
 use Rattle.std.specs.Result.{IsErrOf}
 use Rattle.std.proofs.lemmas.Bool.{false≢true, true≢false, cases_Bool}
 use Rattle.model.specs.declared.fault.SiteFault.{SiteFault}
 use Rattle.model.specs.declared.fault.SiteFault.TheVariants.{Device, Stopped, Memory}
-use Rattle.model.specs.World.{World, IsIdle}
+use Rattle.model.specs.World.{World}
 use Rattle.model.specs.Calls.{OnlyLooks, HasCause, is_stop}
 use Rattle.model.specs.SingleBuild.{PassesNoFault}
 use Rattle.model.specs.SingleBuild as answer
 use Rattle.theory.specs.Seen.{IsSeen, Unrefused, StartsUnrefused}
 use Rattle.theory.proofs.SiteCalls.{unrefused_then, seen_since}
 use Rattle.work.specs.declared.cut.Cut.{Cut}
-use Rattle.work.specs.declared.cut.Cut.TheVariants.{Waiting, Other}
-use Rattle.work.specs.Cut.{fault_of, IsLeft}
+use Rattle.work.specs.Cut.{fault_of}
 use Rattle.work.specs.Cutting.{IsMet, TakesIn}
 use Rattle.work.proofs.Cutting.{starts_then, starts_cut, passes_whole}
 use Rattle.work.specs.declared.stop.Stop.{Stop}
@@ -86,16 +85,6 @@ faulted_on a b c fault cut faulted seen takes = record {
   seen = seen faulted.met;
   passes = passes_by a c (fault_of cut) (starts_cut a b c cut faulted.passes.starts takes) takes.stopped (takes.earlier ∙ faulted.passes.earlier);
 }
-
-none_some : (count : ℕ) → None ≡ Some count → ⊥
-none_some count is = cc
-
--- no command runs then, unless a wait was refused or the site has stopped
-pub idle_left : (now : World) (cut : Cut) → IsLeft now cut → (fault_of cut ≡ Stopped → now.stopped ≡ true) → now.stopped ≡ false → now.wait_refused ≡ None → IsIdle now.events
-idle_left now (Waiting fault) left stopped goes none = absurd (none_some left.noted.0 (sym none ∙ left.noted.1))
-idle_left now (Other Device) left stopped goes none = left
-idle_left now (Other Stopped) left stopped goes none = absurd (false≢true (sym goes ∙ stopped refl))
-idle_left now (Other Memory) left stopped goes none = left
 
 -- ---- answers
 

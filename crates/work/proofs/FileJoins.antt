@@ -1,16 +1,18 @@
 -- What a dyndep file says joins a graph: what follows for recorded inputs, targets, records and the plan, and how it is taken back.
-use Rattle.std.proofs.Common.{◌≡◌, ◌⊎◌, inl, inr, ℕ, zero, suc, ◌<◌, ◌≤◌, cond, bytes_eq, Bool, true, false, List, [], ◌∷◌, ◌++◌, length, get_or, Option, Some, None, is_some, refl, sym, ◌∙◌, ap, subst, append_assoc, arith}
+use Rattle.std.proofs.Common.{◌≡◌, ◌⊎◌, inl, inr, ℕ, zero, suc, ◌<◌, ◌≤◌, cond, bytes_eq, Bool, true, false, List, [], ◌∷◌, ◌++◌, length, take, get_or, Option, Some, None, is_some, refl, sym, ◌∙◌, ap, subst, append_assoc, arith}
 use Rattle.std.specs.List.{All}
 use Rattle.std.specs.Option.{option_map}
 use Rattle.std.proofs.lemmas.Bool.{cases_Bool, false≢true, eqb-true, eq-eqb, or_left}
-use Rattle.std.proofs.lemmas.List.{length-append}
+use Rattle.std.proofs.lemmas.List.{length-append, take_all}
 use Rattle.std.proofs.lemmas.Option.{slice_get-get_or}
 use Rattle.model.specs.declared.graph.BuildGraph.{BuildGraph}
 use Rattle.model.specs.declared.graph.Edge.{Edge}
 use Rattle.model.specs.declared.graph.Pool.{Pool}
+use Rattle.model.specs.declared.record.Record.{Record}
+use Rattle.model.specs.declared.record.DepsRecord.{DepsRecord}
 use Rattle.model.specs.Graph.{has, has_number, edge_at, targets_of, IsMadeOnce, Addition}
 use Rattle.model.specs.Phases.{IsGrownBy}
-use Rattle.model.specs.Records.{Store, recorded_of, recorded_inputs}
+use Rattle.model.specs.Records.{Store, in_force, deps_in_force, recorded_of, recorded_inputs}
 use Rattle.model.specs.SingleBuild.{Asked, asked_with, declared_graph}
 use Rattle.theory.proofs.Lists.{same_some, some_none, bytes_same}
 use Rattle.paths.specs.declared.manifest.Action.{Action}
@@ -22,17 +24,22 @@ use Rattle.graph.specs.declared.back.Before.{Before}
 use Rattle.graph.specs.declared.cone.Cone.{Cone}
 use Rattle.graph.specs.declared.graph.Graph.{Graph}
 use Rattle.graph.specs.Back.{Undoes, MayBeTakenBack}
-use Rattle.graph.specs.Extended.{HasLoaded, dyndep_at}
+use Rattle.graph.specs.Extended.{HasLoaded, FilesStand, dyndep_at}
 use Rattle.graph.specs.Held.{list_at, dyndep_of}
 use Rattle.graph.specs.LoadedEdges.{numbers_in}
 use Rattle.graph.specs.Statements.{is_place}
 use Rattle.graph.specs.Told.{declared_by, recorded_by, AreSameInputs}
+use Rattle.log_text.specs.BuildLog.{Keeps, makings}
+use Rattle.log_text.specs.DepsLog.{Keeps as KeepsDeps, tolds}
+use Rattle.records.specs.declared.logs.Logs.{Logs}
+use Rattle.records.specs.declared.records.Records.{Records}
+use Rattle.records.specs.Held.{ArePlaces}
+use Rattle.records.specs.Known.{IsOf, IsOfDeps, AreKnown, AreStillKnown}
 use Rattle.plan.specs.Extended.{MayGoOn}
-use Rattle.plan.proofs.Loaded.{file_within, namer_within}
 use Rattle.work.specs.declared.state.State.{State}
 use Rattle.work.specs.declared.report.Refusal.{Refusal}
-use Rattle.work.specs.Joined.{MayJoin, HasJoinedFile, IsCircle, IsUnjoined}
-use Rattle.work.specs.Recorded.{AreToJoin, HasJoinedOf}
+use Rattle.work.specs.Joined.{MayJoin, HasJoinedFile, IsCircle, IsUnjoined, StayKnown, MayShrink}
+use Rattle.work.specs.Recorded.{AreToJoin, HasGrownAt, HasJoinedOf}
 use Rattle.work.proofs.Joining.{recorded_kept, nothing_of}
 use Rattle.work.proofs.Telling.{edge_is}
 
@@ -52,8 +59,8 @@ names_it graph e file is = dyndep_is graph e ∙ by_dyndep (dyndep_at graph e) i
     by_dyndep None is = absurd (false≢true is)
     by_dyndep (Some p) is = ap (λ (n : ℕ). Some (text_at graph.manifest.paths n)) (eqb-true p file is)
 
-names_other : (graph : Graph) (e file : ℕ) → file < length graph.manifest.paths → is_place (dyndep_at graph e) file ≡ false → (edge_at (declared_by graph).edges (suc e)).dyndep ≡ Some (text_at graph.manifest.paths file) → ⊥
-names_other graph e file within other is = by_dyndep (dyndep_at graph e) refl
+names_other : FilesStand → (graph : Graph) (e file : ℕ) → file < length graph.manifest.paths → is_place (dyndep_at graph e) file ≡ false → (edge_at (declared_by graph).edges (suc e)).dyndep ≡ Some (text_at graph.manifest.paths file) → ⊥
+names_other stand graph e file within other is = by_dyndep (dyndep_at graph e) refl
   where
     by_dyndep : (d : Option ℕ) → dyndep_at graph e ≡ d → ⊥
     by_dyndep None none = some_none (text_at graph.manifest.paths file) (sym is ∙ (dyndep_is graph e ∙ ap (option_map (text_at graph.manifest.paths)) none))
@@ -63,7 +70,7 @@ names_other graph e file within other is = by_dyndep (dyndep_at graph e) refl
         same = same_some (text_at graph.manifest.paths p) (text_at graph.manifest.paths file) (sym (dyndep_is graph e ∙ ap (option_map (text_at graph.manifest.paths)) some) ∙ is)
 
         number : p ≡ file
-        number = graph.apart p file (text_at graph.manifest.paths p) (slice_get-get_or graph.manifest.paths p [] (file_within graph e p some))
+        number = graph.apart p file (text_at graph.manifest.paths p) (slice_get-get_or graph.manifest.paths p [] (stand graph e p some).1)
             (slice_get-get_or graph.manifest.paths file [] within ∙ ap (λ (t : List ℕ). Some t) (sym {A = List ℕ} same))
 
 -- an edge with a file that is not loaded has no recorded inputs in use
@@ -119,17 +126,36 @@ module _ {asked : Asked} {store : Store} {graph : Graph} {cone : Cone} {state : 
     numbers = numbers_in before.edges.items
 
     -- the edges of the file are edges, and nothing is recorded of them
-    pub numbers_within : (e : ℕ) → has_number numbers e ≡ true → e < length loaded.manifest.lines
-    numbers_within e there = by_dyndep (dyndep_at graph e) refl (sym (undoes.edges e) ∙ there)
+    pub numbers_within : FilesStand → (e : ℕ) → has_number numbers e ≡ true → e < length loaded.manifest.lines
+    numbers_within stand e there = by_dyndep (dyndep_at graph e) refl (sym (undoes.edges e) ∙ there)
       where
         by_dyndep : (d : Option ℕ) → dyndep_at graph e ≡ d → is_place d file ≡ true → e < length loaded.manifest.lines
         by_dyndep None none is = absurd (false≢true is)
-        by_dyndep (Some p) some is = subst (λ (n : ℕ). e < n) (sym {A = ℕ} has_it.lines) (namer_within graph e p some)
+        by_dyndep (Some p) some is = subst (λ (n : ℕ). e < n) (sym {A = ℕ} has_it.lines) (stand graph e p some).0
 
     pub to_join : AreToJoin numbers loaded store.records store.deps
     to_join e there p is = absurd (none_recorded e (sym (undoes.edges e) ∙ there) p (ap (λ (l : List (List ℕ)). has l p) (sym (has_it.recorded (suc e))) ∙ is))
 
-    module _ {grown : Graph} (joined : HasJoinedOf numbers loaded grown store.records store.deps) where
+    -- ---- taken back
+
+    pub may_take_back : {grown : Graph} → HasGrownAt numbers loaded grown → MayBeTakenBack graph loaded grown before
+    may_take_back so_far = record {
+      file = file;
+      undoes = undoes;
+      gained = record {
+        paths = record { added = so_far.grown.more; grows = so_far.grown.paths };
+        named = so_far.grown.named;
+        actions = so_far.grown.actions;
+        pools = ap (λ (b : BuildGraph). b.pools) so_far.grown.declared;
+        defaults = so_far.grown.defaults;
+        builddir = ap (λ (b : BuildGraph). b.builddir) so_far.grown.declared;
+        lines = so_far.grown.lines;
+        others = so_far.others;
+      };
+      none = λ e there. nothing_of graph.manifest.paths (list_at graph.recorded e) (nothing_in (recorded_by graph (suc e)) (none_recorded e (sym (undoes.edges e) ∙ there)));
+    }
+
+    module _ (stand : FilesStand) {grown : Graph} (joined : HasJoinedOf numbers loaded grown store.records store.deps) where
       abbrev next : List Edge
       next = (declared_by grown).edges
 
@@ -137,7 +163,7 @@ module _ {asked : Asked} {store : Store} {graph : Graph} {cone : Cone} {state : 
       by_place e p (inl there) = sym (joined.joined e there p)
       by_place e p (inr absent) =
           ap (λ (b : BuildGraph). has (recorded_inputs store b.edges (suc e)) p) joined.grown.declared
-          ∙ (ap (λ (x : Edge). has (cond x.phony [] (cond (is_some x.dyndep) [] (recorded_of store x))) p) (has_it.grown.others (suc e) (names_other graph e file may.within (sym (undoes.edges e) ∙ absent)))
+          ∙ (ap (λ (x : Edge). has (cond x.phony [] (cond (is_some x.dyndep) [] (recorded_of store x))) p) (has_it.grown.others (suc e) (names_other stand graph e file may.within (sym (undoes.edges e) ∙ absent)))
           ∙ (was_recorded (suc e) p
           ∙ ap (λ (l : List (List ℕ)). has l p) (sym (recorded_kept loaded grown joined.grown e (joined.others e absent) ∙ has_it.recorded (suc e)))))
 
@@ -208,21 +234,41 @@ module _ {asked : Asked} {store : Store} {graph : Graph} {cone : Cone} {state : 
       pub seen_fits : length state.looks.seen.items ≤ length grown.manifest.paths
       seen_fits = let was = may.seen in omega (arith, was, longer)
 
-      -- ---- taken back
+-- ---- records that shrink again
 
-      pub may_take_back : MayBeTakenBack graph loaded grown before
-      may_take_back = record {
-        file = file;
-        undoes = undoes;
-        gained = record {
-          paths = record { added = joined.grown.more; grows = joined.grown.paths };
-          named = joined.grown.named;
-          actions = joined.grown.actions;
-          pools = ap (λ (b : BuildGraph). b.pools) joined.grown.declared;
-          defaults = joined.grown.defaults;
-          builddir = ap (λ (b : BuildGraph). b.builddir) joined.grown.declared;
-          lines = joined.grown.lines;
-          others = joined.others;
-        };
-        none = λ e there. nothing_of graph.manifest.paths (list_at graph.recorded e) (nothing_in (recorded_by graph (suc e)) (none_recorded e (sym (undoes.edges e) ∙ there)));
-      }
+-- they are known of the graph for which they were, whatever was looked up on the way
+pub known_alike : (graph : Graph) (rs : List Record) (ds : List DepsRecord) (old new : Records) → new.logs ≡ old.logs → new.places.items ≡ old.places.items → new.deps_places.items ≡ old.deps_places.items → AreKnown graph rs ds old → AreKnown graph rs ds new
+known_alike graph rs ds was new logs places deps_places known = record {
+  paths = known.paths;
+  more = known.more;
+  grown = known.grown;
+  outputs = known.outputs;
+  known = record {
+    keeps = subst (λ (l : Logs). Keeps rs l.build_log.log) (sym {A = Logs} logs) known.known.keeps;
+    fits = subst (λ (l : List (Option ℕ)). length l ≤ length known.paths) (sym places) known.known.fits;
+    made = subst (λ (l : List (Option ℕ)). ArePlaces makings in_force rs known.paths l) (sym places) known.known.made;
+  };
+  told = record {
+    keeps = subst (λ (l : Logs). KeepsDeps ds l.deps_log.log) (sym {A = Logs} logs) known.told.keeps;
+    fits = subst (λ (l : List (Option ℕ)). length l ≤ length known.paths) (sym deps_places) known.told.fits;
+    told = subst (λ (l : List (Option ℕ)). ArePlaces tolds deps_in_force ds known.paths l) (sym deps_places) known.told.told;
+  };
+}
+
+-- what was looked up for these paths stands within them
+pub taken_whole : (n : ℕ) (was now shrunk : List (Option ℕ)) → shrunk ≡ take n now → now ≡ was → length was ≤ n → shrunk ≡ was
+taken_whole n was now shrunk is same low = is ∙ (ap (take n) same ∙ take_all n was low)
+
+module _ (graph : Graph) (added : List (List ℕ)) (loaded : Graph) (grows : loaded.manifest.paths ≡ graph.manifest.paths ++ added) (was now shrunk : Records) where
+  pub known_shrunk : MayShrink loaded was now → shrunk.logs ≡ was.logs → shrunk.places.items ≡ take (length graph.manifest.paths) now.places.items → shrunk.deps_places.items ≡ take (length graph.manifest.paths) now.deps_places.items
+      → AreStillKnown graph now shrunk → StayKnown graph graph was shrunk
+  known_shrunk (inl same) logs places deps_places still rs ds known =
+      let long = ap length known.grown ∙ length-append known.paths known.more in
+      let few = known.known.fits in
+      let few_deps = known.told.fits in
+      known_alike graph rs ds was shrunk logs
+      (taken_whole (length graph.manifest.paths) was.places.items now.places.items shrunk.places.items places same.places (omega (arith, long, few)))
+      (taken_whole (length graph.manifest.paths) was.deps_places.items now.deps_places.items shrunk.deps_places.items deps_places same.deps_places (omega (arith, long, few_deps))) known
+  known_shrunk (inr all) logs places deps_places still rs ds known =
+      let both = all graph added grows rs ds known in
+      still added rs ds (subst (λ (l : List (List ℕ)). IsOf rs l now) grows both.0) (subst (λ (l : List (List ℕ)). IsOfDeps ds l now) grows both.1)

@@ -27,7 +27,7 @@ refusal_so s refusal So is so = subst (λ (x : Stop). IfRefused x So) is so
 
 module _ (tells : Bool) (tick : List ℕ) (graph : Graph) (state : State) (now : World) (s : Stop) (refusal : Refusal) (is : s ≡ stop.Refused refusal) where
   -- the run that is refused there ends
-  pub refused_going : IfRefused s (λ r. (course : Course) × (grown : List Edge) × (cone : Cone) × IsRefusedAt tells tick course grown graph cone state now r) → (going : IsGoing tells tick graph state now) × (goes_on going.course ≡ false)
+  pub refused_going : IfRefused s (λ r. (course : Course) × (grown : List Edge) × (cone : Cone) × IsRefusedAt tells tick course grown graph cone state now r) → IsGoing tells false tick graph state now
   refused_going at =
       let here = refusal_so s refusal (λ r. (course : Course) × (grown : List Edge) × (cone : Cone) × IsRefusedAt tells tick course grown graph cone state now r) is at in
       ends_going tells tick here.0 here.1 graph here.2 state now refusal here.3

@@ -3,7 +3,6 @@ use Rattle.std.proofs.Common.{◌≡◌, ℕ, Bool, true, List, [], ◌∷◌, �
 use Rattle.std.proofs.lemmas.List.{append-nil}
 use Rattle.std.proofs.lemmas.Bool.{false≢true, or_left, eq-eqb}
 use Rattle.model.specs.declared.event.Event.{Event}
-use Rattle.model.specs.declared.event.Moment.{Moment}
 use Rattle.model.specs.declared.graph.BuildGraph.{BuildGraph}
 use Rattle.model.specs.declared.graph.Edge.{Edge}
 use Rattle.model.specs.World.{World, IsIdle}
@@ -166,7 +165,7 @@ module _ (tells : Bool) (tick : List ℕ) (course : Course) (edges : List Edge) 
     -- with what is shown, and what is due
     abbrev pub with_sources : Showing → Vec Bool Global → State
     with_sources display due =
-        record { plan = state.plan; looks = after; records = state.records; display = display; due = due; starts = state.starts; failed = state.failed; set = state.set }
+        record { plan = state.plan; looks = after; records = state.records; display = display; due = due; starts = state.starts; failed = state.failed }
 
     abbrev pub on_sources : (display : Showing) (due : Vec Bool Global) → IsOn tells here graph None (with_sources display due) new
     on_sources display due = record {

@@ -27,14 +27,13 @@ use Rattle.paths.specs.Told.{text_at, texts_at, edge_of, graph_of}
 use Rattle.graph.specs.declared.graph.Graph.{Graph}
 use Rattle.graph.specs.Grown.{HasGained}
 use Rattle.graph.specs.Held.{list_at}
-use Rattle.graph.specs.Linked.{StandFor}
 use Rattle.graph.specs.LoadedEdges.{numbers_in}
 use Rattle.graph.specs.declared.back.LoadedEdge.{LoadedEdge}
 use Rattle.graph.specs.Links.{links_of}
 use Rattle.graph.specs.Told.{declared_by, recorded_by}
-use Rattle.graph.proofs.Texts.{has_text, number_of}
+use Rattle.theory.proofs.Mapped.{has_mapped, mapped_has}
 use Rattle.records.specs.declared.records.Records.{Records}
-use Rattle.records.specs.Known.{IsOf, IsOfDeps, AreKnown}
+use Rattle.records.specs.Known.{AreKnown}
 use Rattle.judge.specs.Facts.{AreKnownOf}
 use Rattle.work.specs.Recorded.{are_known, is_in_use, HasMorePaths, HasOnlyMorePaths, AreNumbered, HaveJust, IsShared, IsJoined, MayBeJoined, HasJoinedOf, AreJoined, HasJoined, deps_place, named_by}
 use Rattle.work.proofs.Numbering.{text_before, texts_more, more_then, has_both}
@@ -214,8 +213,8 @@ same_texts paths ms ns same p = by_test (cases_Bool (has (texts_at paths ms) p))
   where
     one_way : (xs ys : List ℕ) → ((n : ℕ) → has_number xs n ≡ has_number ys n) → has (texts_at paths xs) p ≡ true → has (texts_at paths ys) p ≡ true
     one_way xs ys same h =
-        let found = number_of paths xs p h in
-        subst (λ (t : List ℕ). has (texts_at paths ys) t ≡ true) found.2 (has_text paths ys found.0 (sym (same found.0) ∙ found.1))
+        let found = mapped_has (text_at paths) xs p h in
+        subst (λ (t : List ℕ). has (texts_at paths ys) t ≡ true) found.2 (has_mapped (text_at paths) ys found.0 (sym (same found.0) ∙ found.1))
 
     by_test : (has (texts_at paths ms) p ≡ true) ⊎ (has (texts_at paths ms) p ≡ false) → has (texts_at paths ms) p ≡ has (texts_at paths ns) p
     by_test (inl there) = there ∙ sym (one_way ms ns same there)
@@ -376,18 +375,6 @@ numbered_none graph texts numbers none k n is = absurd (differ n (sym (ap (λ (l
 
 pub joined_none : (graph : Graph) (rs : List Record) (ds : List DepsRecord) → ((i : ℕ) → recorded_by graph i ≡ []) → AreJoined graph rs ds 0
 joined_none graph rs ds none = record { joined = λ e lt p. absurd (omega (arith, lt)); others = λ e other. none (suc e) }
-
--- so the records are known of the graph for which they were read
-pub known_at_first : (graph : Graph) → StandFor (declared_by graph).edges graph.manifest.paths (links_of graph) → (rs : List Record) (ds : List DepsRecord) (records : Records) → IsOf rs graph.manifest.paths records → IsOfDeps ds graph.manifest.paths records
-    → AreKnown graph rs ds records
-known_at_first graph stand rs ds records known told = record {
-  paths = graph.manifest.paths;
-  more = [];
-  grown = sym (append-nil graph.manifest.paths);
-  outputs = λ e p made. stand.outputs_within e p made;
-  known = known;
-  told = told;
-}
 
 pub known_more : (old new : Graph) → HasMorePaths old new → (rs : List Record) (ds : List DepsRecord) (records : Records) → AreKnown old rs ds records → AreKnown new rs ds records
 known_more old new more rs ds records known = record {

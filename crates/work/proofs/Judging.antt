@@ -37,7 +37,7 @@ use Rattle.judge.specs.Looking.{HasLooked}
 use Rattle.judge.specs.Seen.{look_at, look_of, is_asked, IfKept, AreSeenOf}
 use Rattle.plan.specs.declared.plan.Plan.{Plan}
 use Rattle.plan.specs.declared.step.Step.TheVariants.{Judge}
-use Rattle.plan.specs.Planned.{TakesStep}
+use Rattle.plan.specs.Planned.{TakesStep, IsNext}
 use Rattle.records.specs.Laws.{LogStays}
 use Rattle.records.specs.Known.{AreKnown}
 use Rattle.judge.specs.Facts.{flag_at}
@@ -45,7 +45,7 @@ use Rattle.judge.specs.Judged.{IsAnswer, IsReasonBy, MayBeJudgedBy, MayBeStaleBy
 use Rattle.work.specs.declared.state.State.{State}
 use Rattle.work.specs.Course.{Course, goes_on, Suits, edges_of, is_quiet, AreAnew, AreSeenBefore, AreStarted, IsOn}
 use Rattle.work.specs.Going.{IsSaid}
-use Rattle.work.proofs.Onward.{taken_judged, since_goes}
+use Rattle.work.proofs.Onward.{taken_judged, since_goes, said_next}
 use Rattle.work.proofs.Places.{phony_is}
 use Rattle.work.proofs.Quiet.{files_then, all_kept, quiet_less}
 use Rattle.work.proofs.Removed.{removed_steps}
@@ -79,7 +79,10 @@ judged_here e k true here =
 judged_here e k false here = absurd (false≢true here)
 
 module _ (tells : Bool) (course : Course) (graph : Graph) (stays : LogStays) (tick : List ℕ) (suits : Suits course tick graph) (state : State) (now new : World) (e : ℕ)
-    (on : IsOn tells course graph None state now) (said : IsSaid course graph on.steps (Judge e)) (looks : OnlyLooks tells now new) where
+    (on : IsOn tells course graph None state now) (goes : goes_on course ≡ true) (next : IsNext state.plan (Judge e)) (looks : OnlyLooks tells now new) where
+  abbrev said : IsSaid course graph on.steps (Judge e)
+  said = said_next course graph state.plan (Judge e) on.steps goes on.planned on.taken next
+
   abbrev pub edges : List Edge
   edges = edges_of course
 
@@ -229,7 +232,7 @@ module _ (tells : Bool) (course : Course) (graph : Graph) (stays : LogStays) (ti
     judged_started k runs = started_more (suc k) _ course.entry now new [] (looks.events ∙ sym (append-nil now.events)) (on.started k (sym (running_judged on.steps (suc e) stale (suc k)) ∙ runs))
 
     pub judged_on : (plan : Plan) (display : Display) → TakesStep graph state.plan plan (Judged (suc e) stale) → plan.changed ≡ state.plan.changed
-        → IsOn tells course graph None (record { plan = plan; looks = after; records = state.records; display = display; due = state.due; starts = state.starts; failed = state.failed; set = state.set }) new
+        → IsOn tells course graph None (record { plan = plan; looks = after; records = state.records; display = display; due = state.due; starts = state.starts; failed = state.failed }) new
     judged_on plan display takes flags_same =
         let now_told = told_over tells course graph on.steps state now new (looks_quiet tells course graph stays None state now new on looks) on.told in
         record {

@@ -44,7 +44,6 @@ pub mod Numbering
 pub mod Pausing
 pub mod LoadPoints
 pub mod Rounds
-pub mod CountedSlices
 pub mod StopCases
 pub mod Stopping
 pub mod Stops

@@ -1,5 +1,5 @@
 -- How a load ends that is not made.
-use Rattle.std.proofs.Common.{◌≡◌, ℕ, Bool, List, Err, inl, ap, subst}
+use Rattle.std.proofs.Common.{◌≡◌, ℕ, Bool, List, Err, inl, sym, ◌∙◌, ap, subst}
 use Rattle.model.specs.declared.fault.SiteFault.{SiteFault}
 use Rattle.model.specs.declared.graph.BuildGraph.{BuildGraph}
 use Rattle.model.specs.declared.graph.Edge.{Edge}
@@ -10,50 +10,62 @@ use Rattle.theory.specs.Seen.{Unrefused}
 use Rattle.graph.specs.declared.cone.Cone.{Cone}
 use Rattle.graph.specs.declared.graph.Graph.{Graph}
 use Rattle.graph.specs.Told.{declared_by}
+use Rattle.records.specs.Laws.{LogStays}
 use Rattle.work.specs.declared.state.State.{State}
 use Rattle.work.specs.Course.{Course}
 use Rattle.work.specs.Cutting.{IsMet}
 use Rattle.work.specs.Going.{IsCut}
+use Rattle.work.specs.Joined.{IsMemory, StayKnown, IsAsBefore, IsUndone}
 use Rattle.work.specs.declared.report.Refusal.{Refusal}
 use Rattle.work.specs.declared.stop.Stop.{Stop}
 use Rattle.work.specs.declared.stop.Stop.TheVariants as stop
-use Rattle.work.specs.Standing.{grown_course, StandsAt, HasAsked, IsLoadNext, IsAtNextLoad, IsStopped, IsRefusedAt, IsCutThere, IsStopThere, StoppedThere, IfRefused, IfFault}
+use Rattle.work.specs.Standing.{grown_course, StandsAt, IsLoadNext, IsAtNextLoad, IsRefusedBy, IsStopped, IsStopThere, StoppedThere, IfRefused, IfFault}
 use Rattle.work.proofs.Faults.{well_looks, faulted_there}
+use Rattle.work.proofs.Loading.{stopped_there, cut_here}
 use Rattle.work.proofs.Stopping.{load_refused}
 
--- what the site shows of it
+-- ---- what the site shows of it
+
 pub load_stop : (tells : Bool) (now new : World) (s : Stop) → OnlyLooks tells now new → new.earlier ≡ now.earlier → IfRefused s (λ refusal. Unrefused now new) → IfFault s (IsMet now new)
     → IfFault s (λ fault. new.stopped ≡ is_stop {T = Unit {0}} (Err fault)) → IsStopThere now new s
 load_stop tells now new (stop.Refused refusal) looks earlier unrefused met stopped = well_looks tells now new looks unrefused
 load_stop tells now new (stop.Fault fault) looks earlier unrefused met stopped = faulted_there now new fault met (inl looks.at_start) stopped earlier
 
-module _ (tells : Bool) (graph grown : Graph) (cone next : Cone) (state after : State) (file : ℕ) (now new : World) where
-  -- it is refused where the build stands
-  abbrev pub RefusedBy : Refusal → Type 0
-  RefusedBy refusal = (tick : List ℕ) (course : Course) (edges : List Edge) (phases : List Phase) → (stands : StandsAt tells tick course edges phases graph cone state now) → IsLoadNext course edges graph state stands.on.steps file
-      → IsStopped tells tick course edges phases grown next after new refusal
+-- where all calls went well, and memory was refused if it was no refusal
+pub load_stop_by : (tells : Bool) (now new : World) (s : Stop) → OnlyLooks tells now new → Unrefused now new → IsMemory s → IsStopThere now new s
+load_stop_by tells now new (stop.Refused refusal) looks unrefused memory = well_looks tells now new looks unrefused
+load_stop_by tells now new (stop.Fault fault) looks unrefused memory =
+    faulted_there now new fault (subst (λ (f : SiteFault). IsMet now new f) (sym {A = SiteFault} memory) unrefused.failures) (inl looks.at_start)
+    (unrefused.goes_on ∙ sym (ap (λ (f : SiteFault). is_stop {T = Unit {0}} (Err f)) memory)) unrefused.earlier
 
-  -- a fault cuts it off
-  abbrev pub CutBy : SiteFault → Type 0
-  CutBy fault = (edges_then : List Edge) × ((tick : List ℕ) (course : Course) (edges : List Edge) (phases : List Phase) → (stands : StandsAt tells tick course edges phases graph cone state now) → IsLoadNext course edges graph state stands.on.steps file
-      → HasAsked tells course edges phases now → IsCutThere tells course edges_then after new)
+-- ---- where it stands
 
-  abbrev pub SomeAt : Type 0
-  SomeAt = (tick : List ℕ) × (course : Course) × (edges : List Edge) × (phases : List Phase) × IsAtNextLoad tells tick course edges phases graph cone state file now
+-- of a fault it is known where it cut the build off
+pub stop_met : (tells : Bool) (tick : List ℕ) (course : Course) (edges : List Edge) (graph : Graph) (cone : Cone) (state : State) (now : World) (s : Stop) → StoppedThere tells tick course edges graph cone state now s
+    → IfFault s (λ fault. (of : Course) × (at : Graph) × IsCut tells of at state.plan now)
+stop_met tells tick course edges graph cone state now (stop.Refused refusal) there = tt
+stop_met tells tick course edges graph cone state now (stop.Fault fault) there = (grown_course course edges there.phases, there.graph, there.cut)
 
-  pub load_met : (s : Stop) → IfFault s CutBy → SomeAt → IfFault s (λ fault. (of : Course) × (at : Graph) × IsCut tells of at after.plan new)
-  load_met (stop.Refused refusal) cut at = tt
-  load_met (stop.Fault fault) cut (tick, course, edges, phases, at) =
-      let there = cut.1 tick course edges phases at.stands at.next at.asked in
-      (grown_course course cut.0 there.phases, there.graph, there.cut)
+module _ (tells : Bool) (tick : List ℕ) (course : Course) (edges : List Edge) (phases : List Phase) (graph : Graph) (cone : Cone) (state : State) (file : ℕ) (now : World) (at : IsAtNextLoad tells tick course edges phases graph cone state file now)
+    (stays : LogStays) (new : World) (looks : OnlyLooks tells now new) (after : State) where
+  -- it is stopped where it stood
+  stops_at : IsAsBefore state after → StayKnown graph graph state.records after.records → (s : Stop) → IfRefused s (IsRefusedBy tells course edges phases at.stands.on.steps new) → StoppedThere tells tick course edges graph cone after new s
+  stops_at same known (stop.Refused refusal) cause =
+      load_refused tells tick course edges phases graph graph cone cone state after file now new refusal at looks
+      (stopped_there tells tick course edges phases graph cone state now at.stands file at.next stays new looks after same known refusal cause)
+  stops_at same known (stop.Fault fault) cause = cut_here tells tick course edges phases graph cone state now at.stands file at.next stays new looks after same.plan at.asked
 
-  pub load_there : (s : Stop) → OnlyLooks tells now new → IfRefused s RefusedBy → IfFault s CutBy
-      → (edges_then : List Edge) × ((tick : List ℕ) (course : Course) (edges : List Edge) (phases : List Phase) → IsAtNextLoad tells tick course edges phases graph cone state file now → StoppedThere tells tick course edges_then grown next after new s)
-  load_there (stop.Refused refusal) looks refused cut = (
-    (declared_by grown).edges,
-    λ tick course edges phases at.
-        let stopped = refused tick course edges phases at.stands at.next in
-        subst (λ (es : List Edge). IsRefusedAt tells tick course es grown next after new refusal) (ap (λ (b : BuildGraph). b.edges) stopped.stands.suits.same)
-        (load_refused tells tick course edges phases graph grown cone next state after file now new refusal at looks stopped),
-  )
-  load_there (stop.Fault fault) looks refused cut = (cut.0, λ tick course edges phases at. cut.1 tick course edges phases at.stands at.next at.asked)
+  pub stops_undone : (grown : Graph) (next : Cone) → IsUndone graph grown cone next state after → (s : Stop) → IfRefused s (IsRefusedBy tells course edges phases at.stands.on.steps new) → StoppedThere tells tick course (declared_by grown).edges grown next after new s
+  stops_undone grown next undone s cause =
+      subst (λ (c : Cone). StoppedThere tells tick course (declared_by grown).edges grown c after new s) (sym {A = Cone} undone.cone_is)
+      (subst (λ (g : Graph). StoppedThere tells tick course (declared_by g).edges g cone after new s) (sym {A = Graph} undone.graph_is)
+      (subst (λ (es : List Edge). StoppedThere tells tick course es graph cone after new s) (ap (λ (b : BuildGraph). b.edges) at.stands.suits.same) (stops_at undone.state undone.known s cause)))
+
+-- a refusal leaves each build where it stood, too, of which it is not known that nothing was missing
+pub refuses_undone : (tells : Bool) (tick : List ℕ) (course : Course) (edges : List Edge) (phases : List Phase) (graph : Graph) (cone : Cone) (state : State) (file : ℕ) (now : World) (stands : StandsAt tells tick course edges phases graph cone state now)
+    → IsLoadNext course edges graph state stands.on.steps file → LogStays → (new : World) → OnlyLooks tells now new → (after : State) (grown : Graph) (next : Cone) → IsUndone graph grown cone next state after
+    → (refusal : Refusal) → IsRefusedBy tells course edges phases stands.on.steps new refusal → IsStopped tells tick course edges phases grown next after new refusal
+refuses_undone tells tick course edges phases graph cone state file now stands to_load stays new looks after grown next undone refusal cause =
+    subst (λ (c : Cone). IsStopped tells tick course edges phases grown c after new refusal) (sym {A = Cone} undone.cone_is)
+    (subst (λ (g : Graph). IsStopped tells tick course edges phases g cone after new refusal) (sym {A = Graph} undone.graph_is)
+    (stopped_there tells tick course edges phases graph cone state now stands file to_load stays new looks after undone.state undone.known refusal cause))

@@ -3,7 +3,7 @@
 use Rattle.std.proofs.Common.{◌≡◌, ◌⊎◌, inl, inr, ℕ, zero, suc, ◌<◌, cond, Bool, true, false, IsTrue, List, [], ◌∷◌, ◌++◌, map, length, get_or, bytes_eq, Option, Some, None, is_some, Result, Ok, Err, refl, sym, ◌∙◌, ap, subst, append_assoc, arith}
 use Rattle.std.specs.List.{All}
 use Rattle.std.specs.Option.{option_map}
-use Rattle.std.proofs.lemmas.Bool.{false≢true, true≢false, false_from_ne_true}
+use Rattle.std.proofs.lemmas.Bool.{false≢true, false_from_ne_true}
 use Rattle.std.proofs.lemmas.List.{append-nil, length-append}
 use Rattle.model.specs.declared.event.Moment.{Moment}
 use Rattle.model.specs.declared.graph.BuildGraph.{BuildGraph}
@@ -28,10 +28,9 @@ use Rattle.theory.proofs.Looks.{kept_before, edits_before}
 use Rattle.theory.proofs.Makers.{maker_is}
 use Rattle.theory.proofs.Orderly.{IsKept, kept_orderly}
 use Rattle.theory.proofs.Runs.{rest_begins}
-use Rattle.theory.specs.Ledger.{IsPhased, IsCarried, IsCutOff}
+use Rattle.theory.specs.Ledger.{IsPhased, IsCutOff}
 use Rattle.theory.proofs.AtMoments.{held_seen}
 use Rattle.theory.proofs.Ledger.{cut_off}
-use Rattle.theory.proofs.Loading.{carried_load}
 use Rattle.theory.proofs.PhasesGoOn.{steps_of-append, so_far}
 use Rattle.theory.proofs.Turned.{kept_then}
 use Rattle.dyndep.specs.declared.addition.Addition.{Addition as Statement}
@@ -48,11 +47,9 @@ use Rattle.graph.specs.Linked.{StandFor, IsConeOf}
 use Rattle.graph.specs.Links.{links_of}
 use Rattle.graph.specs.Told.{declared_by}
 use Rattle.judge.specs.declared.looks.Look.{Look}
-use Rattle.judge.specs.declared.looks.Looks.{Looks}
 use Rattle.judge.specs.Seen.{look_at, look_of, is_asked, AreKept, AreSeenOf}
-use Rattle.judge.proofs.Kept.{seen_kept}
 use Rattle.plan.specs.declared.plan.Plan.{Plan}
-use Rattle.plan.specs.Planned.{IsDeclaredTask, IsTaskOf, IsPlanned, AreTaken}
+use Rattle.plan.specs.Planned.{IsDeclaredTask, IsTaskOf, IsPlanned}
 use Rattle.records.specs.declared.logs.Logs.{Logs}
 use Rattle.records.specs.Known.{AreKnown}
 use Rattle.records.specs.Laws.{LogStays}
@@ -60,7 +57,7 @@ use Rattle.records.specs.Logging.{IsLogging}
 use Rattle.work.specs.declared.state.State.{State}
 use Rattle.work.specs.Course.{Course, edges_of, goes_on, IsOn, is_quiet}
 use Rattle.work.specs.Going.{IsInHand}
-use Rattle.work.proofs.Keeping.{looks_quiet, on_looks}
+use Rattle.work.proofs.Keeping.{seen_kept, looks_quiet, on_looks}
 use Rattle.work.proofs.Loaded.{HasMore, HasRoomFor, loaded_course, on_loaded, suits_loaded}
 use Rattle.work.proofs.Quiet.{quiet_from}
 use Rattle.work.proofs.Settled.{settled_rests}
@@ -109,12 +106,6 @@ asked_below (look ∷ seen) (suc p) asked = let lt = asked_below seen p asked in
 
 -- ---- a build that stands before a load
 
--- whatever the course of the build that stood before the load of this file, it is refused where it stood
-abbrev pub StopsThere : Bool → Graph → Cone → State → World → ℕ → World → Refusal → Type 0
-StopsThere tells graph cone state old file new refusal =
-    (tick : List ℕ) (course : Course) (edges : List Edge) (phases : List Phase) → (stands : StandsAt tells tick course edges phases graph cone state old) → IsLoadNext course edges graph state stands.on.steps file
-    → IsStopped tells tick course edges phases graph cone state new refusal
-
 module _ (tells : Bool) (tick : List ℕ) (course : Course) (edges : List Edge) (phases : List Phase) (graph : Graph) (cone : Cone) (state : State) (now : World) (stands : StandsAt tells tick course edges phases graph cone state now) (file : ℕ)
     (next_load : IsLoadNext course edges graph state stands.on.steps file) where
   abbrev here : Course
@@ -157,7 +148,7 @@ module _ (tells : Bool) (tick : List ℕ) (course : Course) (edges : List Edge) 
       looks = looks_then tells course.entry now new was.looks looks;
       seen = λ tell free edits.
           let call = looks.history tell in
-          seen_kept (is_bound free) now.history new.history call.more call.grows (bound_kept tells course.own course.entry now new stands.suits.idle was.looks looks tell free edits) graph.manifest.paths state.looks.seen.items
+          seen_kept (is_bound free) graph.manifest.paths state.looks.seen.items now.history new.history call.more call.grows (bound_kept tells course.own course.entry now new stands.suits.idle was.looks looks tell free edits)
           (was.seen tell free (edits_before free course.entry.history now.history new.history call.more call.grows edits));
     }
       where
@@ -176,12 +167,12 @@ module _ (tells : Bool) (tick : List ℕ) (course : Course) (edges : List Edge) 
         logging = subst (λ (l : Logs). IsLogging tells here.behaviour here.format here.own (edges_of here) steps None here.store here.entry new l) (sym {A = Logs} same.logs) on_new.logging;
         told = record { records = on_new.told.records; deps = on_new.told.deps; known = known on_new.told.records on_new.told.deps on_new.told.known; same = on_new.told.same };
         seen = λ tell files p asked quiet.
-            ap (λ (l : Looks). look_at l.seen.items p) same.looks ∙ on_new.seen tell files p (ap (λ (l : Looks). is_asked (look_at l.seen.items p)) (sym {A = Looks} same.looks) ∙ asked) quiet;
+            ap (λ (l : List Look). look_at l p) same.looks ∙ on_new.seen tell files p (ap (λ (l : List Look). is_asked (look_at l p)) (sym {A = List Look} same.looks) ∙ asked) quiet;
         anew = λ tell files p lt unfailed. ap (λ (l : Plan). flags.has l.changed.items p) same.plan ∙ on_new.anew tell files p lt unfailed;
-        before = λ tell files e stale unended restat p made. ap (λ (l : Looks). look_at l.seen.items p) same.looks ∙ on_new.before tell files e stale unended restat p made;
+        before = λ tell files e stale unended restat p made. ap (λ (l : List Look). look_at l p) same.looks ∙ on_new.before tell files e stale unended restat p made;
         started = λ e runs. subst (λ (l : List ℕ). StartedUnder (suc e) (get_or l e 0) here.entry new) (sym {A = List ℕ} same.starts) (on_new.started e runs);
         removed = on_new.removed;
-        room = record { looks = ap (λ (l : Looks). length l.seen.items) same.looks ∙ on_new.room.looks; starts = ap (λ (l : List ℕ). length l) same.starts ∙ on_new.room.starts };
+        room = record { looks = ap (λ (l : List Look). length l) same.looks ∙ on_new.room.looks; starts = ap (λ (l : List ℕ). length l) same.starts ∙ on_new.room.starts };
         noted = ap (map suc) same.failed ∙ on_new.noted;
       }
 
@@ -198,16 +189,12 @@ module _ (tells : Bool) (tick : List ℕ) (course : Course) (edges : List Edge) 
         numbers = stands.numbers;
         unstarted = λ none.
             let was = unstarted_new none in
-            record { looks = was.looks; seen = λ tell free edits. subst (λ (l : Looks). AreSeenOf (is_bound free) graph.manifest.paths new.history l.seen.items) (sym {A = Looks} same.looks) (was.seen tell free edits) };
+            record { looks = was.looks; seen = λ tell free edits. subst (λ (l : List Look). AreSeenOf (is_bound free) graph.manifest.paths new.history l) (sym {A = List Look} same.looks) (was.seen tell free edits) };
       }
 
       -- the load is refused there
       pub stopped_there : (refusal : Refusal) → IsRefusedBy tells course edges phases steps new refusal → IsStopped tells tick course edges phases graph cone after new refusal
       stopped_there refusal cause = record { stands = stands_after; cause = cause }
-
-    -- the state is as it was
-    pub stopped_here : (refusal : Refusal) → IsRefusedBy tells course edges phases steps new refusal → IsStopped tells tick course edges phases graph cone state new refusal
-    stopped_here refusal cause = stopped_there state (record { plan = refl; looks = refl; logs = refl; starts = refl; failed = refl; set = refl }) (λ rs ds known. known) refusal cause
 
     -- ---- what the file held
 
@@ -448,100 +435,64 @@ module _ (tells : Bool) (tick : List ℕ) (course : Course) (edges : List Edge) 
 
         -- ---- the run goes on
 
-        carried_then : IsCarried tells later.behaviour later.format later.own later.asked later.store later.phases true steps None later.entry new
-        carried_then = carried_load tells course.behaviour course.format course.own here.asked course.store phases course.entry new next path content additions grown_here steps
-            (record { run = on_new.carried.run; phased = on_new.carried.phased; goes = λ h. on_new.carried.goes stands.goes; refused = λ off. absurd (true≢false off); beside = on_new.carried.beside }) next_load.next reads order holds held_here
+        module _ (was : HasAsked tells course edges phases now) (room : HasRoomIn grown state after) (known : StayKnown graph grown state.records after.records) (logs : after.records.logs ≡ state.records.logs) where
+          has_room : HasRoomFor graph grown state after
+          has_room = record { fits = room.fits; looks = room.looks; logs = logs; known = known; changed = room.changed; starts = room.starts; failed = room.failed }
 
-        planned_then : IsPlanned (task_of later.asked later.store) grown after.plan steps × AreTaken (task_of later.asked later.store) steps
-        planned_then = gone.planned graph (task_over course edges) (task_of later.asked later.store) steps on_new.planned on_new.taken stated
-            (record { file = path; additions = additions; grown = grown_here; once = gains.once; recorded = recorded_more; targets = refl; jobs = refl; keep = refl }) is_cone
+          abbrev on_then : IsOn tells later grown None after new
+          on_then = on_loaded tells here tick graph grown path additions gains stands.suits stands.goes state after new on_new has_room stand stand_grown content next_load.next reads order holds held_here grown_cone gone.planned stated is_cone
 
-        module _ (was : HasAsked tells course edges phases now) where
-          -- a fault behind that
-          pub cut_later : IsCutThere tells course next after new
-          cut_later = record {
-            phases = phases ++ ended ∷ [];
-            graph = grown;
-            cut = record {
-              steps = steps;
-              met = None;
-              planned = planned_then.0;
-              taken = planned_then.1;
-              since = on_new.since;
-              run = carried_then.run;
-              cut = cut_then;
-              in_hand = λ i is. nothing i is;
+          unstarted_then : started_in steps ≡ [] → IsUnstarted tells course grown after new
+          unstarted_then none = record { looks = so.looks; seen = λ tell free edits p asked bound. seen_there free p asked bound (so.seen tell free edits) }
+            where
+              so : IsUnstarted tells course graph state new
+              so = unstarted_new none
+
+              seen_there : (free : List ℕ → Bool) (p : ℕ) → is_asked (look_at after.looks.seen.items p) ≡ true → is_bound free (text_at grown.manifest.paths p) ≡ true → AreSeenOf (is_bound free) graph.manifest.paths new.history state.looks.seen.items
+                  → look_at after.looks.seen.items p ≡ look_of (stamp_of (file_at new.history (text_at grown.manifest.paths p)))
+              seen_there free p asked bound seen = room.looks p ∙ (seen p asked_before (ap (is_bound free) (sym text) ∙ bound) ∙ ap (λ (t : List ℕ). look_of (stamp_of (file_at new.history t))) (sym text))
+                where
+                  asked_before : is_asked (look_at state.looks.seen.items p) ≡ true
+                  asked_before = ap is_asked (sym (room.looks p)) ∙ asked
+
+                  text : text_at grown.manifest.paths p ≡ text_at graph.manifest.paths p
+                  text = ap (λ (l : List (List ℕ)). text_at l p) gains.paths
+                      ∙ text_front graph.manifest.paths gains.added p (let lt = asked_below state.looks.seen.items p asked_before in let size = stands.on.room.looks in omega (arith, lt, size))
+
+          -- a phase begins
+          pub begun : BeginsAt tells tick course next (phases ++ ended ∷ []) grown grown_cone after new
+          begun = record {
+            stands = record {
+              goes = stands.goes;
+              dyndeps = stands.dyndeps;
+              others = stands.others;
+              suits = suits_loaded tells here tick graph grown path additions gains stands.suits stands.goes state after new on_new has_room stand stand_grown joined.recorded;
+              on = on_then;
+              listed = is_cone;
+              acyclic = acyclic;
+              within = subst (λ (l : List ℕ). All (λ p. p < length grown.manifest.paths) l) (sym {A = List ℕ} gone.cone_of.numbers) within_then;
+              numbers = ap (texts_at grown.manifest.paths) gone.cone_of.numbers ∙ targets_are;
+              unstarted = unstarted_then;
             };
-            once = gains.once;
-            acyclic = acyclic;
-            asked = λ tell files needed. subst (λ (l : List Done). WasNothingMissingIn course.own (task_over course next) course.store course.entry.history new.history [] (phases ++ ended ∷ []) l)
-                (sym {A = List Done} (fresh_of tells later steps new phases edges last cut_then.phased split)) (asked_then was tell files needed);
+            fresh = fresh_of tells later steps new phases edges last on_then.carried.phased split;
+            asked = asked_then was;
           }
             where
-              cut_then : IsCutOff tells later.behaviour later.format later.own later.asked later.store later.phases steps None later.entry new
-              cut_then = cut_off tells later.behaviour later.format later.own later.asked later.store later.entry later.phases true steps None new carried_then
+              within_then : All (λ p. p < length grown.manifest.paths) cone.targets.items
+              within_then k d lt =
+                  let low = stands.within k d lt in
+                  let sum = ap length gains.paths ∙ length-append graph.manifest.paths gains.added in
+                  omega (arith, low, sum)
 
-              nothing : (i : ℕ) → None ≡ Some i → IsInHand (task_of later.asked later.store) steps i
-              nothing i is = cc
-
-          module _ (room : HasRoomIn grown state after) (known : StayKnown graph grown state.records after.records) (logs : after.records.logs ≡ state.records.logs) where
-            has_room : HasRoomFor graph grown state after
-            has_room = record { fits = room.fits; looks = room.looks; logs = logs; known = known; changed = room.changed; starts = room.starts; failed = room.failed }
-
-            abbrev on_then : IsOn tells later grown None after new
-            on_then = on_loaded tells here tick graph grown path additions gains stands.suits stands.goes state after new on_new has_room stand stand_grown content next_load.next reads order holds held_here grown_cone gone.planned stated is_cone
-
-            unstarted_then : started_in steps ≡ [] → IsUnstarted tells course grown after new
-            unstarted_then none = record { looks = so.looks; seen = λ tell free edits p asked bound. seen_there free p asked bound (so.seen tell free edits) }
-              where
-                so : IsUnstarted tells course graph state new
-                so = unstarted_new none
-
-                seen_there : (free : List ℕ → Bool) (p : ℕ) → is_asked (look_at after.looks.seen.items p) ≡ true → is_bound free (text_at grown.manifest.paths p) ≡ true → AreSeenOf (is_bound free) graph.manifest.paths new.history state.looks.seen.items
-                    → look_at after.looks.seen.items p ≡ look_of (stamp_of (file_at new.history (text_at grown.manifest.paths p)))
-                seen_there free p asked bound seen = room.looks p ∙ (seen p asked_before (ap (is_bound free) (sym text) ∙ bound) ∙ ap (λ (t : List ℕ). look_of (stamp_of (file_at new.history t))) (sym text))
-                  where
-                    asked_before : is_asked (look_at state.looks.seen.items p) ≡ true
-                    asked_before = ap is_asked (sym (room.looks p)) ∙ asked
-
-                    text : text_at grown.manifest.paths p ≡ text_at graph.manifest.paths p
-                    text = ap (λ (l : List (List ℕ)). text_at l p) gains.paths
-                        ∙ text_front graph.manifest.paths gains.added p (let lt = asked_below state.looks.seen.items p asked_before in let size = stands.on.room.looks in omega (arith, lt, size))
-
-            -- a phase begins
-            pub begun : BeginsAt tells tick course next (phases ++ ended ∷ []) grown grown_cone after new
-            begun = record {
-              stands = record {
-                goes = stands.goes;
-                dyndeps = stands.dyndeps;
-                others = stands.others;
-                suits = suits_loaded tells here tick graph grown path additions gains stands.suits stands.goes state after new on_new has_room stand stand_grown joined.recorded;
-                on = on_then;
-                listed = is_cone;
-                acyclic = acyclic;
-                within = subst (λ (l : List ℕ). All (λ p. p < length grown.manifest.paths) l) (sym {A = List ℕ} gone.cone_of.numbers) within_then;
-                numbers = ap (texts_at grown.manifest.paths) gone.cone_of.numbers ∙ targets_are;
-                unstarted = unstarted_then;
-              };
-              fresh = fresh_of tells later steps new phases edges last on_then.carried.phased split;
-              asked = asked_then was;
-            }
-              where
-                within_then : All (λ p. p < length grown.manifest.paths) cone.targets.items
-                within_then k d lt =
-                    let low = stands.within k d lt in
-                    let sum = ap length gains.paths ∙ length-append graph.manifest.paths gains.added in
-                    omega (arith, low, sum)
-
-            -- the file was loaded
-            pub has_begun : HasBegun tells tick course phases grown grown_cone after new
-            has_begun = (next, ended, begun)
+          -- the file was loaded
+          pub has_begun : HasBegun tells tick course phases grown grown_cone after new
+          has_begun = (next, ended, begun)
 
     -- ---- a fault
 
-    -- a fault before that
-    pub cut_here : (after : State) → after.plan ≡ state.plan → HasAsked tells course edges phases now → IsCutThere tells course (declared_by graph).edges after new
-    cut_here after same was = subst (λ (es : List Edge). IsCutThere tells course es after new) (ap (λ (b : BuildGraph). b.edges) stands.suits.same) (record {
+    -- it is cut off where it stood
+    pub cut_here : (after : State) → after.plan ≡ state.plan → HasAsked tells course edges phases now → IsCutThere tells course edges after new
+    cut_here after same was = record {
       phases = phases;
       graph = graph;
       cut = record {
@@ -561,7 +512,7 @@ module _ (tells : Bool) (tick : List ℕ) (course : Course) (edges : List Edge) 
           let so_far = kept_before course.own edges course.entry.history now.history new.history call.more call.grows files in
           asked_in course.own (task_over course edges) course.store course.entry.history new.history [] phases cut_now.phased.build.last
           (asked_later tells course.own (task_over course edges) steps course.entry now stands.on.carried.run tell call.more new.history call.grows phases on_new.carried.phased.build.last split_here (task_over course edges) course.store (was tell so_far needed));
-    })
+    }
       where
         cut_now : IsCutOff tells course.behaviour course.format course.own here.asked course.store phases steps None course.entry new
         cut_now = cut_off tells course.behaviour course.format course.own here.asked course.store course.entry phases (goes_on here) steps None new on_new.carried

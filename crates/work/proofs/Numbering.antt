@@ -8,7 +8,7 @@ use Rattle.theory.proofs.Lists.{same_some, same_bytes}
 use Rattle.paths.specs.Told.{text_at, texts_at}
 use Rattle.graph.specs.Grown.{HasNumbered}
 use Rattle.graph.specs.declared.graph.Graph.{Graph}
-use Rattle.graph.proofs.Texts.{has_text}
+use Rattle.theory.proofs.Mapped.{has_mapped}
 use Rattle.work.specs.Recorded.{HasMorePaths, HasOnlyMorePaths, AreNumbered, IsNumberedToo, HaveJust}
 
 -- ---- more paths
@@ -188,7 +188,7 @@ pub just_insert : (graph : Graph) (numbers new : List ℕ) (paths : List (List �
 just_insert graph numbers new paths number just lt put = elim put [
   | inl held ↦
       subst (λ (l : List ℕ). HaveJust graph l (paths ++ text ∷ [])) (sym {A = List ℕ} held.1)
-      (just_as graph numbers paths (paths ++ text ∷ []) (has_again paths text (sym (just.same text) ∙ has_text graph.manifest.paths numbers number held.0)) just)
+      (just_as graph numbers paths (paths ++ text ∷ []) (has_again paths text (sym (just.same text) ∙ has_mapped (text_at graph.manifest.paths) numbers number held.0)) just)
   | inr fresh ↦ just_push graph numbers new paths number just lt fresh
 ]
   where

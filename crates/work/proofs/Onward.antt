@@ -14,9 +14,9 @@ use Rattle.graph.specs.declared.graph.Graph.{Graph}
 use Rattle.plan.specs.declared.plan.Plan.{Plan}
 use Rattle.plan.specs.declared.step.Step.{Step}
 use Rattle.plan.specs.declared.step.Step.TheVariants.{Wait}
-use Rattle.plan.specs.Planned.{IsPlanned, AreTaken, IsLawfulNext, IsDueNext}
+use Rattle.plan.specs.Planned.{IsPlanned, AreTaken, IsNext, IsCountIn}
 use Rattle.work.specs.Course.{Course, goes_on, IsSince}
-use Rattle.work.specs.Going.{IsSaid, MayTakeIn}
+use Rattle.work.specs.Going.{IsSaid, MayTakeIn, MayWait}
 
 -- ---- what was taken
 
@@ -73,22 +73,39 @@ since_ended (Some done) steps i well runs since = (
 -- ---- what the plan says next
 
 pub said_next : (course : Course) (graph : Graph) (plan : Plan) (step : Step) (steps : List Done) → goes_on course ≡ true → IsPlanned (task_of course.asked course.store) graph plan steps → AreTaken (task_of course.asked course.store) steps
-    → IsLawfulNext plan step → IsDueNext plan step → IsSaid course graph steps step
-said_next course graph plan step steps goes planned taken next due = record {
+    → IsNext plan step → IsSaid course graph steps step
+said_next course graph plan step steps goes planned taken next = record {
   goes = goes;
-  lawful = next (task_of course.asked course.store) graph steps planned taken;
-  loads = due (task_of course.asked course.store) graph steps planned taken;
+  lawful = next.lawful (task_of course.asked course.store) graph steps planned taken;
+  loads = next.loads (task_of course.asked course.store) graph steps planned taken;
 }
 
--- where it says to wait, a command may be taken in
-pub may_wait : (course : Course) (graph : Graph) (steps : List Done) → IsSaid course graph steps Wait → MayTakeIn course steps
-may_wait course graph steps said = record { runs = said.lawful.2; lawful = λ goes. (said.lawful.0, said.lawful.1, said.loads) }
+-- ---- a command may be taken in
 
--- behind a refused load one may be taken in while some run
-pub may_finish : (course : Course) (steps : List Done) (count : ℕ) → goes_on course ≡ false → count ≡ length (running_in steps) → 0 < count → MayTakeIn course steps
-may_finish course steps count ends many some = record {
-  runs = λ none. omega (arith, some, many, ap length none);
-  lawful = λ goes. absurd (false≢true (sym ends ∙ goes));
+-- by the plan, so by the steps
+pub may_take : (course : Course) (graph : Graph) (plan : Plan) (steps : List Done) (goes : Bool) → goes_on course ≡ goes → IsPlanned (task_of course.asked course.store) graph plan steps → AreTaken (task_of course.asked course.store) steps
+    → MayWait goes plan → MayTakeIn course steps
+may_take course graph plan steps goes is planned taken may = record {
+  runs = may.runs (task_of course.asked course.store) graph steps planned taken;
+  lawful = λ on.
+      let said = said_next course graph plan Wait steps on planned taken (may.waits (sym is ∙ on)) in
+      (said.lawful.0, said.lawful.1, said.loads);
+}
+
+-- where it says to wait
+pub may_wait : (plan : Plan) → IsNext plan Wait → MayWait true plan
+may_wait plan next = record {
+  runs = λ task graph steps planned taken. (next.lawful task graph steps planned taken).2;
+  waits = λ goes. next;
+}
+
+-- behind a refused load while some run
+pub may_finish : (plan : Plan) (count : ℕ) → IsCountIn plan running_in count → 0 < count → MayWait false plan
+may_finish plan count many some = record {
+  runs = λ task graph steps planned taken none.
+      let same = many task graph steps planned taken in
+      omega (arith, some, same, ap length none);
+  waits = λ goes. absurd (false≢true goes);
 }
 
 -- until none does

@@ -23,8 +23,8 @@ well_none w running = record { unrefused = unrefused_none w running; starts = in
 
 module _ (tells : Bool) (tick : List ℕ) (course : Course) (edges : List Edge) (phases : List Phase) (graph : Graph) (cone : Cone) (state : State) (now : World) (at : HasSourcesAt tells tick course edges phases graph cone state now) where
   -- the run goes on from there
-  pub going_at : (going : IsGoing tells tick graph state now) × (goes_on going.course ≡ true)
-  going_at = (record { course = grown_course course edges phases; suits = at.stands.suits; on = at.stands.on }, at.stands.goes)
+  pub going_at : IsGoing tells true tick graph state now
+  going_at = record { course = grown_course course edges phases; suits = at.stands.suits; is = at.stands.goes; on = at.stands.on }
 
   module _ (after : State) (new : World) (grows : ComesAfter tells now new) where
     pub paused_at : (pause : Pause) → LooksUnlessMore tells graph now new state.looks after.looks

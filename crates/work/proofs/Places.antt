@@ -14,7 +14,7 @@ use Rattle.graph.specs.declared.graph.Graph.{Graph}
 use Rattle.graph.specs.Held.{maker_in}
 use Rattle.graph.specs.Links.{is_alias, links_of}
 use Rattle.graph.specs.Told.{declared_by}
-use Rattle.judge.proofs.Numbers.{item_has}
+use Rattle.work.proofs.Noting.{item_has}
 
 -- ---- edges by number
 

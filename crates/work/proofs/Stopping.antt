@@ -19,7 +19,7 @@ use Rattle.judge.specs.Looking.{HasLooked}
 use Rattle.paths.specs.Told.{text_at}
 use Rattle.plan.specs.declared.plan.Plan.{Plan}
 use Rattle.plan.specs.declared.step.Step.TheVariants.{Load}
-use Rattle.plan.specs.Planned.{IsOffered, IsDueNext}
+use Rattle.plan.specs.Planned.{IsOffered, IsDueNext, IsNext}
 use Rattle.records.specs.declared.records.Records.{Records}
 use Rattle.records.specs.Laws.{LogStays}
 use Rattle.work.specs.Shown.{Showing}
@@ -34,7 +34,7 @@ use Rattle.work.proofs.Noticed.{with_looks}
 use Rattle.work.specs.declared.report.Refusal.{Refusal}
 use Rattle.work.specs.declared.stop.Stop.{Stop}
 use Rattle.work.specs.declared.stop.Stop.TheVariants as stop
-use Rattle.work.specs.Standing.{grown_course, task_over, StandsAt, HadAsked, BeginsAt, IsAtNextLoad, HasSourcesAt, IsLacking, IsMissingAfter, IsStopped, IsRefusedAt, IsCutThere, WasCut, StoppedThere, NoSourceIsDue, IsStopThere, IfRefused, IfFault}
+use Rattle.work.specs.Standing.{grown_course, task_over, StandsAt, HadAsked, BeginsAt, IsAtNextLoad, HasSourcesAt, IsLacking, IsMissingAfter, IsStopped, IsRefusedAt, IsCutThere, WasCut, StoppedThere, NoSourceIsDue, IsStopThere, IfFault}
 use Rattle.work.specs.Loads.{NamesSource}
 use Rattle.work.specs.Ends.{IsMissingFor}
 use Rattle.work.specs.Sources.{HasSources, LacksSource}
@@ -68,12 +68,11 @@ made_next graph plan file e wanted due made task steps planned taken other other
     not_before (ByNamer i k first named other_named less) = some_none (sym maker_is ∙ first source)
 
 -- the file that is loaded next, where no edge makes it, or that of sources none is due
-pub source_said : (graph : Graph) (plan : Plan) (file : ℕ) (found : Option ℕ) → IsOffered plan (Load file) → IsDueNext plan (Load file)
+pub source_said : (graph : Graph) (plan : Plan) (file : ℕ) (found : Option ℕ) → IsNext plan (Load file)
     → MatchOption found ((edge : ℕ) × ((links_of graph).maker file ≡ Some edge)) (λ source. (source ≡ file) × ((links_of graph).maker file ≡ None))
-    → MatchOption found (NoSourceIsDue graph plan) (λ source. IsOffered plan (Load source) × IsDueNext plan (Load source) × ((links_of graph).maker source ≡ None))
-source_said graph plan file None wanted due made = made_next graph plan file made.0 wanted due made.1
-source_said graph plan file (Some source) wanted due is =
-    subst (λ (p : ℕ). IsOffered plan (Load p) × IsDueNext plan (Load p) × ((links_of graph).maker p ≡ None)) (sym is.0) (wanted, due, is.1)
+    → MatchOption found (NoSourceIsDue graph plan) (λ source. IsNext plan (Load source) × ((links_of graph).maker source ≡ None))
+source_said graph plan file None next made = made_next graph plan file made.0 next.offered next.loads made.1
+source_said graph plan file (Some source) next is = subst (λ (p : ℕ). IsNext plan (Load p) × ((links_of graph).maker p ≡ None)) (sym is.0) (next, is.1)
 
 -- ---- where a phase begins
 
@@ -97,20 +96,20 @@ module _ (tells : Bool) (tick : List ℕ) (course : Course) (edges : List Edge) 
   none_taken_in = stands.on.carried.goes stands.goes
 
   -- a file that no edge makes is loaded next: of sources nothing is asked
-  pub source_next : (file : ℕ) → IsOffered state.plan (Load file) → IsDueNext state.plan (Load file) → (links_of graph).maker file ≡ None → IsAtNextLoad tells tick course edges phases graph cone state file now
-  source_next file wanted due none = record {
+  pub source_next : (file : ℕ) → IsNext state.plan (Load file) → (links_of graph).maker file ≡ None → IsAtNextLoad tells tick course edges phases graph cone state file now
+  source_next file said none = record {
     stands = stands;
-    next = record { next = next; wanted = wanted; known = known };
+    next = record { next = next; wanted = said.offered; known = known };
     asked = asked_also tells course edges phases stands.on.steps now stands.on.carried.run stands.on.carried.phased now begins.fresh none_taken_in begins.asked
         (λ tell files needed loaded apart at point. absurd (loaded (text_at graph.manifest.paths file) next.due (stands.on.planned.stated.makers file known ∙ ap later_number none)));
   }
     where
       next : IsNextLoad task stands.on.steps (text_at graph.manifest.paths file)
-      next = due task graph stands.on.steps stands.on.planned stands.on.taken
+      next = said.loads task graph stands.on.steps stands.on.planned stands.on.taken
 
       known : file < length graph.manifest.paths
       known =
-          let named = stands.on.planned.over.loading.loads_are.named file wanted in
+          let named = stands.on.planned.over.loading.loads_are.named file said.offered in
           stands.on.planned.stated.known named.edge file named.names
 
   module _ (stays : LogStays) (new : World) (after : Looks) (looked : HasLooked tells graph now new state.looks after) where
@@ -223,7 +222,3 @@ given_up_cut tells course grown state now new cut there left after rest = record
   where
     off : IsCutOff tells course.behaviour course.format course.own (asked_with course.asked grown) course.store there.phases there.cut.steps there.cut.met course.entry new
     off = rest (grown_course course grown there.phases) there.cut.steps there.cut.met there.cut.cut
-
-pub refused_both : (stopped : Stop) (P Q : Type 0) → IfRefused stopped (λ refusal. P) → IfRefused stopped (λ refusal. Q) → IfRefused stopped (λ refusal. P × Q)
-refused_both (stop.Refused refusal) P Q p q = (p, q)
-refused_both (stop.Fault fault) P Q p q = tt

@@ -1,5 +1,5 @@
 -- What is so of a stop that is a fault, or a refusal.
-use Rattle.std.proofs.Common.{◌≡◌, ℕ, Bool, List, Option, Err, refl, sym, subst}
+use Rattle.std.proofs.Common.{◌≡◌, ℕ, Bool, List, Option, Err, sym, subst}
 use Rattle.model.specs.declared.fault.SiteFault.{SiteFault}
 use Rattle.model.specs.declared.graph.Edge.{Edge}
 use Rattle.model.specs.World.{World}
@@ -18,7 +18,7 @@ use Rattle.theory.specs.Seen.{IsSeen}
 use Rattle.work.specs.declared.report.Refusal.{Refusal}
 use Rattle.work.specs.declared.stop.Stop.{Stop}
 use Rattle.work.specs.declared.stop.Stop.TheVariants as stop
-use Rattle.work.specs.Standing.{IsFaulted, IsStopThere, IsStopOf, StoppedThere, HasHalted, WasCut, IfRefused, IfFault}
+use Rattle.work.specs.Standing.{IsFaulted, IsStopThere, IsStopOf, StoppedThere, HasHalted, WasCut, IfFault}
 use Rattle.work.proofs.Faults.{faulted_on, stopped_by}
 use Rattle.work.proofs.Stopping.{given_up_cut}
 
@@ -26,12 +26,6 @@ use Rattle.work.proofs.Stopping.{given_up_cut}
 
 pub fault_so : (s : Stop) (fault : SiteFault) (So : Type 0) → s ≡ stop.Fault fault → IfFault s (λ f. So) → So
 fault_so s fault So is so = subst (λ (x : Stop). IfFault x (λ f. So)) is so
-
-pub fault_unrefused : (s : Stop) (fault : SiteFault) (So : Refusal → Type 0) → s ≡ stop.Fault fault → IfRefused s So
-fault_unrefused s fault So is = subst (λ (x : Stop). IfRefused x So) (sym {A = Stop} is) tt
-
-pub fault_fault : (s : Stop) (fault last : SiteFault) → s ≡ stop.Fault fault → IfFault s (λ f. IfRefused (stop.Fault last) (λ refusal. ⊥))
-fault_fault s fault last is = subst (λ (x : Stop). IfFault x (λ f. IfRefused (stop.Fault last) (λ refusal. ⊥))) (sym {A = Stop} is) tt
 
 pub fault_stopped : (a b : World) (s : Stop) (fault : SiteFault) → s ≡ stop.Fault fault → IsStopThere a b s → b.stopped ≡ is_stop {T = Unit {0}} (Err fault)
 fault_stopped a b s fault is so = stopped_by a b fault (subst (λ (x : Stop). IsStopThere a b x) is so)
@@ -53,18 +47,6 @@ fault_halted tells tick course grown graph cone state now new s fault last cut i
 pub refusal_on : (a b : World) (s : Stop) (refusal : Refusal) → s ≡ stop.Refused refusal → IsStopThere a b s → IsStopOf a b (stop.Refused refusal)
 refusal_on a b s refusal is so = subst (λ (x : Stop). IsStopThere a b x) is so
 
-pub refusal_same : (s : Stop) (refusal : Refusal) → s ≡ stop.Refused refusal → IfRefused s (λ r. stop.Refused refusal ≡ s)
-refusal_same s refusal is = subst (λ (x : Stop). IfRefused x (λ r. stop.Refused refusal ≡ x)) (sym {A = Stop} is) refl
-
 pub refusal_halted : (tells : Bool) (tick : List ℕ) (course : Course) (grown : List Edge) (graph : Graph) (cone : Cone) (state : State) (now : World) (s : Stop) (refusal : Refusal) → s ≡ stop.Refused refusal
     → StoppedThere tells tick course grown graph cone state now s → HasHalted tells tick course grown graph cone state now (stop.Refused refusal)
 refusal_halted tells tick course grown graph cone state now s refusal is there = subst (λ (x : Stop). StoppedThere tells tick course grown graph cone state now x) is there
-
-pub refusal_no_fault : (s : Stop) (refusal : Refusal) (So : SiteFault → Type 0) → s ≡ stop.Refused refusal → IfFault s So
-refusal_no_fault s refusal So is = subst (λ (x : Stop). IfFault x So) (sym {A = Stop} is) tt
-
--- a refusal is the one that it was, and what was so of that is so of it
-pub refused_still : (s result : Stop) (So : Type 0) → IfRefused s (λ refusal. result ≡ s) → IfFault s (λ fault. IfRefused result (λ refusal. ⊥)) → IfRefused s (λ refusal. So) → IfRefused result (λ refusal. So)
-refused_still (stop.Refused refusal) result So same faults so = subst (λ (x : Stop). IfRefused x (λ r. So)) (sym {A = Stop} same) so
-refused_still (stop.Fault fault) (stop.Refused refusal) So same faults so = absurd faults
-refused_still (stop.Fault fault) (stop.Fault last) So same faults so = tt

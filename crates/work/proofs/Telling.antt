@@ -11,7 +11,7 @@ use Rattle.graph.specs.declared.cone.Cone.{Cone}
 use Rattle.graph.specs.declared.graph.Graph.{Graph}
 use Rattle.graph.specs.Linked.{IsConeOf}
 use Rattle.graph.specs.Told.{declared_by, recorded_by}
-use Rattle.graph.proofs.Texts.{has_text}
+use Rattle.theory.proofs.Mapped.{has_mapped}
 use Rattle.model.specs.Records.{Store, recorded_of, recorded_inputs}
 use Rattle.model.specs.Schedule.{Step}
 use Rattle.model.specs.SingleBuild.{IsNamedMissing}
@@ -125,7 +125,7 @@ needed_told graph cone store targets number path needed needed_by same by source
     by_needed : (needed : Option ℕ) → needed_by ≡ option_map (λ e. first_output (edge_at (declared_by graph).edges (suc e))) needed → HasInput (declared_by graph).edges (text_at graph.manifest.paths number) needed → IsAskedFor cone number needed
         → IsNamedMissing (declared_by graph).edges store targets (text_at graph.manifest.paths number) needed_by
     by_needed None is input asked = subst (λ (n : Option (List ℕ)). IsNamedMissing (declared_by graph).edges store targets (text_at graph.manifest.paths number) n) (sym is)
-        (subst (λ (l : List (List ℕ)). has l (text_at graph.manifest.paths number) ≡ true) numbers (has_text graph.manifest.paths cone.targets.items number asked), source)
+        (subst (λ (l : List (List ℕ)). has l (text_at graph.manifest.paths number) ≡ true) numbers (has_mapped (text_at graph.manifest.paths) cone.targets.items number asked), source)
     by_needed (Some e) is input asked = subst (λ (n : Option (List ℕ)). IsNamedMissing (declared_by graph).edges store targets (text_at graph.manifest.paths number) n) (sym is) (suc e, listed.within e asked, refl, input, source)
 
 pub missing_told : (edges : List Edge) (store : Store) (before : List Step) (requested : List (List ℕ)) (files : List Moment) (text path : List ℕ) (needed : Option ℕ) (needed_by : Option (List ℕ)) → path ≡ text

@@ -1,22 +1,16 @@
--- What others may not write: the logs, and paths while a build only looks.
-use Rattle.std.proofs.Common.{◌≡◌, ℕ, Bool, false, IsTrue, List, [], ◌++◌, sym, subst}
+-- What others may not write while a build only looks.
+use Rattle.std.proofs.Common.{◌≡◌, ℕ, Bool, false, IsTrue, List, [], sym, subst}
 use Rattle.std.proofs.lemmas.Bool.{not-true}
 use Rattle.model.specs.declared.event.Event.{Event}
-use Rattle.model.specs.declared.event.Moment.{Moment}
 use Rattle.model.specs.World.{World, runs, IsRunning, IsIdle}
 use Rattle.model.specs.Calls.{OthersWrote, OnlyLooks}
 use Rattle.model.specs.Records.{OwnFiles}
-use Rattle.model.specs.Premises.{LogsAreLeft, OnlyFreeIsEdited, IsNoEdit}
-use Rattle.theory.proofs.Looks.{edits_before, untouched}
+use Rattle.model.specs.Premises.{OnlyFreeIsEdited, IsNoEdit}
+use Rattle.theory.proofs.Looks.{untouched}
 use Rattle.theory.proofs.Starting.{since}
 use Rattle.judge.specs.Seen.{AreKept}
 use Rattle.work.proofs.Quiet.{all_kept}
 use Rattle.work.specs.Standing.{is_bound}
-
--- the logs, up to each point before
-pub left_before : (own : OwnFiles) (old mid new later : List Moment) → new ≡ mid ++ later → LogsAreLeft own old new → LogsAreLeft own old mid
-left_before own old mid new later grows left =
-    record { free = left.free; build_log = left.build_log; deps_log = left.deps_log; edits = edits_before left.free old mid new later grows left.edits }
 
 -- in a call that only looks, where there was only looked since the entry, paths that are not free keep their files
 pub bound_kept : (tells : Bool) (own : OwnFiles) (entry now new : World) → IsIdle entry.events → OnlyLooks tells entry now → OnlyLooks tells now new → IsTrue tells

@@ -1,5 +1,5 @@
 -- A run that goes on, that has ended, or that a fault cuts off.
-use Rattle.std.specs.Prelude.{◌≡◌, ◌≢◌, ◌⊎◌, ℕ, suc, ◌≤◌, ◌<◌, ◌&&◌, Bool, true, false, List, [], ◌∷◌, ◌++◌, length, Option, Some, None}
+use Rattle.std.specs.Prelude.{◌≡◌, ◌≢◌, ◌⊎◌, ℕ, suc, ◌<◌, ◌&&◌, Bool, true, false, List, [], ◌∷◌, ◌++◌, length, Option, Some, None, MatchOption}
 use Rattle.std.specs.List.{sum_by}
 use Rattle.model.specs.World.{World}
 use Rattle.model.specs.Graph.{has_number, edge_at}
@@ -20,19 +20,21 @@ use Rattle.plan.specs.declared.step.End.{End}
 use Rattle.plan.specs.declared.step.Standing.{Standing}
 use Rattle.plan.specs.declared.step.Standing.TheVariants.{Outside, Unjudged, Clean, OutOfDate, Running, Well, Failed, Alias, Known}
 use Rattle.plan.specs.declared.step.Step.{Step}
-use Rattle.plan.specs.declared.step.Step.TheVariants.{Ended as Over}
+use Rattle.plan.specs.declared.step.Step.TheVariants.{Wait, Ended as Over}
 use Rattle.plan.specs.declared.plan.Plan.{Plan}
-use Rattle.plan.specs.Planned.{IsPlanned, AreTaken, IsNextOf, IsDueOf}
+use Rattle.plan.specs.Planned.{IsPlanned, AreTaken, IsNextOf, IsDueOf, IsNext}
 use Rattle.work.specs.Course.{Course, goes_on, IsSince, Suits, IsOn}
 use Rattle.work.specs.Restat.{IsFlagged, IsForgotten}
 use Rattle.work.specs.declared.turn.Halt.{Halt}
 use Rattle.work.specs.declared.turn.Halt.TheVariants as halt
+use Rattle.work.specs.declared.setting.Setting.{Setting}
 use Rattle.work.specs.declared.state.State.{State}
 
--- such a run is under way, of some course
-pub record IsGoing (tells : Bool) (tick : List ℕ) (graph : Graph) (state : State) (now : World) : Type 0 where
+-- such a run is under way, of some course: it goes on, or its next load was refused
+pub record IsGoing (tells goes : Bool) (tick : List ℕ) (graph : Graph) (state : State) (now : World) : Type 0 where
   pub course : Course
   pub suits : Suits course tick graph
+  pub is : goes_on course ≡ goes
   pub on : IsOn tells course graph None state now
 
 -- The run goes on, and this is next: a lawful step where no load is due, or the next load.
@@ -45,6 +47,21 @@ pub record IsSaid (course : Course) (graph : Graph) (steps : List Done) (step : 
 pub record MayTakeIn (course : Course) (steps : List Done) : Type 0 where
   pub runs : running_in steps ≢ []
   pub lawful : goes_on course ≡ true → NoneMayBeJudged (task_of course.asked course.store) steps × NoneMayStart (task_of course.asked course.store) steps × NoLoadIsDue (task_of course.asked course.store) steps
+
+-- some command runs, whatever steps the plan is that of
+abbrev pub HasRunning : Plan → Type 0
+HasRunning plan = (task : Task) (graph : Graph) (steps : List Done) → IsPlanned task graph plan steps → AreTaken task steps → running_in steps ≢ []
+
+-- a command may be taken in by this plan: some runs, and a run that goes on waits
+pub record MayWait (goes : Bool) (plan : Plan) : Type 0 where
+  pub runs : HasRunning plan
+  pub waits : goes ≡ true → IsNext plan Wait
+
+-- a run is under way of which a command may be taken in
+pub record IsAwaiting (tells : Bool) (tick : List ℕ) (graph : Graph) (state : State) (now : World) : Type 0 where
+  pub goes : Bool
+  pub may : MayWait goes state.plan
+  pub going : IsGoing tells goes tick graph state now
 
 -- nothing is left to do
 pub record IsOver (tells : Bool) (course : Course) (graph : Graph) (state : State) (end : End) (now : World) : Type 0 where
@@ -86,14 +103,51 @@ pub record IsCut (tells : Bool) (course : Course) (graph : Graph) (plan : Plan) 
   pub cut : IsCutOff tells course.behaviour course.format course.own course.asked course.store course.phases steps met course.entry now
   pub in_hand : (i : ℕ) → met ≡ Some i → IsInHand (task_of course.asked course.store) steps i
 
--- no edge has more outputs
-abbrev pub AreEnough : Graph → ℕ → Type 0
-AreEnough graph count = (e : ℕ) → e < length graph.manifest.lines → length ((links_of graph).outputs e) ≤ count
+-- ---- what a call leaves
 
--- as many flags as an edge may have outputs, and each is set
-pub record AreSet (graph : Graph) (all : List Bool) : Type 0 where
-  pub enough : AreEnough graph (length all)
-  pub set : (k : ℕ) → k < length all → flags.has all k ≡ true
+-- of each course on which the run stood there, and went on or not, it is so
+abbrev pub From : Bool → Bool → Setting → State → World → (Course → Type 0) → Type 0
+From tells goes setting before old Is = (course : Course) → Suits course setting.tick.now setting.graph.now → goes_on course ≡ goes → IsOn tells course setting.graph.now None before old → Is course
+
+-- it stands there still, in a run that goes on or not
+abbrev pub StandsOn : Bool → Bool → Setting → World → World → State → State → Type 0
+StandsOn tells goes setting old new before after = From tells goes setting before old (λ course. IsOn tells course setting.graph.now None after new)
+
+-- a fault has cut it off
+abbrev pub IsCutFrom : Bool → Bool → Setting → World → World → State → State → Type 0
+IsCutFrom tells goes setting old new before after = From tells goes setting before old (λ course. IsCut tells course setting.graph.now after.plan new)
+
+-- a run that goes on stands there still,
+abbrev pub GoesOn : Bool → Setting → World → World → State → State → Type 0
+GoesOn tells setting old new before after = StandsOn tells true setting old new before after
+
+-- or a fault has cut it off,
+abbrev pub CutsOff : Bool → Setting → World → World → State → State → Type 0
+CutsOff tells setting old new before after = IsCutFrom tells true setting old new before after
+
+-- or it stands where no step is taken now
+abbrev pub Halts : Bool → Setting → World → World → State → State → Halt → Type 0
+Halts tells setting old new before after halt = From tells true setting before old (λ course. IsHalted tells course setting.graph.now after new halt)
+
+-- a turn was made, or there is none to make
+abbrev pub TurnsTo : Bool → Setting → World → World → State → State → Option Halt → Type 0
+TurnsTo tells setting old new before after halt = MatchOption halt (GoesOn tells setting old new before after) (λ halt. Halts tells setting old new before after halt)
+
+-- where a command may be taken in, it stands there still,
+abbrev pub WaitsOn : Bool → Setting → World → World → State → State → Type 0
+WaitsOn tells setting old new before after = (goes : Bool) → MayWait goes before.plan → StandsOn tells goes setting old new before after
+
+-- or a fault has cut it off
+abbrev pub WaitsCut : Bool → Setting → World → World → State → State → Type 0
+WaitsCut tells setting old new before after = (goes : Bool) → MayWait goes before.plan → IsCutFrom tells goes setting old new before after
+
+-- of a run whose next load was refused all that ran was taken in,
+abbrev pub TakesAllIn : Bool → Setting → World → World → State → State → Type 0
+TakesAllIn tells setting old new before after = From tells false setting before old (λ course. IsFinished tells course setting.graph.now after new)
+
+-- or a fault has cut it off
+abbrev pub CutsTaking : Bool → Setting → World → World → State → State → Type 0
+CutsTaking tells setting old new before after = IsCutFrom tells false setting old new before after
 
 -- ---- the end of a command
 
@@ -101,7 +155,6 @@ pub record AreSet (graph : Graph) (all : List Bool) : Type 0 where
 pub record IsSameBeside (old new : State) : Type 0 where
   pub records : new.records ≡ old.records
   pub starts : new.starts.items ≡ old.starts.items
-  pub set : new.set ≡ old.set
 
 -- What the end of the command of an edge changes beside its plan's steps: what was seen of its outputs is forgotten, and where it
 -- ended well and has `restat` they are looked at anew; an output counts as changed unless its stamp is seen to be the same.
@@ -135,3 +188,7 @@ steps_left Known = 0
 
 abbrev pub work_left : List Standing → ℕ
 work_left standings = sum_by steps_left standings
+
+-- a turn leaves less of it
+abbrev pub IsNearer : State → State → Option Halt → Type 0
+IsNearer before after halt = MatchOption halt (work_left after.plan.standings.items < work_left before.plan.standings.items) (λ halt. Unit {0})

@@ -1,5 +1,5 @@
 -- What a graph and its run become when what a dyndep file says joins them, and why it does not.
-use Rattle.std.specs.Prelude.{◌≡◌, ◌⊎◌, ◌<◌, ℕ, Bool, IsTrue, List, length, Option, None, All, Err}
+use Rattle.std.specs.Prelude.{◌≡◌, ◌⊎◌, ◌<◌, ◌++◌, ℕ, Bool, IsTrue, List, length, Option, None, All, Ok, Err}
 use Rattle.model.specs.declared.fault.SiteFault.TheVariants.{Memory}
 use Rattle.model.specs.declared.graph.Edge.{Edge}
 use Rattle.model.specs.declared.record.Record.{Record}
@@ -10,19 +10,24 @@ use Rattle.model.specs.Graph.{Addition, targets_of, IsMadeOnce}
 use Rattle.model.specs.Phases.{IsGrownBy}
 use Rattle.model.specs.Records.{Store, recorded_inputs}
 use Rattle.model.specs.SingleBuild.{Asked, IsShownCycle, asked_with, declared_graph}
+use Rattle.dyndep.specs.declared.addition.Addition.{Addition as Statement}
 use Rattle.dyndep.specs.declared.fault.DynFault.TheVariants as said
 use Rattle.dyndep.specs.declared.fault.ReadError.{ReadError}
 use Rattle.dyndep.specs.declared.fault.ReadError.TheVariants as unread
 use Rattle.plan.specs.Flags.{has}
-use Rattle.paths.specs.Told.{texts_at}
+use Rattle.paths.specs.Told.{text_at, texts_at}
 use Rattle.graph.specs.declared.cone.Cone.{Cone}
+use Rattle.graph.specs.declared.cone.ConeFault.{ConeFault}
+use Rattle.graph.specs.declared.fault.ExtendFault.{ExtendFault}
 use Rattle.graph.specs.declared.graph.Graph.{Graph}
-use Rattle.graph.specs.Extended.{HasLoaded, IsUnfit, IsRemadeBy}
-use Rattle.graph.specs.Targets.{IsConeOfNumbers}
+use Rattle.graph.specs.Back.{Undoes}
+use Rattle.graph.specs.declared.back.Before.{Before}
+use Rattle.graph.specs.Extended.{HasLoaded, IsUnfit, IsRemadeBy, IsRefusedLoad}
+use Rattle.graph.specs.Targets.{IsConeOfNumbers, IsNoConeAgain}
 use Rattle.graph.specs.Told.{declared_by, recorded_by, AreSameInputs}
 use Rattle.judge.specs.Seen.{look_at}
 use Rattle.records.specs.declared.records.Records.{Records}
-use Rattle.records.specs.Known.{AreKnown}
+use Rattle.records.specs.Known.{IsOf, IsOfDeps, AreKnown}
 use Rattle.plan.specs.declared.plan.Plan.{Plan}
 use Rattle.plan.specs.Planned.{IsPlanOver}
 use Rattle.plan.specs.Extended.{GoesOn}
@@ -33,7 +38,7 @@ use Rattle.work.specs.declared.stop.Stop.{Stop}
 use Rattle.work.specs.declared.stop.Stop.TheVariants as stop
 use Rattle.work.specs.Standing.{IfFault}
 use Rattle.work.specs.Loads.{IsSaying}
-use Rattle.work.specs.Recorded.{HasMorePaths}
+use Rattle.work.specs.Recorded.{HasMorePaths, AreToJoin, HasJoinedOf}
 
 -- ---- what was read
 
@@ -135,12 +140,6 @@ pub record GoesOnWith (store : Store) (graph grown : Graph) (targets : List ℕ)
   pub cone_of : IsConeOfNumbers grown (recorded_inputs store (declared_by grown).edges) targets cone
   pub planned : GoesOn grown cone old new
 
--- a fault leaves the plan as it was, or so
-abbrev pub IsLeftWith : Graph → Graph → Cone → State → State → ℕ → List ℕ → List Addition → Type 0
-IsLeftWith graph grown cone old new file path additions =
-    (new.plan ≡ old.plan)
-    ⊎ ((asked : Asked) (store : Store) → MayJoin asked store graph cone old file → (then : Cone) × GoesOnWith store graph grown cone.targets.items then old.plan new.plan path additions)
-
 -- the state has room for the paths of the graph, and what it knew stays
 pub record HasRoomIn (graph : Graph) (old new : State) : Type 0 where
   pub fits : length new.looks.seen.items ≡ length graph.manifest.paths
@@ -156,8 +155,117 @@ StayKnown graph grown old new = (rs : List Record) (ds : List DepsRecord) → Ar
 -- of the state nothing is changed but how the records are kept
 pub record IsAsBefore (old new : State) : Type 0 where
   pub plan : new.plan ≡ old.plan
-  pub looks : new.looks ≡ old.looks
+  pub looks : new.looks.seen.items ≡ old.looks.seen.items
   pub logs : new.records.logs ≡ old.records.logs
   pub starts : new.starts.items ≡ old.starts.items
   pub failed : new.failed.items ≡ old.failed.items
-  pub set : new.set ≡ old.set
+
+-- nothing is changed but that
+pub record IsUndone (graph grown : Graph) (cone next : Cone) (old new : State) : Type 0 where
+  pub graph_is : grown ≡ graph
+  pub cone_is : next ≡ cone
+  pub state : IsAsBefore old new
+  pub known : StayKnown graph graph old.records new.records
+
+-- ---- on the way
+
+-- what was asked is done over this graph, to which what the file says has joined so far, so that it became the one that was loaded
+pub record IsJoining (asked : Asked) (store : Store) (graph loaded : Graph) (cone : Cone) (state : State) (before : Before) : Type 0 where
+  pub file : ℕ
+  pub additions : List Addition
+  pub may : MayJoin asked store graph cone state file
+  pub undoes : Undoes graph loaded file before
+  pub has : HasLoaded graph loaded (text_at graph.manifest.paths file) additions
+
+-- so it is of some graph
+abbrev pub IsLoaded : Graph → Cone → State → Before → Type 0
+IsLoaded loaded cone state before = (asked : Asked) × (store : Store) × (graph : Graph) × IsJoining asked store graph loaded cone state before
+
+-- each plan goes on, over the graph as it was before the file joined,
+abbrev pub GoesOnBy : ℕ → List Addition → Graph → Cone → State → Graph → Cone → State → Type 0
+GoesOnBy file additions graph cone state grown next after =
+    (asked : Asked) (store : Store) → MayJoin asked store graph cone state file
+    → GoesOnWith store graph grown cone.targets.items next state.plan after.plan (text_at graph.manifest.paths file) additions
+
+-- or behind that
+abbrev pub GoesOnOver : Before → Graph → Cone → State → Graph → Cone → State → Type 0
+GoesOnOver before loaded cone state grown next after =
+    (asked : Asked) (store : Store) (graph : Graph) → (joining : IsJoining asked store graph loaded cone state before)
+    → GoesOnWith store graph grown cone.targets.items next state.plan after.plan (text_at graph.manifest.paths joining.file) joining.additions
+
+-- a refusal has its cause in what the file says, over the graph as it was before the file joined,
+abbrev pub UnjoinedBy : ℕ → List Addition → Graph → Cone → State → Refusal → Type 0
+UnjoinedBy file additions graph cone state refusal =
+    (asked : Asked) (store : Store) → MayJoin asked store graph cone state file → IsUnjoined asked store (text_at graph.manifest.paths file) additions refusal
+
+-- or behind that
+abbrev pub UnjoinedOver : Before → Graph → Cone → State → Refusal → Type 0
+UnjoinedOver before loaded cone state refusal =
+    (asked : Asked) (store : Store) (graph : Graph) → (joining : IsJoining asked store graph loaded cone state before)
+    → IsUnjoined asked store (text_at graph.manifest.paths joining.file) joining.additions refusal
+
+-- of each graph that had its paths in front it is so
+abbrev pub OfShorter : Graph → (Graph → Type 0) → Type 0
+OfShorter graph So = (was : Graph) (more : List (List ℕ)) → graph.manifest.paths ≡ was.manifest.paths ++ more → So was
+
+-- the recorded inputs of these edges join the graph, by records that were known of the one before
+abbrev pub JoinsOf : List ℕ → Graph → Graph → Graph → Records → Type 0
+JoinsOf edges was loaded grown records =
+    (rs : List Record) (ds : List DepsRecord) → AreKnown was rs ds records → AreToJoin edges loaded rs ds → HasJoinedOf edges loaded grown rs ds
+
+-- some records were known of a graph that had its paths in front
+abbrev pub WereKnown : Graph → Records → Type 0
+WereKnown graph records =
+    (was : Graph) × (more : List (List ℕ)) × (rs : List Record) × (ds : List DepsRecord) × (graph.manifest.paths ≡ was.manifest.paths ++ more) × AreKnown was rs ds records
+
+-- what was looked up is what was
+pub record AreSamePlaces (old new : Records) : Type 0 where
+  pub places : new.places.items ≡ old.places.items
+  pub deps_places : new.deps_places.items ≡ old.deps_places.items
+
+-- what was looked up is what was, or stands for all paths of the graph: what went beyond can be forgotten
+abbrev pub MayShrink : Graph → Records → Records → Type 0
+MayShrink graph old new =
+    AreSamePlaces old new
+    ⊎ OfShorter graph (λ was. (rs : List Record) (ds : List DepsRecord) → AreKnown was rs ds old → IsOf rs graph.manifest.paths new × IsOfDeps ds graph.manifest.paths new)
+
+-- the logs, the stamps of starts and the failed edges are as before
+pub record KeepsRest (old new : State) : Type 0 where
+  pub logs : new.records.logs ≡ old.records.logs
+  pub starts : new.starts.items ≡ old.starts.items
+  pub failed : new.failed.items ≡ old.failed.items
+
+-- ---- the cone of the same targets
+
+-- this was asked, with the edges of the graph and these targets, and its recorded inputs are in use
+abbrev pub IsAskedOver : Graph → List ℕ → Type 0
+IsAskedOver graph targets =
+    (asked : Asked) × (store : Store) × (asked.graph ≡ declared_by graph) × (targets_of (declared_graph asked) asked.targets ≡ texts_at graph.manifest.paths targets) × AreSameInputs (recorded_inputs store asked.graph.edges) (recorded_by graph)
+
+-- their cone, by each function of recorded inputs that has the same paths
+abbrev pub IsConeAgain : Graph → List ℕ → Cone → Type 0
+IsConeAgain graph targets grown = (recorded : ℕ → List (List ℕ)) → AreSameInputs recorded (recorded_by graph) → IsConeOfNumbers graph recorded targets grown
+
+-- of whatever was asked so, edges need one another in a circle
+abbrev pub IsCircleOver : Graph → List ℕ → Refusal → Type 0
+IsCircleOver graph targets refusal =
+    (asked : Asked) (store : Store) → asked.graph ≡ declared_by graph → targets_of (declared_graph asked) asked.targets ≡ texts_at graph.manifest.paths targets → AreSameInputs (recorded_inputs store asked.graph.edges) (recorded_by graph)
+    → IsCircle asked store refusal
+
+-- ---- what a fault of the graph says
+
+-- the additions do not fit the edges of the graph, or make a path anew
+abbrev pub IsUnfitAt : ℕ → List Addition → Graph → Refusal → Type 0
+IsUnfitAt file additions graph refusal = IsUnfitBy (declared_by graph).edges (text_at graph.manifest.paths file) additions refusal
+
+-- so it is of each load that ended by the fault
+abbrev pub IsUnfitOf : List ℕ → ExtendFault → Refusal → Type 0
+IsUnfitOf path fault refusal = (of : Graph) (additions : List Addition) → IsRefusedLoad of path additions fault → IsUnfitBy (declared_by of).edges path additions refusal
+
+-- edges need one another in a circle, of whatever was asked, if by that there is no cone again
+abbrev pub IsCircleOf : List (List ℕ) → ConeFault → Refusal → Type 0
+IsCircleOf paths fault refusal = (asked : Asked) (store : Store) → IsNoConeAgain asked store paths fault → IsCircle asked store refusal
+
+-- the file at the path said this
+abbrev pub WasSaid : Bool → List ℕ → World → World → List Statement → Type 0
+WasSaid tells path old new additions = WasHeld tells path (IsSaying (Ok additions)) old new

@@ -1,3 +1,5 @@
+pub mod EdgeIn
+pub mod Laws
 pub mod Shown
 pub mod Cut
 pub mod Removing

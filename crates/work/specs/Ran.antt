@@ -1,5 +1,5 @@
 -- How a build ends that ran commands.
-use Rattle.std.specs.Prelude.{◌≡◌, ◌<◌, ℕ, suc, Bool, List, [], map, length, All, Option, Some, None, Result, Ok, Err, IfOk}
+use Rattle.std.specs.Prelude.{◌≡◌, ◌<◌, ℕ, suc, Bool, true, false, List, [], map, length, All, Option, Some, None, Result, Ok, Err, IfOk}
 use Rattle.model.specs.World.{World}
 use Rattle.model.specs.Schedule.{Step, well_in, failed_in}
 use Rattle.model.specs.Phases.{NoLoadIsDue}
@@ -7,17 +7,20 @@ use Rattle.model.specs.SingleBuild.{task_of}
 use Rattle.theory.specs.Run.{IsRun}
 use Rattle.graph.specs.declared.graph.Graph.{Graph}
 use Rattle.theory.specs.Ledger.{IsCutOff}
+use Rattle.plan.specs.declared.plan.Plan.{Plan}
 use Rattle.plan.specs.declared.step.End.TheVariants as ending
 use Rattle.plan.specs.declared.step.Step.TheVariants.{Ended as Over}
 use Rattle.plan.specs.Planned.{IsNextOf}
 use Rattle.work.specs.declared.cut.Cut.{Cut}
+use Rattle.work.specs.declared.setting.Setting.{Setting}
 use Rattle.work.specs.declared.state.State.{State}
 use Rattle.work.specs.declared.summary.Pause.{Pause}
 use Rattle.work.specs.declared.summary.Pause.TheVariants.{Load, Ended}
 use Rattle.work.specs.declared.summary.Summary.{Summary}
 use Rattle.work.specs.declared.summary.Summary.TheVariants.{Well, Failed}
+use Rattle.work.specs.declared.turn.Halt.{Halt}
 use Rattle.work.specs.Course.{Course, edges_of, IsSince}
-use Rattle.work.specs.Going.{IsInHand, IsAtLoad, IsFinished}
+use Rattle.work.specs.Going.{IsInHand, IsAtLoad, IsFinished, IsHalted, IsCut, From}
 use Rattle.work.specs.Removing.{AreRemoved}
 
 -- a run that was not cut off went on until nothing was left to do
@@ -59,7 +62,32 @@ abbrev pub HasFinished : Bool → Course → Graph → State → World → Resul
 HasFinished tells course graph state new (Ok done) = IsFinished tells course graph state new
 HasFinished tells course graph state new (Err cut) = HasRun tells course new (Err cut)
 
+-- of each course on which the run stood there, and went on, it has paused so,
+abbrev pub PausesSo : Bool → Setting → World → World → State → State → Result Pause Cut → Type 0
+PausesSo tells setting old new before after result = From tells true setting before old (λ course. HasPaused tells course setting.graph.now after new result)
+
+-- or ended so after a refused load
+abbrev pub EndsSo : Bool → Setting → World → World → State → State → Result (Unit {0}) Cut → Type 0
+EndsSo tells setting old new before after result = From tells false setting before old (λ course. HasFinished tells course setting.graph.now after new result)
+
+-- what had cut a run off, whatever its course, its steps and the edge that met it, has cut it off still
+abbrev pub CutsStay : Bool → World → World → Type 0
+CutsStay tells old new =
+    (course : Course) (steps : List Step) (met : Option ℕ) → IsCutOff tells course.behaviour course.format course.own course.asked course.store course.phases steps met course.entry old
+    → IsCutOff tells course.behaviour course.format course.own course.asked course.store course.phases steps met course.entry new
+
 -- a pause names a path of the graph, or edges of it
 abbrev pub IsPauseOf : Graph → Pause → Type 0
 IsPauseOf graph (Load file) = file < length graph.manifest.paths
 IsPauseOf graph (Ended summary) = AreEdgesOf graph summary
+
+-- ---- why a run pauses
+
+-- each run that halted so has paused so
+abbrev pub Pauses : State → State → Halt → Pause → Type 0
+Pauses old new halt pause =
+    (tells : Bool) (course : Course) (graph : Graph) (now : World) → IsHalted tells course graph old now halt → HasPaused tells course graph new now (Ok pause) × IsPauseOf graph pause
+
+-- of each run that the fault cut off, it has ended so
+abbrev pub EndsCut : Bool → Plan → World → World → Cut → Type 0
+EndsCut tells plan old new cut = (course : Course) (graph : Graph) → IsCut tells course graph plan old → HasRun tells course new (Err cut)

@@ -1,5 +1,5 @@
 -- The recorded inputs that are in use, in the graph.
-use Rattle.std.specs.Prelude.{◌≡◌, ◌<◌, ◌==◌, ℕ, suc, Bool, false, true, List, [], ◌++◌, length, take, Option, Some, None, is_some, slice_get, get_or, if◌then◌else◌}
+use Rattle.std.specs.Prelude.{◌≡◌, ◌<◌, ◌==◌, ◌+◌, ℕ, suc, Bool, false, true, List, [], ◌++◌, length, take, Option, Some, None, is_some, slice_get, get_or, if◌then◌else◌}
 use Rattle.std.specs.List.{list_all}
 use Rattle.model.specs.declared.act.Act.{Act}
 use Rattle.model.specs.declared.graph.Edge.{Edge}
@@ -13,7 +13,8 @@ use Rattle.graph.specs.Held.{list_at}
 use Rattle.graph.specs.Told.{declared_by, recorded_by, AreSameInputs}
 use Rattle.log_text.specs.Kept.{joined}
 use Rattle.records.specs.declared.records.Records.{Records}
-use Rattle.records.specs.Known.{AreKnown}
+use Rattle.records.specs.Known.{IsOf, IsOfDeps, AreKnown}
+use Rattle.judge.specs.Facts.{AreKnownOf}
 
 -- each of these outputs has a record of this act in force, and a deps record of the same start
 abbrev pub are_known : List Record → List DepsRecord → Act → List (List ℕ) → Bool
@@ -93,6 +94,15 @@ pub record HasJoinedOf (edges : List ℕ) (old new : Graph) (rs : List Record) (
   pub joined : (e : ℕ) → has_number edges e ≡ true → IsJoined new rs ds e
   pub others : (e : ℕ) → has_number edges e ≡ false → list_at new.recorded e ≡ list_at old.recorded e
 
+-- the graph has more paths, and only these edges may have got recorded inputs
+pub record HasGrownAt (edges : List ℕ) (old new : Graph) : Type 0 where
+  pub grown : HasMorePaths old new
+  pub others : (e : ℕ) → has_number edges e ≡ false → list_at new.recorded e ≡ list_at old.recorded e
+
+-- so they did, of whatever records these are
+abbrev pub Joins : List ℕ → Graph → Graph → Records → Type 0
+Joins edges old new records = (rs : List Record) (ds : List DepsRecord) → AreKnown old rs ds records → AreToJoin edges old rs ds → HasJoinedOf edges old new rs ds
+
 -- Of each of these edges the recorded inputs of the graph are those in use by these records; the others have none.
 pub record AreJoined (graph : Graph) (rs : List Record) (ds : List DepsRecord) (count : ℕ) : Type 0 where
   pub joined : (e : ℕ) → e < count → (p : List ℕ) → has (recorded_by graph (suc e)) p ≡ has (recorded_inputs (record { records = rs; deps = ds }) (declared_by graph).edges (suc e)) p
@@ -108,3 +118,54 @@ pub record HasJoined (old new : Graph) (rs : List Record) (ds : List DepsRecord)
 -- no edge has a recorded input
 abbrev pub IsUnrecorded : Graph → Type 0
 IsUnrecorded graph = (i : ℕ) → recorded_by graph i ≡ []
+
+-- ---- what the functions of this crate leave
+
+-- the records are known of the graph, and no edge of it has a recorded input: then those that are in use join it
+abbrev pub JoinsAll : Graph → Graph → Records → Type 0
+JoinsAll old new records = (rs : List Record) (ds : List DepsRecord) → AreKnown old rs ds records → IsUnrecorded old → HasJoined old new rs ds records
+
+-- the recorded inputs of the edge are those in use, where what it had are among them
+abbrev pub JoinsEdge : Graph → Graph → Records → ℕ → Type 0
+JoinsEdge old new records edge = (rs : List Record) (ds : List DepsRecord) → AreKnown old rs ds records → MayBeJoined old rs ds edge → IsJoined new rs ds edge
+
+-- paths of the deps log keep the numbers that they have
+abbrev pub StayNumbered : Graph → Graph → Records → List (Option ℕ) → List (Option ℕ) → Type 0
+StayNumbered old new records was now = AreNumbered old (texts_of records) was → AreNumbered new (texts_of records) now
+
+-- these paths come behind just those that the numbers had
+abbrev pub AddsJust : Graph → Graph → Records → List (Option ℕ) → List ℕ → List ℕ → List (List ℕ) → Type 0
+AddsJust old new records numbers before after added = (paths : List (List ℕ)) → AreNumbered old (texts_of records) numbers → HaveJust old before paths → HaveJust new after (paths ++ added)
+
+-- what the records in force of the outputs name, up to one output more
+abbrev pub AddsNamed : Graph → Graph → Records → List (Option ℕ) → List ℕ → List ℕ → List ℕ → ℕ → Type 0
+AddsNamed old new records numbers before after outputs place =
+    (paths : List (List ℕ)) (rs : List Record) (ds : List DepsRecord) → AreKnownOf paths outputs rs ds records → AreNumbered old (texts_of records) numbers
+    → HaveJust old before (named_by paths ds outputs place) → HaveJust new after (named_by paths ds outputs (place + 1))
+
+-- all that they name
+abbrev pub PutsNamed : Graph → Graph → Records → List (Option ℕ) → List ℕ → List (List ℕ) → Type 0
+PutsNamed old new records numbers inputs outputs =
+    (rs : List Record) (ds : List DepsRecord) → AreKnown old rs ds records → AreNumbered old (texts_of records) numbers → HaveJust new inputs (all_paths_in ds outputs)
+
+-- of whatever texts of the deps log, of which this path has this text, paths keep the numbers that they have,
+abbrev pub StayNumberedBy : Graph → Graph → ℕ → List ℕ → List (Option ℕ) → List (Option ℕ) → Type 0
+StayNumberedBy old new path text was now = (texts : List (List ℕ)) → slice_get texts path ≡ Some text → AreNumbered old texts was → AreNumbered new texts now
+
+-- and this is the number of the path
+abbrev pub IsNumberBy : Graph → Graph → ℕ → List ℕ → List (Option ℕ) → ℕ → Type 0
+IsNumberBy old new path text was number =
+    (texts : List (List ℕ)) → slice_get texts path ≡ Some text → AreNumbered old texts was → (number < length new.manifest.paths) × (text_at new.manifest.paths number ≡ text)
+
+-- ---- what is known of outputs
+
+-- whether the output is known to be of this act, by whatever records these are
+abbrev pub IsKnownBy : Act → ℕ → Records → Bool → Type 0
+IsKnownBy act output records known =
+    (paths : List (List ℕ)) (rs : List Record) (ds : List DepsRecord) → IsOf rs paths records → IsOfDeps ds paths records → output < length paths
+    → known ≡ is_known act (in_force rs (text_at paths output)) (deps_in_force ds (text_at paths output))
+
+-- whether each of them is
+abbrev pub AreKnownBy : Act → List ℕ → Records → Bool → Type 0
+AreKnownBy act outputs records known =
+    (paths : List (List ℕ)) (rs : List Record) (ds : List DepsRecord) → AreKnownOf paths outputs rs ds records → known ≡ are_known rs ds act (texts_at paths outputs)

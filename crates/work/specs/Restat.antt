@@ -1,5 +1,5 @@
 -- Outputs of commands with `restat` (manual: "Rule variables"): which of them count as changed.
-use Rattle.std.specs.Prelude.{◌≡◌, ◌<◌, ◌==◌, not, ℕ, Bool, true, false, List, length, slice_index}
+use Rattle.std.specs.Prelude.{◌≡◌, ◌<◌, ◌==◌, not, ℕ, Bool, true, false, List, length, slice_index, slice_index_or}
 use Rattle.plan.specs.Flags as flags
 use Rattle.model.specs.World.{World}
 use Rattle.model.specs.Graph.{has_number}
@@ -10,6 +10,8 @@ use Rattle.judge.specs.declared.looks.Look.TheVariants.{Unasked, Absent, Stamp}
 use Rattle.judge.specs.declared.looks.Looks.{Looks}
 use Rattle.judge.specs.Looking.{HasLooked}
 use Rattle.judge.specs.Seen.{look_at, is_asked}
+use Rattle.work.specs.declared.state.State.{State}
+use Rattle.work.specs.EdgeIn.{edge_in}
 
 -- both show a file, of one stamp
 abbrev pub is_same_look : Look → Look → Bool
@@ -23,6 +25,28 @@ is_same_look (Stamp before) (Stamp after) = before == after
 pub record AreChangesOf (before after : List Look) (paths : List ℕ) (given : List Bool) : Type 0 where
   pub fits : length given ≡ length paths
   pub are : (k : ℕ) → k < length paths → flags.has given k ≡ not (is_same_look (look_at before (slice_index paths k)) (look_at after (slice_index paths k)))
+
+-- this was seen of each of these paths
+abbrev pub AreLooksOf : List Look → List ℕ → List Look → Type 0
+AreLooksOf looks paths seen = (length seen ≡ length paths) × ((k : ℕ) → k < length paths → slice_index_or seen k Unasked ≡ look_at looks (slice_index paths k))
+
+-- each flag says whether what is seen of the path at its place differs from what was
+abbrev pub AreFlagsOf : List Look → List ℕ → List Look → List Bool → Type 0
+AreFlagsOf looks paths before given =
+    (length given ≡ length paths) × ((k : ℕ) → k < length paths → flags.has given k ≡ not (is_same_look (slice_index_or before k Unasked) (look_at looks (slice_index paths k))))
+
+-- with `restat` each output of the edge was asked for
+abbrev pub AreAskedBefore : Graph → ℕ → Looks → Type 0
+AreAskedBefore graph e looks = (edge_in graph e).restat ≡ true → (p : ℕ) → has_number ((links_of graph).outputs e) p ≡ true → is_asked (look_at looks.seen.items p) ≡ true
+
+-- of each output of the edge the flag says whether what is seen of it differs from what was,
+abbrev pub FlagsDiffer : Graph → ℕ → State → State → Type 0
+FlagsDiffer graph e before after =
+    (p : ℕ) → has_number ((links_of graph).outputs e) p ≡ true → flags.has after.plan.changed.items p ≡ not (is_same_look (look_at before.looks.seen.items p) (look_at after.looks.seen.items p))
+
+-- and of other paths it is as it was
+abbrev pub FlagsStay : Graph → ℕ → State → State → Type 0
+FlagsStay graph e before after = (p : ℕ) → has_number ((links_of graph).outputs e) p ≡ false → flags.has after.plan.changed.items p ≡ flags.has before.plan.changed.items p
 
 -- Whether the flag of an output is right, by what was seen of it before and is now: where these are compared it tells whether the stamp
 -- differs, else it is set.

@@ -199,14 +199,14 @@ pub record IsStopped (tells : Bool) (tick : List ℕ) (course : Course) (edges :
   pub stands : StandsAt tells tick course edges phases graph cone state now
   pub cause : IsRefusedBy tells course edges phases stands.on.steps now refusal
 
--- A fault has cut it off, before the load or behind it, over these edges.
-pub record IsCutThere (tells : Bool) (course : Course) (grown : List Edge) (state : State) (now : World) : Type 0 where
+-- A fault has cut it off where it stood, over these edges.
+pub record IsCutThere (tells : Bool) (course : Course) (edges : List Edge) (state : State) (now : World) : Type 0 where
   pub phases : List Phase
   pub graph : Graph
-  pub cut : IsCut tells (grown_course course grown phases) graph state.plan now
-  pub once : IsMadeOnce grown
-  pub acyclic : HasNoCycle (asked_with course.asked grown) course.store
-  pub asked : HadAsked tells course grown phases cut.cut.phased.build.last now
+  pub cut : IsCut tells (grown_course course edges phases) graph state.plan now
+  pub once : IsMadeOnce edges
+  pub acyclic : HasNoCycle (asked_with course.asked edges) course.store
+  pub asked : HadAsked tells course edges phases cut.cut.phased.build.last now
 
 -- ---- where a run halts
 
@@ -314,10 +314,108 @@ abbrev pub HasHalted : Bool → List ℕ → Course → List Edge → Graph → 
 HasHalted tells tick course grown graph cone state now (stop.Refused refusal) = IsRefusedAt tells tick course grown graph cone state now refusal
 HasHalted tells tick course grown graph cone state now (stop.Fault fault) = WasCut tells course grown now fault
 
+-- ---- what a load leaves
+
+-- this file is to be loaded next by some build, whatever was asked for
+abbrev pub IsToLoad : Bool → Graph → Cone → State → ℕ → World → Type 0
+IsToLoad tells graph cone state file now =
+    (tick : List ℕ) × (course : Course) × (edges : List Edge) × (phases : List Phase)
+    × (stands : StandsAt tells tick course edges phases graph cone state now) × IsLoadNext course edges graph state stands.on.steps file
+
+-- this file is loaded next by some build
+abbrev pub IsLoading : Bool → Graph → Cone → State → ℕ → World → Type 0
+IsLoading tells graph cone state file now =
+    (tick : List ℕ) × (course : Course) × (edges : List Edge) × (phases : List Phase) × IsAtNextLoad tells tick course edges phases graph cone state file now
+
+-- of each such build a phase begins,
+abbrev pub Loads : Bool → ℕ → Graph → Cone → State → World → Graph → Cone → State → World → Type 0
+Loads tells file graph cone state old grown next after new =
+    (tick : List ℕ) (course : Course) (edges : List Edge) (phases : List Phase) → IsAtNextLoad tells tick course edges phases graph cone state file old
+    → HasBegun tells tick course phases grown next after new
+
+-- or each that is to load it stands where it stood, and the refusal has its cause,
+abbrev pub RefusesAt : Bool → ℕ → Graph → Cone → State → World → Graph → Cone → State → World → Refusal → Type 0
+RefusesAt tells file graph cone state old grown next after new refusal =
+    (tick : List ℕ) (course : Course) (edges : List Edge) (phases : List Phase) → (stands : StandsAt tells tick course edges phases graph cone state old)
+    → IsLoadNext course edges graph state stands.on.steps file → IsStopped tells tick course edges phases grown next after new refusal
+
+-- or it is stopped, before what runs is taken in,
+abbrev pub StopsAt : Bool → ℕ → Graph → Cone → State → World → Graph → Cone → State → World → Stop → Type 0
+StopsAt tells file graph cone state old grown next after new stop =
+    (tick : List ℕ) (course : Course) (edges : List Edge) (phases : List Phase) → IsAtNextLoad tells tick course edges phases graph cone state file old
+    → StoppedThere tells tick course (declared_by grown).edges grown next after new stop
+
+-- and behind that
+abbrev pub HaltsAt : Bool → ℕ → Graph → Cone → State → World → Graph → Cone → State → World → Stop → Type 0
+HaltsAt tells file graph cone state old grown next after new stop =
+    (tick : List ℕ) (course : Course) (edges : List Edge) (phases : List Phase) → IsAtNextLoad tells tick course edges phases graph cone state file old
+    → HasHalted tells tick course (declared_by grown).edges grown next after new stop
+
 -- a run waits for a load, or has ended
 abbrev pub HasPausedSo : Bool → List ℕ → Course → List Edge → List Phase → Graph → Cone → State → World → Pause → Type 0
 HasPausedSo tells tick course edges phases graph cone state now (pause.Load file) = IsAtNextLoad tells tick course edges phases graph cone state file now
 HasPausedSo tells tick course edges phases graph cone state now (pause.Ended summary) = HasDone tells course edges graph cone now summary
+
+-- ---- what a run leaves that begins with a phase
+
+-- a phase begins of some build
+abbrev pub IsBeginning : Bool → List ℕ → Graph → Cone → State → World → Type 0
+IsBeginning tells tick graph cone state now = (course : Course) × (edges : List Edge) × (phases : List Phase) × BeginsAt tells tick course edges phases graph cone state now
+
+-- each such build has ended so, over the edges that the graph has then,
+abbrev pub EndsFrom : Bool → List ℕ → Graph → Cone → State → World → Graph → Cone → World → Result Summary Stop → Type 0
+EndsFrom tells tick graph cone state old grown next new result =
+    (course : Course) (edges : List Edge) (phases : List Phase) → BeginsAt tells tick course edges phases graph cone state old → HasEndedSo tells course (declared_by grown).edges grown next new result
+
+-- or nothing is left to do,
+abbrev pub DoneFrom : Bool → List ℕ → Graph → Cone → State → World → Graph → Cone → World → Summary → Type 0
+DoneFrom tells tick graph cone state old grown next new summary =
+    (course : Course) (edges : List Edge) (phases : List Phase) → BeginsAt tells tick course edges phases graph cone state old → HasDone tells course (declared_by grown).edges grown next new summary
+
+-- or it has halted
+abbrev pub HaltsFrom : Bool → List ℕ → Graph → Cone → State → World → Graph → Cone → State → World → Stop → Type 0
+HaltsFrom tells tick graph cone state old grown next after new stop =
+    (course : Course) (edges : List Edge) (phases : List Phase) → BeginsAt tells tick course edges phases graph cone state old → HasHalted tells tick course (declared_by grown).edges grown next after new stop
+
+-- it pauses so,
+abbrev pub PausesFrom : Bool → List ℕ → Graph → Cone → State → World → State → World → Pause → Type 0
+PausesFrom tells tick graph cone state old after new pause =
+    (course : Course) (edges : List Edge) (phases : List Phase) → BeginsAt tells tick course edges phases graph cone state old → HasPausedSo tells tick course edges phases graph cone after new pause
+
+-- or has halted, over the same edges
+abbrev pub HaltsOver : Bool → List ℕ → Graph → Cone → State → World → State → World → Stop → Type 0
+HaltsOver tells tick graph cone state old after new stop =
+    (course : Course) (edges : List Edge) (phases : List Phase) → BeginsAt tells tick course edges phases graph cone state old → HasHalted tells tick course edges graph cone after new stop
+
+-- a phase begins of some build, whatever its ticks,
+abbrev pub IsBeginningBy : Bool → Graph → Cone → State → World → Type 0
+IsBeginningBy tells graph cone state now = (tick : List ℕ) × (course : Course) × (edges : List Edge) × (phases : List Phase) × BeginsAt tells tick course edges phases graph cone state now
+
+-- and of each such build the sources were asked for,
+abbrev pub AsksFrom : Bool → Graph → Cone → State → World → State → World → Type 0
+AsksFrom tells graph cone state old after new =
+    (tick : List ℕ) (course : Course) (edges : List Edge) (phases : List Phase) → BeginsAt tells tick course edges phases graph cone state old → HasSourcesAt tells tick course edges phases graph cone after new
+
+-- or it has halted
+abbrev pub HaltsAsking : Bool → Graph → Cone → State → World → State → World → Stop → Type 0
+HaltsAsking tells graph cone state old after new stop =
+    (tick : List ℕ) (course : Course) (edges : List Edge) (phases : List Phase) → BeginsAt tells tick course edges phases graph cone state old → HasHalted tells tick course edges graph cone after new stop
+
+-- ---- behind a stop
+
+-- wherever a build with this plan was stopped, it has halted so
+abbrev pub HaltsBehind : Bool → Plan → World → World → Stop → Stop → Type 0
+HaltsBehind tells plan old new first last =
+    (tick : List ℕ) (course : Course) (grown : List Edge) (graph : Graph) (cone : Cone) (state : State) → state.plan ≡ plan → StoppedThere tells tick course grown graph cone state old first → HasHalted tells tick course grown graph cone state new last
+
+-- it is refused where some build stands
+abbrev pub IsRefusedOf : Bool → List ℕ → Graph → State → World → Refusal → Type 0
+IsRefusedOf tells tick graph state now refusal = (course : Course) × (grown : List Edge) × (cone : Cone) × IsRefusedAt tells tick course grown graph cone state now refusal
+
+-- each build that has halted there has ended so
+abbrev pub EndsHalted : Bool → List ℕ → Graph → State → World → World → Stop → Stop → Type 0
+EndsHalted tells tick graph state old new first last =
+    (course : Course) (grown : List Edge) (cone : Cone) → HasHalted tells tick course grown graph cone state old first → HasEndedSo tells course grown graph cone new (Err last)
 
 -- what it answers, as far as faults go
 abbrev pub stop_answer : Result Summary Stop → Answer

@@ -1,6 +1,7 @@
 -- What a command told in its depfile, from its end until that is recorded.
-use Rattle.std.specs.Prelude.{◌≡◌, ◌≢◌, ℕ, ◌&&◌, not, Bool, true, IsTrue, List, [], Option, Some, None, Ok, Err, is_some}
+use Rattle.std.specs.Prelude.{◌≡◌, ◌≢◌, ℕ, suc, ◌&&◌, not, Bool, true, IsTrue, List, [], ◌∷◌, ◌++◌, Option, Some, None, Ok, Err, is_some}
 use Rattle.model.specs.declared.act.Act.{Act}
+use Rattle.model.specs.declared.event.Event.TheVariants.{Finish}
 use Rattle.model.specs.declared.event.Moment.{Moment}
 use Rattle.model.specs.World.{World, file_at, content_of, view_of}
 use Rattle.model.specs.Calls.{OnlyLooks, Sees, Finishes}
@@ -13,11 +14,14 @@ use Rattle.model.specs.Kept.{StartedUnder}
 use Rattle.depfile.specs.declared.fault.DepFault.{DepFault}
 use Rattle.depfile.specs.Depfile.{IsRead}
 use Rattle.graph.specs.declared.graph.Graph.{Graph}
+use Rattle.graph.specs.Told.{declared_by}
 use Rattle.records.specs.Logging.{NoneInForce}
-use Rattle.work.specs.Course.{Course, edges_of, IsOn}
-use Rattle.work.specs.Going.{MayTakeIn}
+use Rattle.work.specs.Course.{Course, edges_of, Suits, IsOn}
+use Rattle.work.specs.Going.{MayTakeIn, IsCut}
+use Rattle.work.specs.Removing.{EndsByRemoving}
 use Rattle.work.specs.declared.reported.Told.{Told}
 use Rattle.work.specs.declared.reported.Told.TheVariants.{Nothing, Inputs, Refused}
+use Rattle.work.specs.declared.setting.Setting.{Setting}
 use Rattle.work.specs.declared.state.State.{State}
 
 -- ---- what is read
@@ -62,6 +66,20 @@ pub record IsEnding (tells : Bool) (course : Course) (graph : Graph) (i : ℕ) (
   pub looks : OnlyLooks tells mid now
   pub read : WasRead tells (edge_at (edges_of course) i).act ok mid now told
 
+-- so it is of some course, of the edge at this place
+abbrev pub IsEndingOf : Bool → List ℕ → Graph → ℕ → Bool → Told → State → World → Type 0
+IsEndingOf tells tick graph edge ok told state now = (course : Course) × Suits course tick graph × IsEnding tells course graph (suc edge) ok told state now
+
+-- of each such course the run goes on,
+abbrev pub EndsOn : Bool → Setting → ℕ → Bool → Told → World → World → State → State → Type 0
+EndsOn tells setting edge ok told old new before after =
+    (course : Course) → Suits course setting.tick.now setting.graph.now → IsEnding tells course setting.graph.now (suc edge) ok told before old → IsOn tells course setting.graph.now None after new
+
+-- or a fault has cut it off
+abbrev pub CutsEnd : Bool → Setting → ℕ → Bool → Told → World → World → State → State → Type 0
+CutsEnd tells setting edge ok told old new before after =
+    (course : Course) → Suits course setting.tick.now setting.graph.now → IsEnding tells course setting.graph.now (suc edge) ok told before old → IsCut tells course setting.graph.now after.plan new
+
 -- ---- what is to be recorded
 
 -- The command of edge i, which ended well, told these paths: those that its depfile listed when it ended, each once. One without
@@ -81,3 +99,8 @@ pub record WentWell (tells : Bool) (course : Course) (steps : List Done) (i stam
   pub ended : IsTrue tells → (at : List Moment) × EndedAt i course.entry.history now.history at
   pub none : NoneInForce tells course.format course.own (edges_of course) i course.entry now
   pub told : HasTold tells course i said now
+
+-- the command that ended well, and was not noted as failed, has had its response file removed last
+abbrev pub RemovesWhatEnded : Bool → Graph → World → World → State → State → Type 0
+RemovesWhatEnded tells graph old new before after =
+    (i : ℕ) → new.events ≡ old.events ++ Finish i true ∷ [] → after.failed ≡ before.failed → EndsByRemoving tells (edge_at (declared_by graph).edges i).act old new

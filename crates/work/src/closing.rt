@@ -1,15 +1,14 @@
 //! Ending a run whose next load was refused.
 
-ghost use Rattle.std.specs.Prelude.{◌≡◌, None, false, IfOk, IfErr, OnOk, OnErr};
+ghost use Rattle.std.specs.Prelude.{◌≡◌, false, IfOk, IfErr, OnOk, OnErr};
 ghost use Rattle.model.specs.SingleBuild.{PassesNoFault};
 ghost use Rattle.model.specs.SingleBuild as answer;
 ghost use Rattle.theory.specs.Seen.{IsSeen, Unrefused, StartsUnrefused};
 ghost use Rattle.work.specs.After.{ComesAfter, LooksUnlessMore};
-ghost use Rattle.work.specs.Course.{Course, goes_on, Suits, IsOn};
 ghost use Rattle.work.specs.Cut.{fault_of, IsLeft};
 ghost use Rattle.work.specs.Cutting.{Cuts};
-ghost use Rattle.work.specs.Going.{IsGoing, IsFinished, IsCut, AreSet};
-ghost use Rattle.work.specs.Ran.{HasFinished};
+ghost use Rattle.work.specs.Going.{IsGoing, TakesAllIn, CutsTaking};
+ghost use Rattle.work.specs.Ran.{EndsSo};
 
 use crate::cut::Cut;
 use crate::rest::take_in_rest;
@@ -22,9 +21,8 @@ use site::Site;
 /// recorded and shown as in a run that goes on; nothing is judged or started. A fault is answered as by `run_plan`.
 pub fn finish<S: Site>(site: &mut S, setting: Setting<'_>, state: &mut State<'_>) -> Result<(), Cut>
     requires running { (S.world site.old).stopped ≡ false }
-    requires going { (going : IsGoing S.tells setting.tick.now setting.graph.now state.old (S.world site.old)) × (goes_on going.course ≡ false) }
-    requires enough { AreSet setting.graph.now state.old.set.items }
-    ensures ran { (course : Course) → Suits course setting.entry.tick.now setting.entry.graph.now → goes_on course ≡ false → IsOn S.tells course setting.entry.graph.now None state.old (S.world site.old) → HasFinished S.tells course setting.entry.graph.now state.new (S.world site.new) result }
+    requires going { IsGoing S.tells false setting.tick.now setting.graph.now state.old (S.world site.old) }
+    ensures ran { EndsSo S.tells setting.entry (S.world site.old) (S.world site.new) state.old state.new result }
     ensures grows { ComesAfter S.tells (S.world site.old) (S.world site.new) }
     ensures looked { OnOk result (LooksUnlessMore S.tells setting.entry.graph.now (S.world site.old) (S.world site.new) state.old.looks state.new.looks) }
     ensures calm { IfOk result (λ done. Unrefused (S.world site.old) (S.world site.new)) }
@@ -46,13 +44,12 @@ fn take_in_running<S: Site>(
     state: &mut State<'_>,
 ) -> Result<(), Cut>
     requires running { (S.world site.old).stopped ≡ false }
-    requires going { (going : IsGoing S.tells setting.tick.now setting.graph.now state.old (S.world site.old)) × (goes_on going.course ≡ false) }
-    requires enough { AreSet setting.graph.now state.old.set.items }
+    requires going { IsGoing S.tells false setting.tick.now setting.graph.now state.old (S.world site.old) }
     ensures cuts { Cuts (S.world site.old) (S.world site.new) result }
     ensures grows { ComesAfter S.tells (S.world site.old) (S.world site.new) }
     ensures looked { OnOk result (LooksUnlessMore S.tells setting.entry.graph.now (S.world site.old) (S.world site.new) state.old.looks state.new.looks) }
-    ensures finished { OnOk result ((course : Course) → Suits course setting.entry.tick.now setting.entry.graph.now → goes_on course ≡ false → IsOn S.tells course setting.entry.graph.now None state.old (S.world site.old) → IsFinished S.tells course setting.entry.graph.now state.new (S.world site.new)) }
-    ensures cut { OnErr result ((course : Course) → Suits course setting.entry.tick.now setting.entry.graph.now → goes_on course ≡ false → IsOn S.tells course setting.entry.graph.now None state.old (S.world site.old) → IsCut S.tells course setting.entry.graph.now state.new.plan (S.world site.new)) }
+    ensures finished { OnOk result (TakesAllIn S.tells setting.entry (S.world site.old) (S.world site.new) state.old state.new) }
+    ensures cut { OnErr result (CutsTaking S.tells setting.entry (S.world site.old) (S.world site.new) state.old state.new) }
 {
     'run: while state.plan.running() > 0 {
         take_in(site, setting, state)?;

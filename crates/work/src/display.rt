@@ -1,10 +1,9 @@
 //! What is shown at the start and at the end of commands.
 
-ghost use Rattle.std.specs.Prelude.{◌≡◌, ◌⊎◌, ◌<◌, ◌++◌, suc, true, false, [], length, List, ℕ, None, IfOk, OnOk, OnErr, IsOk};
+ghost use Rattle.std.specs.Prelude.{◌≡◌, ◌⊎◌, ◌<◌, ◌++◌, true, false, [], length, List, ℕ, None, IfOk, OnOk, OnErr, IsOk};
 ghost use Rattle.model.specs.Calls.{OnlyLooks, HasCause};
-ghost use Rattle.model.specs.Graph.{edge_at};
-ghost use Rattle.graph.specs.Told.{declared_by};
 ghost use Rattle.status.specs.Screen.{held};
+ghost use Rattle.work.specs.EdgeIn.{edge_in};
 ghost use Rattle.work.specs.Shown.{is_console, unstarted_after, with_one_more, AreCounts, command_line, end_text, with_unstarted, with_held, shown_now, behind, counted_off, TakesTerminal, released, Ends, ends_silently};
 
 use crate::endings::{push_end, said};
@@ -126,8 +125,8 @@ impl<'a> Display<'a> {
         requires within { edge < length graph.now.manifest.lines }
         ensures looks { OnlyLooks S.tells (S.world site.old) (S.world site.new) }
         ensures cause { HasCause (S.world site.old) (S.world site.new) result }
-        ensures others { is_console (edge_at (declared_by graph.now).edges (suc edge)) ≡ false → IsOk result × (self.new ≡ counted_off self.old) × (S.world site.new ≡ S.world site.old) }
-        ensures console { is_console (edge_at (declared_by graph.now).edges (suc edge)) ≡ true → OnOk result (TakesTerminal progress (edge_at (declared_by graph.now).edges (suc edge)) self.old self.new) }
+        ensures others { is_console (edge_in graph.now edge) ≡ false → IsOk result × (self.new ≡ counted_off self.old) × (S.world site.new ≡ S.world site.old) }
+        ensures console { is_console (edge_in graph.now edge) ≡ true → OnOk result (TakesTerminal progress (edge_in graph.now edge) self.old self.new) }
         ensures err { OnErr result (self.new ≡ counted_off self.old) }
     {
         self.unstarted = self.unstarted.saturating_sub(1);
@@ -161,8 +160,8 @@ impl<'a> Display<'a> {
         requires within { edge < length graph.now.manifest.lines }
         ensures looks { OnlyLooks S.tells (S.world site.old) (S.world site.new) }
         ensures cause { HasCause (S.world site.old) (S.world site.new) result }
-        ensures ok { OnOk result ((shown : List ℕ) × Ends progress (edge_at (declared_by graph.now).edges (suc edge)) finished.now.ok depfile.entry finished.now.output self.old self.new shown) }
-        ensures silent { ends_silently (edge_at (declared_by graph.now).edges (suc edge)) finished.now.ok self.old.held ≡ true → (S.world site.new ≡ S.world site.old) }
+        ensures ok { OnOk result ((shown : List ℕ) × Ends progress (edge_in graph.now edge) finished.now.ok depfile.entry finished.now.output self.old self.new shown) }
+        ensures silent { ends_silently (edge_in graph.now edge) finished.now.ok self.old.held ≡ true → (S.world site.new ≡ S.world site.old) }
         ensures err { OnErr result ((self.new ≡ self.old) ⊎ (self.new ≡ released self.old)) }
     {
         let shown = self.ended(graph, edge, finished, depfile, progress)?;
@@ -179,7 +178,7 @@ impl<'a> Display<'a> {
         progress: Progress,
     ) -> Result<Vec<u8>, AllocError>
         requires { edge < length graph.now.manifest.lines }
-        ensures ok { IfOk result (λ shown. Ends progress (edge_at (declared_by graph.now).edges (suc edge)) finished.now.ok depfile.entry finished.now.output self.old self.new shown.items) }
+        ensures ok { IfOk result (λ shown. Ends progress (edge_in graph.now edge) finished.now.ok depfile.entry finished.now.output self.old self.new shown.items) }
         ensures err { OnErr result ((self.new ≡ self.old) ⊎ (self.new ≡ released self.old)) }
     {
         let counts = progress.counts(self.unstarted);
@@ -194,7 +193,7 @@ impl<'a> Display<'a> {
     /// The line of a command, with its newline.
     fn line(&self, graph: &Graph, edge: EdgeId, counts: &Counts) -> Result<Vec<u8>, AllocError>
         requires { edge < length graph.now.manifest.lines }
-        ensures { IfOk result (λ line. line.items ≡ command_line self.now.pattern self.now.verbose counts.now (edge_at (declared_by graph.now).edges (suc edge))) }
+        ensures { IfOk result (λ line. line.items ≡ command_line self.now.pattern self.now.verbose counts.now (edge_in graph.now edge)) }
     {
         line(
             self.alloc,
@@ -214,7 +213,7 @@ impl<'a> Display<'a> {
         counts: &Counts,
     ) -> Result<Vec<u8>, AllocError>
         requires { edge < length graph.now.manifest.lines }
-        ensures { IfOk result (λ text. text.items ≡ end_text self.now.pattern self.now.verbose counts.now (edge_at (declared_by graph.now).edges (suc edge)) finished.now.ok depfile.entry finished.now.output) }
+        ensures { IfOk result (λ text. text.items ≡ end_text self.now.pattern self.now.verbose counts.now (edge_in graph.now edge) finished.now.ok depfile.entry finished.now.output) }
     {
         if has_terminal(graph, edge) {
             let mut text = Vec::new(self.alloc);

@@ -1,10 +1,10 @@
 //! The texts of a command, from its edge.
 
-ghost use Rattle.std.specs.Prelude.{◌≡◌, ◌<◌, ◌++◌, suc, length, map, Some, None, IfOk, OnOk};
-ghost use Rattle.model.specs.Graph.{edge_at, outputs};
-ghost use Rattle.graph.specs.Told.{declared_by};
+ghost use Rattle.std.specs.Prelude.{◌≡◌, ◌<◌, ◌++◌, length, map, Some, None, IfOk, OnOk};
+ghost use Rattle.model.specs.Graph.{outputs};
 ghost use Rattle.status.specs.Line.{said_of};
 ghost use Rattle.status.specs.Ending.{ending_text};
+ghost use Rattle.work.specs.EdgeIn.{edge_in};
 ghost use Rattle.work.specs.Shown.{failure_of};
 
 use graph::Graph;
@@ -15,7 +15,7 @@ use std::alloc::{AllocError, Global};
 /// What a line says of the command of an edge.
 pub fn said<'g>(verbose: bool, graph: &'g Graph, edge: EdgeId) -> &'g str
     requires { edge < length graph.now.manifest.lines }
-    ensures { result.now ≡ said_of verbose (edge_at (declared_by graph.now).edges (suc edge)).description (edge_at (declared_by graph.now).edges (suc edge)).act.command }
+    ensures { result.now ≡ said_of verbose (edge_in graph.now edge).description (edge_in graph.now edge).act.command }
 {
     match graph.manifest.action(edge) {
         Action::Alias => "",
@@ -39,7 +39,7 @@ pub fn push_end(
     printed: &[u8],
 ) -> Result<(), AllocError>
     requires { edge < length graph.now.manifest.lines }
-    ensures { OnOk result (text.new.items ≡ text.old.items ++ ending_text (record { failure = failure_of (edge_at (declared_by graph.now).edges (suc edge)) ok depfile.entry; output = printed.now })) }
+    ensures { OnOk result (text.new.items ≡ text.old.items ++ ending_text (record { failure = failure_of (edge_in graph.now edge) ok depfile.entry; output = printed.now })) }
 {
     if ok {
         let ending = Ending {
@@ -83,7 +83,7 @@ fn push_failed<'x>(
 /// The command line of an edge; nothing where it has none.
 fn command_of(graph: &Graph, edge: EdgeId) -> &str
     requires { edge < length graph.now.manifest.lines }
-    ensures { result.now ≡ (edge_at (declared_by graph.now).edges (suc edge)).act.command }
+    ensures { result.now ≡ (edge_in graph.now edge).act.command }
 {
     match graph.manifest.action(edge) {
         Action::Alias => "",
@@ -94,7 +94,7 @@ fn command_of(graph: &Graph, edge: EdgeId) -> &str
 /// All that an edge makes: its explicit outputs, then its implicit ones.
 fn outputs<'g>(alloc: Global, graph: &'g Graph, edge: EdgeId) -> Result<Vec<&'g str>, AllocError>
     requires { edge < length graph.now.manifest.lines }
-    ensures { IfOk result (λ texts. map (λ text. text.now) texts.items ≡ outputs (edge_at (declared_by graph.now).edges (suc edge))) }
+    ensures { IfOk result (λ texts. map (λ text. text.now) texts.items ≡ outputs (edge_in graph.now edge)) }
 {
     let mut texts = Vec::new(alloc);
     for output in graph.outputs(edge) {

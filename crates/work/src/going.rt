@@ -1,22 +1,18 @@
 //! Running a graph, and the dyndep files that are loaded on the way.
 
-ghost use Rattle.std.specs.Prelude.{◌≡◌, ◌<◌, List, ℕ, Option, None, false, Some, Err, IfOk, IfErr, OnOk, MatchOption};
-ghost use Rattle.model.specs.declared.graph.Edge.{Edge};
+ghost use Rattle.std.specs.Prelude.{◌≡◌, ◌<◌, ℕ, Option, None, false, Some, Err, IfOk, IfErr, OnOk, MatchOption};
 ghost use Rattle.model.specs.World.{World};
-ghost use Rattle.model.specs.Phases.{Phase};
 ghost use Rattle.model.specs.SingleBuild.{PassesNoFault};
 ghost use Rattle.theory.specs.Seen.{IsSeen};
-ghost use Rattle.graph.specs.declared.cone.Cone.{Cone as ConeOf};
 ghost use Rattle.graph.specs.declared.graph.Graph.{Graph as GraphOf};
 ghost use Rattle.graph.specs.Links.{links_of};
 ghost use Rattle.graph.specs.Told.{declared_by};
 ghost use Rattle.plan.specs.declared.step.Step.TheVariants as step;
-ghost use Rattle.plan.specs.Planned.{IsOffered, IsDueNext};
-ghost use Rattle.work.specs.declared.state.State.{State as StateOf};
+ghost use Rattle.plan.specs.Planned.{IsNext};
 ghost use Rattle.work.specs.Course.{Course};
-ghost use Rattle.work.specs.Going.{IsCut, AreSet};
+ghost use Rattle.work.specs.Going.{IsCut};
 ghost use Rattle.work.specs.Ran.{AreEdgesOf, IsPauseOf};
-ghost use Rattle.work.specs.Standing.{BeginsAt, IsAtNextLoad, HasSourcesAt, IsRefusedAt, HasBegun, HasDone, NoSourceIsDue, GoesWell, IsStopThere, IsStopOf, StoppedThere, HasHalted, HasPausedSo, HasEndedSo, IfRefused, IfFault, files_left, stop_answer};
+ghost use Rattle.work.specs.Standing.{NoSourceIsDue, GoesWell, IsStopThere, IsStopOf, IsBeginning, EndsFrom, DoneFrom, HaltsFrom, PausesFrom, HaltsOver, IsBeginningBy, AsksFrom, HaltsAsking, HaltsBehind, IsRefusedOf, EndsHalted, IsLoading, Loads, HaltsAt, IfRefused, IfFault, files_left, stop_answer};
 
 use crate::closing::finish;
 use crate::commands::unstarted_commands;
@@ -28,7 +24,7 @@ use crate::sources::check_sources;
 use crate::state::State;
 use crate::stop::Stop;
 use crate::summary::{Pause, Summary};
-use graph::{Cone, Graph};
+use graph::{Cone, Graph, lists_stand};
 use paths::PathId;
 use plan::{Plan, Step};
 use records::log_stays;
@@ -47,9 +43,8 @@ pub fn run_graph<S: Site>(
     state: &mut State<'_>,
 ) -> Result<Summary, Stop>
     requires running { (S.world site.old).stopped ≡ false }
-    requires begins { (course : Course) × (edges : List Edge) × (phases : List Phase) × BeginsAt S.tells tick.now course edges phases graph.old cone.old state.old (S.world site.old) }
-    requires enough { AreSet graph.old state.old.set.items }
-    ensures ended { (grown : List Edge) × ((course : Course) (edges : List Edge) (phases : List Phase) → BeginsAt S.tells tick.now course edges phases graph.old cone.old state.old (S.world site.old) → HasEndedSo S.tells course grown graph.new cone.new (S.world site.new) result) }
+    requires begins { IsBeginning S.tells tick.now graph.old cone.old state.old (S.world site.old) }
+    ensures ended { EndsFrom S.tells tick.now graph.old cone.old state.old (S.world site.old) graph.new cone.new (S.world site.new) result }
     ensures edges { IfOk result (AreEdgesOf graph.new) }
     ensures seen { IfErr result (λ stop. IfFault stop (IsSeen (S.world site.old) (S.world site.new))) }
     ensures faults { PassesNoFault (S.world site.old) (S.world site.new) (stop_answer result) }
@@ -70,14 +65,12 @@ fn run_and_load<S: Site>(
     state: &mut State<'_>,
 ) -> Result<Summary, Stop>
     requires running { (S.world site.old).stopped ≡ false }
-    requires begins { (course : Course) × (edges : List Edge) × (phases : List Phase) × BeginsAt S.tells tick.now course edges phases graph.old cone.old state.old (S.world site.old) }
-    requires enough { AreSet graph.old state.old.set.items }
-    ensures done { IfOk result (λ summary. (course : Course) (edges : List Edge) (phases : List Phase) → BeginsAt S.tells tick.now course edges phases graph.old cone.old state.old (S.world site.old) → HasDone S.tells course (declared_by graph.new).edges graph.new cone.new (S.world site.new) summary) }
+    requires begins { IsBeginning S.tells tick.now graph.old cone.old state.old (S.world site.old) }
+    ensures done { IfOk result (DoneFrom S.tells tick.now graph.old cone.old state.old (S.world site.old) graph.new cone.new (S.world site.new)) }
     ensures edges { IfOk result (AreEdgesOf graph.new) }
     ensures well { OnOk result (GoesWell (S.world site.old) (S.world site.new)) }
     ensures stop { IfErr result (IsStopOf (S.world site.old) (S.world site.new)) }
-    ensures enough { IfErr result (λ stop. IfRefused stop (λ refusal. AreSet graph.new state.new.set.items)) }
-    ensures halted { IfErr result (λ stop. (grown : List Edge) × ((course : Course) (edges : List Edge) (phases : List Phase) → BeginsAt S.tells tick.now course edges phases graph.old cone.old state.old (S.world site.old) → HasHalted S.tells tick.now course grown graph.new cone.new state.new (S.world site.new) stop)) }
+    ensures halted { IfErr result (HaltsFrom S.tells tick.now graph.old cone.old state.old (S.world site.old) graph.new cone.new state.new (S.world site.new)) }
 {
     'run: loop {
         match run_to_load(alloc, site, graph, cone, tick, state)? {
@@ -97,14 +90,12 @@ fn run_to_load<S: Site>(
     state: &mut State<'_>,
 ) -> Result<Pause, Stop>
     requires running { (S.world site.old).stopped ≡ false }
-    requires begins { (course : Course) × (edges : List Edge) × (phases : List Phase) × BeginsAt S.tells tick.now course edges phases graph.now cone.now state.old (S.world site.old) }
-    requires enough { AreSet graph.now state.old.set.items }
-    ensures set { state.new.set ≡ state.old.set }
+    requires begins { IsBeginning S.tells tick.now graph.now cone.now state.old (S.world site.old) }
     ensures pause { IfOk result (IsPauseOf graph.now) }
     ensures well { OnOk result (GoesWell (S.world site.old) (S.world site.new)) }
-    ensures paused { IfOk result (λ pause. (course : Course) (edges : List Edge) (phases : List Phase) → BeginsAt S.tells tick.now course edges phases graph.now cone.now state.old (S.world site.old) → HasPausedSo S.tells tick.now course edges phases graph.now cone.now state.new (S.world site.new) pause) }
+    ensures paused { IfOk result (PausesFrom S.tells tick.now graph.now cone.now state.old (S.world site.old) state.new (S.world site.new)) }
     ensures stop { IfErr result (IsStopOf (S.world site.old) (S.world site.new)) }
-    ensures halted { IfErr result (λ stop. (course : Course) (edges : List Edge) (phases : List Phase) → BeginsAt S.tells tick.now course edges phases graph.now cone.now state.old (S.world site.old) → HasHalted S.tells tick.now course edges graph.now cone.now state.new (S.world site.new) stop) }
+    ensures halted { IfErr result (HaltsOver S.tells tick.now graph.now cone.now state.old (S.world site.old) state.new (S.world site.new)) }
 {
     match source_to_load(graph, &state.plan) {
         Some(file) => Ok(Pause::Load(file)),
@@ -117,7 +108,7 @@ fn run_to_load<S: Site>(
 
 /// The dyndep file that is loaded next, if no edge makes it.
 pub fn source_to_load(graph: &Graph, plan: &Plan) -> Option<PathId>
-    ensures { MatchOption result (NoSourceIsDue graph.now plan.now) (λ file. IsOffered plan.now (step.Load file) × IsDueNext plan.now (step.Load file) × ((links_of graph.now).maker file ≡ None)) }
+    ensures { MatchOption result (NoSourceIsDue graph.now plan.now) (λ file. IsNext plan.now (step.Load file) × ((links_of graph.now).maker file ≡ None)) }
 {
     match plan.next() {
         Step::Load(file) => source(graph, file),
@@ -147,15 +138,15 @@ fn ask_for_sources<S: Site>(
     state: &mut State<'_>,
 ) -> Result<(), Stop>
     requires running { (S.world site.old).stopped ≡ false }
-    requires begins { (tick : List ℕ) × (course : Course) × (edges : List Edge) × (phases : List Phase) × BeginsAt S.tells tick course edges phases graph.now cone.now state.old (S.world site.old) }
+    requires begins { IsBeginningBy S.tells graph.now cone.now state.old (S.world site.old) }
     requires made { NoSourceIsDue graph.now state.old.plan }
-    ensures set { state.new.set ≡ state.old.set }
     ensures well { OnOk result (GoesWell (S.world site.old) (S.world site.new)) }
-    ensures asked { OnOk result ((tick : List ℕ) (course : Course) (edges : List Edge) (phases : List Phase) → BeginsAt S.tells tick course edges phases graph.now cone.now state.old (S.world site.old) → HasSourcesAt S.tells tick course edges phases graph.now cone.now state.new (S.world site.new)) }
+    ensures asked { OnOk result (AsksFrom S.tells graph.now cone.now state.old (S.world site.old) state.new (S.world site.new)) }
     ensures stop { IfErr result (IsStopOf (S.world site.old) (S.world site.new)) }
-    ensures halted { IfErr result (λ stop. (tick : List ℕ) (course : Course) (edges : List Edge) (phases : List Phase) → BeginsAt S.tells tick course edges phases graph.now cone.now state.old (S.world site.old) → HasHalted S.tells tick course edges graph.now cone.now state.new (S.world site.new) stop) }
+    ensures halted { IfErr result (HaltsAsking S.tells graph.now cone.now state.old (S.world site.old) state.new (S.world site.new)) }
 {
     log_stays();
+    lists_stand(graph);
     match check_sources(
         alloc,
         site,
@@ -185,14 +176,12 @@ fn load_file<S: Site>(
     file: PathId,
 ) -> Result<(), Stop>
     requires running { (S.world site.old).stopped ≡ false }
-    requires stands { (tick : List ℕ) × (course : Course) × (edges : List Edge) × (phases : List Phase) × IsAtNextLoad S.tells tick course edges phases graph.old cone.old state.old file (S.world site.old) }
+    requires at { IsLoading S.tells graph.old cone.old state.old file (S.world site.old) }
     ensures well { OnOk result (GoesWell (S.world site.old) (S.world site.new)) }
-    ensures set { OnOk result (AreSet graph.new state.new.set.items) }
     ensures fewer { OnOk result (files_left (declared_by graph.new).edges < files_left (declared_by graph.old).edges) }
-    ensures begun { OnOk result ((tick : List ℕ) (course : Course) (edges : List Edge) (phases : List Phase) → IsAtNextLoad S.tells tick course edges phases graph.old cone.old state.old file (S.world site.old) → HasBegun S.tells tick course phases graph.new cone.new state.new (S.world site.new)) }
-    ensures same { IfErr result (λ stop. IfRefused stop (λ refusal. (graph.new ≡ graph.old) × (state.new.set ≡ state.old.set))) }
+    ensures begun { OnOk result (Loads S.tells file graph.old cone.old state.old (S.world site.old) graph.new cone.new state.new (S.world site.new)) }
     ensures stop { IfErr result (IsStopOf (S.world site.old) (S.world site.new)) }
-    ensures halted { IfErr result (λ stop. (grown : List Edge) × ((tick : List ℕ) (course : Course) (edges : List Edge) (phases : List Phase) → IsAtNextLoad S.tells tick course edges phases graph.old cone.old state.old file (S.world site.old) → HasHalted S.tells tick course grown graph.new cone.new state.new (S.world site.new) stop)) }
+    ensures halted { IfErr result (HaltsAt S.tells file graph.old cone.old state.old (S.world site.old) graph.new cone.new state.new (S.world site.new)) }
 {
     match load(alloc, site, graph, cone, state, file) {
         Ok(()) => Ok(()),
@@ -205,9 +194,7 @@ fn given_up<S: Site>(site: &mut S, plan: &Plan, stop: Stop) -> Stop
     requires met { IfFault stop (λ fault. (course : Course) × (graph : GraphOf) × IsCut S.tells course graph plan.now (S.world site.old)) }
     requires stop { (entry : World) × IsStopThere entry (S.world site.old) stop }
     ensures stop { (entry : World) → IsStopThere entry (S.world site.old) stop → IsStopOf entry (S.world site.new) result }
-    ensures same { IfRefused stop (λ refusal. result ≡ stop) }
-    ensures faults { IfFault stop (λ fault. IfRefused result (λ refusal. ⊥)) }
-    ensures halted { (tick : List ℕ) (course : Course) (grown : List Edge) (graph : GraphOf) (cone : ConeOf) (state : StateOf) → state.plan ≡ plan.now → StoppedThere S.tells tick course grown graph cone state (S.world site.old) stop → HasHalted S.tells tick course grown graph cone state (S.world site.new) result }
+    ensures halted { HaltsBehind S.tells plan.now (S.world site.old) (S.world site.new) stop result }
 {
     match stop {
         Stop::Fault(fault) => Stop::Fault(give_up(site, plan, fault).fault()),
@@ -217,11 +204,10 @@ fn given_up<S: Site>(site: &mut S, plan: &Plan, stop: Stop) -> Stop
 
 /// After a refusal what runs is taken in, recorded and shown, which may meet a fault; a fault stays as it is.
 fn finished<S: Site>(site: &mut S, setting: Setting<'_>, state: &mut State<'_>, stop: Stop) -> Stop
-    requires refused { IfRefused stop (λ refusal. (course : Course) × (grown : List Edge) × (cone : ConeOf) × IsRefusedAt S.tells setting.tick.now course grown setting.graph.now cone state.old (S.world site.old) refusal) }
-    requires enough { IfRefused stop (λ refusal. AreSet setting.graph.now state.old.set.items) }
+    requires refused { IfRefused stop (IsRefusedOf S.tells setting.tick.now setting.graph.now state.old (S.world site.old)) }
     requires stop { (entry : World) × IsStopOf entry (S.world site.old) stop }
     ensures stop { (entry : World) → IsStopOf entry (S.world site.old) stop → IsStopOf entry (S.world site.new) result }
-    ensures ended { (course : Course) (grown : List Edge) (cone : ConeOf) → HasHalted S.tells setting.entry.tick.now course grown setting.entry.graph.now cone state.old (S.world site.old) stop → HasEndedSo S.tells course grown setting.entry.graph.now cone (S.world site.new) (Err result) }
+    ensures ended { EndsHalted S.tells setting.entry.tick.now setting.entry.graph.now state.old (S.world site.old) (S.world site.new) stop result }
 {
     match stop {
         Stop::Fault(fault) => Stop::Fault(fault),

@@ -1,14 +1,13 @@
 //! Judging an edge.
 
-ghost use Rattle.std.specs.Prelude.{◌≡◌, ◌<◌, None, false, is_some, get_or, OnOk, OnErr};
+ghost use Rattle.std.specs.Prelude.{◌≡◌, ◌<◌, true, false, is_some, get_or, OnOk, OnErr};
 ghost use Rattle.model.specs.Calls.{HasCause};
 ghost use Rattle.judge.specs.Looking.{HasLooked};
 ghost use Rattle.plan.specs.declared.step.Step.TheVariants as step;
-ghost use Rattle.plan.specs.Planned.{IsOffered, is_stale};
+ghost use Rattle.plan.specs.Planned.{IsNext, is_stale};
 ghost use Rattle.judge.specs.Lasting.{AreMarked};
 ghost use Rattle.judge.specs.Summed.{AreSums};
-ghost use Rattle.work.specs.Course.{Course, Suits, IsOn};
-ghost use Rattle.work.specs.Going.{IsGoing, IsSaid, work_left};
+ghost use Rattle.work.specs.Going.{IsGoing, GoesOn, work_left};
 
 use crate::outputs::ask_before;
 use crate::setting::Setting;
@@ -30,15 +29,14 @@ pub fn judge<S: Site>(
     edge: EdgeId,
 ) -> Result<(), SiteFault>
     requires running { (S.world site.old).stopped ≡ false }
-    requires going { (going : IsGoing S.tells setting.tick.now setting.graph.now state.old (S.world site.old)) × IsSaid going.course setting.graph.now going.on.steps (step.Judge edge) }
-    requires offered { IsOffered state.old.plan (step.Judge edge) }
+    requires going { IsGoing S.tells true setting.tick.now setting.graph.now state.old (S.world site.old) }
+    requires next { IsNext state.old.plan (step.Judge edge) }
     requires summed { AreSums setting.graph.now state.old.plan.changed.items state.old.looks.seen.items sums.old }
     requires marked { AreMarked setting.graph.now state.old.plan.changed.items state.old.looks.seen.items sums.old }
     ensures looked { HasLooked S.tells setting.entry.graph.now (S.world site.old) (S.world site.new) state.old.looks state.new.looks }
     ensures cause { HasCause (S.world site.old) (S.world site.new) result }
     ensures nearer { OnOk result (work_left state.new.plan.standings.items < work_left state.old.plan.standings.items) }
-    ensures enough { state.new.set ≡ state.old.set }
-    ensures on { OnOk result ((course : Course) → Suits course setting.entry.tick.now setting.entry.graph.now → (on : IsOn S.tells course setting.entry.graph.now None state.old (S.world site.old)) → IsSaid course setting.entry.graph.now on.steps (step.Judge edge) → IsOn S.tells course setting.entry.graph.now None state.new (S.world site.new)) }
+    ensures on { OnOk result (GoesOn S.tells setting.entry (S.world site.old) (S.world site.new) state.old state.new) }
     ensures summed { AreSums setting.entry.graph.now state.new.plan.changed.items state.new.looks.seen.items sums.new }
     ensures marked { AreMarked setting.entry.graph.now state.new.plan.changed.items state.new.looks.seen.items sums.new }
     ensures plan { OnErr result (state.new.plan ≡ state.old.plan) }

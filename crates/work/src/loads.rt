@@ -1,30 +1,22 @@
 //! Loading dyndep files (manual: "Dynamic Dependencies").
 
-ghost use Rattle.std.specs.Prelude.{◌≡◌, ◌<◌, ◌≤◌, ◌++◌, ◌⊎◌, List, ℕ, true, false, All, map, length, vec_len, IfOk, IfErr, OnOk, OnErr, Ok, Err};
-ghost use Rattle.model.specs.declared.graph.Edge.{Edge};
-ghost use Rattle.model.specs.declared.record.Record.{Record};
-ghost use Rattle.model.specs.declared.record.DepsRecord.{DepsRecord};
-ghost use Rattle.model.specs.Graph.{Addition as Added, has_number, targets_of};
-ghost use Rattle.model.specs.Records.{Store, recorded_inputs};
-ghost use Rattle.model.specs.SingleBuild.{Asked, declared_graph};
-ghost use Rattle.model.specs.Phases.{Phase};
+ghost use Rattle.std.specs.Prelude.{◌≡◌, ◌<◌, ◌≤◌, ℕ, true, false, take, All, map, length, vec_len, IfOk, IfErr, OnOk, OnErr, Ok, Err};
+ghost use Rattle.model.specs.Graph.{has_number};
+ghost use Rattle.model.specs.Records.{Store};
+ghost use Rattle.model.specs.SingleBuild.{Asked};
 ghost use Rattle.model.specs.Calls.{OnlyLooks, is_stop};
 ghost use Rattle.theory.specs.Seen.{Unrefused};
-ghost use Rattle.paths.specs.Told.{text_at, texts_at};
+ghost use Rattle.paths.specs.Told.{text_at};
 ghost use Rattle.graph.specs.Back.{Undoes};
-ghost use Rattle.graph.specs.Extended.{HasLoaded, IsRefusedLoad, addition_of};
+ghost use Rattle.graph.specs.Extended.{HasLoaded, addition_of};
 ghost use Rattle.graph.specs.LoadedEdges.{numbers_in};
-ghost use Rattle.graph.specs.Targets.{IsConeOfNumbers, IsNoConeAgain};
-ghost use Rattle.graph.specs.Told.{declared_by, recorded_by, AreSameInputs};
-ghost use Rattle.records.specs.Known.{IsOf, IsOfDeps, AreKnown};
+ghost use Rattle.graph.specs.Targets.{IsNoConeAgain};
+ghost use Rattle.graph.specs.Told.{declared_by};
 ghost use Rattle.plan.specs.Extended.{MayGoOn, GoesOn};
-ghost use Rattle.work.specs.Course.{Course};
 ghost use Rattle.work.specs.Cutting.{IsMet};
-ghost use Rattle.work.specs.Going.{AreSet};
-ghost use Rattle.work.specs.Standing.{StandsAt, HasAsked, IsLoadNext, HasBegun, IsStopped, IsCutThere, IfRefused, IfFault, files_left};
-ghost use Rattle.work.specs.Joined.{WasHeld, IsUnread, stop_of, IsMemory, IsUnfitBy, IsCircle, IsUnjoined, MayJoin, GoesOnWith, IsLeftWith, HasRoomIn, StayKnown, IsAsBefore};
-ghost use Rattle.work.specs.Loads.{IsSaying};
-ghost use Rattle.work.specs.Recorded.{AreToJoin, HasJoinedOf};
+ghost use Rattle.work.specs.Standing.{IsToLoad, Loads, RefusesAt, StopsAt, IsStopThere, IfRefused, IfFault, files_left};
+ghost use Rattle.work.specs.Joined.{IsUnread, stop_of, IsMemory, MayJoin, HasRoomIn, StayKnown, IsUndone, IsLoaded, GoesOnBy, GoesOnOver, IsAskedOver, IsConeAgain, IsCircleOver, IsUnfitAt, IsUnfitOf, IsCircleOf, WasSaid, UnjoinedBy, UnjoinedOver, OfShorter, JoinsOf, WereKnown, MayShrink, KeepsRest};
+ghost use Rattle.work.specs.Recorded.{HasGrownAt};
 
 use crate::names::{path_text, path_texts};
 use crate::recorded::join_loaded;
@@ -32,7 +24,7 @@ use crate::report::{Refusal, Unfit};
 use crate::state::State;
 use crate::stop::Stop;
 use dyndep::{Addition, DynFault, ReadError, one_answer, parse};
-use graph::{Before, Cone, ConeFault, ExtendFault, Graph, lists_stand};
+use graph::{Before, Cone, ConeFault, ExtendFault, Graph, files_stand, lists_stand};
 use model::SiteFault;
 use paths::PathId;
 use plan::{loads_go_on, task_of};
@@ -44,8 +36,7 @@ use text::{Items, Path};
 /// Loads the dyndep file, which is to be loaded next: what it says joins the graph, with the recorded inputs of the edges that name
 /// it, and the run goes on over that. `cone` becomes the cone of the same targets over it. Commands may run meanwhile.
 ///
-/// Where it is refused, or what it adds is, the graph, its cone and the plan are as before. After a fault the plan is, or it is that of
-/// the graph with what the file adds.
+/// Where it is refused, or what it adds is, and after a fault, all is as before, but for how the records are kept.
 pub fn load<S: Site>(
     alloc: Global,
     site: &mut S,
@@ -55,21 +46,15 @@ pub fn load<S: Site>(
     file: PathId,
 ) -> Result<(), Stop>
     requires running { (S.world site.old).stopped ≡ false }
-    requires stands { (tick : List ℕ) × (course : Course) × (edges : List Edge) × (phases : List Phase) × (stands : StandsAt S.tells tick course edges phases graph.old cone.old state.old (S.world site.old)) × IsLoadNext course edges graph.old state.old stands.on.steps file }
+    requires at { IsToLoad S.tells graph.old cone.old state.old file (S.world site.old) }
     ensures looks { OnlyLooks S.tells (S.world site.old) (S.world site.new) }
-    ensures earlier { (S.world site.new).earlier ≡ (S.world site.old).earlier }
-    ensures unrefused { OnOk result (Unrefused (S.world site.old) (S.world site.new)) }
-    ensures begun { OnOk result ((tick : List ℕ) (course : Course) (edges : List Edge) (phases : List Phase) → (stands : StandsAt S.tells tick course edges phases graph.old cone.old state.old (S.world site.old)) → IsLoadNext course edges graph.old state.old stands.on.steps file → HasAsked S.tells course edges phases (S.world site.old) → HasBegun S.tells tick course phases graph.new cone.new state.new (S.world site.new)) }
-    ensures set { OnOk result (AreSet graph.new state.new.set.items) }
+    ensures well { OnOk result (Unrefused (S.world site.old) (S.world site.new)) }
+    ensures begun { OnOk result (Loads S.tells file graph.old cone.old state.old (S.world site.old) graph.new cone.new state.new (S.world site.new)) }
     ensures fewer { OnOk result (files_left (declared_by graph.new).edges < files_left (declared_by graph.old).edges) }
-    ensures refused { IfErr result (λ stop. IfRefused stop (λ refusal. Unrefused (S.world site.old) (S.world site.new))) }
-    ensures graph { IfErr result (λ stop. IfRefused stop (λ refusal. graph.new ≡ graph.old)) }
-    ensures room { IfErr result (λ stop. IfRefused stop (λ refusal. state.new.set ≡ state.old.set)) }
-    ensures plan { IfErr result (λ stop. IfRefused stop (λ refusal. state.new.plan ≡ state.old.plan)) }
-    ensures stopped { IfErr result (λ stop. IfRefused stop (λ refusal. (tick : List ℕ) (course : Course) (edges : List Edge) (phases : List Phase) → (stands : StandsAt S.tells tick course edges phases graph.old cone.old state.old (S.world site.old)) → IsLoadNext course edges graph.old state.old stands.on.steps file → IsStopped S.tells tick course edges phases graph.new cone.new state.new (S.world site.new) refusal)) }
-    ensures met { IfErr result (λ stop. IfFault stop (IsMet (S.world site.old) (S.world site.new))) }
-    ensures stop { IfErr result (λ stop. IfFault stop (λ fault. (S.world site.new).stopped ≡ is_stop {T = Unit {0}} (Err fault))) }
-    ensures cut { IfErr result (λ stop. IfFault stop (λ fault. (grown : List Edge) × ((tick : List ℕ) (course : Course) (edges : List Edge) (phases : List Phase) → (stands : StandsAt S.tells tick course edges phases graph.old cone.old state.old (S.world site.old)) → IsLoadNext course edges graph.old state.old stands.on.steps file → HasAsked S.tells course edges phases (S.world site.old) → IsCutThere S.tells course grown state.new (S.world site.new)))) }
+    ensures stop { IfErr result (IsStopThere (S.world site.old) (S.world site.new)) }
+    ensures undone { OnErr result (IsUndone graph.old graph.new cone.old cone.new state.old state.new) }
+    ensures refused { IfErr result (λ stop. IfRefused stop (RefusesAt S.tells file graph.old cone.old state.old (S.world site.old) graph.new cone.new state.new (S.world site.new))) }
+    ensures halted { IfErr result (StopsAt S.tells file graph.old cone.old state.old (S.world site.old) graph.new cone.new state.new (S.world site.new)) }
 {
     log_stays();
     one_answer();
@@ -86,7 +71,7 @@ pub fn load<S: Site>(
 
 /// What the file says joins the graph, with the recorded inputs of its edges that are in use, and the run goes on over that.
 ///
-/// Where it is refused, the graph, its cone and the state are as before, but for how the records are kept.
+/// Where it does not, all is as before, but for how the records are kept.
 fn join(
     alloc: Global,
     graph: &mut Graph,
@@ -96,34 +81,57 @@ fn join(
     additions: &[Addition],
 ) -> Result<(), Stop>
     requires may { (asked : Asked) × (store : Store) × MayJoin asked store graph.old cone.old state.old file }
-    ensures goes { OnOk result ((asked : Asked) (store : Store) → MayJoin asked store graph.old cone.old state.old file → GoesOnWith store graph.old graph.new cone.old.targets.items cone.new state.old.plan state.new.plan (text_at graph.old.manifest.paths file) (map addition_of additions.now)) }
+    ensures goes { OnOk result (GoesOnBy file (map addition_of additions.now) graph.old cone.old state.old graph.new cone.new state.new) }
     ensures room { OnOk result (HasRoomIn graph.new state.old state.new) }
     ensures known { OnOk result (StayKnown graph.old graph.new state.old.records state.new.records) }
     ensures logs { OnOk result (state.new.records.logs ≡ state.old.records.logs) }
-    ensures set { OnOk result (AreSet graph.new state.new.set.items) }
-    ensures graph { IfErr result (λ stop. IfRefused stop (λ refusal. graph.new ≡ graph.old)) }
-    ensures cone { OnErr result (cone.new ≡ cone.old) }
-    ensures back { IfErr result (λ stop. IfRefused stop (λ refusal. IsAsBefore state.old state.new)) }
-    ensures records { IfErr result (λ stop. IfRefused stop (λ refusal. StayKnown graph.old graph.new state.old.records state.new.records)) }
-    ensures cause { IfErr result (λ stop. IfRefused stop (λ refusal. (asked : Asked) (store : Store) → MayJoin asked store graph.old cone.old state.old file → IsUnjoined asked store (text_at graph.old.manifest.paths file) (map addition_of additions.now) refusal)) }
+    ensures undone { OnErr result (IsUndone graph.old graph.new cone.old cone.new state.old state.new) }
+    ensures cause { IfErr result (λ stop. IfRefused stop (UnjoinedBy file (map addition_of additions.now) graph.old cone.old state.old)) }
     ensures memory { IfErr result IsMemory }
-    ensures left { IfErr result (λ stop. IfFault stop (λ fault. IsLeftWith graph.old graph.new cone.old state.old state.new file (text_at graph.old.manifest.paths file) (map addition_of additions.now))) }
 {
-    loads_go_on();
     let before = extend(alloc, graph, file, additions)?;
-    join_inputs(alloc, graph, &mut state.records, &before)?;
-    match cone_again(alloc, graph, cone) {
-        Ok(grown) => {
-            grow(alloc, graph, &grown, state)?;
-            *cone = grown;
-            Ok(())
-        }
+    match join_parts(alloc, graph, cone, state, &before) {
+        Ok(()) => Ok(()),
         Err(stop) => {
             graph.take_back(alloc, before);
             state.records.shrink(graph);
+            state.looks.shrink(graph);
             Err(stop)
         }
     }
+}
+
+/// The recorded inputs of the edges whose file was loaded join the graph, and the run goes on over that and the cone of the same
+/// targets.
+///
+/// Where that fails, the cone and the plan are as before, and what else was done can be undone.
+fn join_parts(
+    alloc: Global,
+    graph: &mut Graph,
+    cone: &mut Cone,
+    state: &mut State<'_>,
+    before: &Before,
+) -> Result<(), Stop>
+    requires loaded { IsLoaded graph.old cone.old state.old before.now }
+    ensures goes { OnOk result (GoesOnOver before.now graph.old cone.old state.old graph.new cone.new state.new) }
+    ensures room { OnOk result (HasRoomIn graph.new state.old state.new) }
+    ensures known { OnOk result (OfShorter graph.old (λ was. StayKnown was graph.new state.old.records state.new.records)) }
+    ensures beside { KeepsRest state.old state.new }
+    ensures grown { OnErr result (HasGrownAt (numbers_in before.now.edges.items) graph.old graph.new) }
+    ensures cone { OnErr result (cone.new ≡ cone.old) }
+    ensures plan { OnErr result (state.new.plan ≡ state.old.plan) }
+    ensures looks { OnErr result (take (length state.old.looks.seen.items) state.new.looks.seen.items ≡ state.old.looks.seen.items) }
+    ensures kept { OnErr result (MayShrink graph.old state.old.records state.new.records) }
+    ensures cause { IfErr result (λ stop. IfRefused stop (UnjoinedOver before.now graph.old cone.old state.old)) }
+    ensures memory { IfErr result IsMemory }
+{
+    loads_go_on();
+    files_stand();
+    join_inputs(alloc, graph, &mut state.records, before)?;
+    let grown = cone_again(alloc, graph, cone)?;
+    grow(alloc, graph, &grown, state)?;
+    *cone = grown;
+    Ok(())
 }
 
 /// What the file says joins the graph; what undoes that.
@@ -137,7 +145,7 @@ fn extend(
     ensures loaded { OnOk result (HasLoaded graph.old graph.new (text_at graph.old.manifest.paths file) (map addition_of additions.now)) }
     ensures before { IfOk result (λ before. Undoes graph.old graph.new file before) }
     ensures err { OnErr result (graph.new ≡ graph.old) }
-    ensures refused { IfErr result (λ stop. IfRefused stop (IsUnfitBy (declared_by graph.old).edges (text_at graph.old.manifest.paths file) (map addition_of additions.now))) }
+    ensures refused { IfErr result (λ stop. IfRefused stop (IsUnfitAt file (map addition_of additions.now) graph.old)) }
     ensures memory { IfErr result IsMemory }
 {
     match graph.extend(alloc, additions, file) {
@@ -155,11 +163,12 @@ fn join_inputs(
     before: &Before,
 ) -> Result<(), AllocError>
     requires edges { (e : ℕ) → has_number (numbers_in before.now.edges.items) e ≡ true → e < length graph.old.manifest.lines }
-    requires known { (old : Graph) × (more : List (List ℕ)) × (rs : List Record) × (ds : List DepsRecord) × (graph.old.manifest.paths ≡ old.manifest.paths ++ more) × AreKnown old rs ds records.old }
+    requires known { WereKnown graph.old records.old }
     ensures logs { records.new.logs ≡ records.old.logs }
-    ensures joined { OnOk result ((old : Graph) (more : List (List ℕ)) (rs : List Record) (ds : List DepsRecord) → graph.old.manifest.paths ≡ old.manifest.paths ++ more → AreKnown old rs ds records.old → AreToJoin (numbers_in before.now.edges.items) graph.old rs ds → HasJoinedOf (numbers_in before.now.edges.items) graph.old graph.new rs ds) }
-    ensures known { OnOk result ((old : Graph) (more : List (List ℕ)) (rs : List Record) (ds : List DepsRecord) → graph.old.manifest.paths ≡ old.manifest.paths ++ more → AreKnown old rs ds records.old → AreKnown graph.old rs ds records.new) }
-    ensures all { OnOk result ((old : Graph) (more : List (List ℕ)) (rs : List Record) (ds : List DepsRecord) → graph.old.manifest.paths ≡ old.manifest.paths ++ more → AreKnown old rs ds records.old → IsOf rs graph.old.manifest.paths records.new × IsOfDeps ds graph.old.manifest.paths records.new) }
+    ensures grown { HasGrownAt (numbers_in before.now.edges.items) graph.old graph.new }
+    ensures joined { OnOk result (OfShorter graph.old (λ was. JoinsOf (numbers_in before.now.edges.items) was graph.old graph.new records.old)) }
+    ensures known { OnOk result (OfShorter graph.old (λ was. StayKnown was graph.old records.old records.new)) }
+    ensures kept { MayShrink graph.old records.old records.new }
 {
     records.grow(graph)?;
     join_loaded(alloc, graph, records, &before.edges)?;
@@ -169,10 +178,10 @@ fn join_inputs(
 /// The cone of the same targets over the graph as it is now.
 fn cone_again(alloc: Global, graph: &Graph, cone: &Cone) -> Result<Cone, Stop>
     requires targets { All (λ p. p < length graph.now.manifest.paths) cone.now.targets.items }
-    requires asked { (asked : Asked) × (store : Store) × (asked.graph ≡ declared_by graph.now) × (targets_of (declared_graph asked) asked.targets ≡ texts_at graph.now.manifest.paths cone.now.targets.items) × AreSameInputs (recorded_inputs store asked.graph.edges) (recorded_by graph.now) }
+    requires asked { IsAskedOver graph.now cone.now.targets.items }
     ensures marks { IfOk result (λ grown. vec_len grown.marks ≡ length graph.now.manifest.lines) }
-    ensures cone { IfOk result (λ grown. (recorded : ℕ → List (List ℕ)) → AreSameInputs recorded (recorded_by graph.now) → IsConeOfNumbers graph.now recorded cone.now.targets.items grown) }
-    ensures refused { IfErr result (λ stop. IfRefused stop (λ refusal. (asked : Asked) (store : Store) → asked.graph ≡ declared_by graph.now → targets_of (declared_graph asked) asked.targets ≡ texts_at graph.now.manifest.paths cone.now.targets.items → AreSameInputs (recorded_inputs store asked.graph.edges) (recorded_by graph.now) → IsCircle asked store refusal)) }
+    ensures cone { IfOk result (IsConeAgain graph.now cone.now.targets.items) }
+    ensures refused { IfErr result (λ stop. IfRefused stop (IsCircleOver graph.now cone.now.targets.items)) }
     ensures memory { IfErr result IsMemory }
 {
     let targets = cone.targets.as_slice().to_vec(alloc)?;
@@ -188,14 +197,14 @@ fn grow(alloc: Global, graph: &Graph, cone: &Cone, state: &mut State<'_>) -> Res
     requires may { MayGoOn graph.now state.old.plan }
     requires fits { length state.old.looks.seen.items ≤ length graph.now.manifest.paths }
     ensures planned { OnOk result (GoesOn graph.now cone.now state.old.plan state.new.plan) }
-    ensures left { OnErr result ((state.new.plan ≡ state.old.plan) ⊎ GoesOn graph.now cone.now state.old.plan state.new.plan) }
     ensures room { OnOk result (HasRoomIn graph.now state.old state.new) }
     ensures records { state.new.records ≡ state.old.records }
-    ensures set { OnOk result (AreSet graph.now state.new.set.items) }
+    ensures beside { KeepsRest state.old state.new }
+    ensures plan { OnErr result (state.new.plan ≡ state.old.plan) }
+    ensures looks { take (length state.old.looks.seen.items) state.new.looks.seen.items ≡ state.old.looks.seen.items }
 {
-    state.plan.extend(alloc, graph, cone)?;
     state.looks.grow(graph)?;
-    state.grow(alloc, graph)?;
+    state.plan.extend(alloc, graph, cone)?;
     Ok(())
 }
 
@@ -210,7 +219,7 @@ fn additions_in<S: Site>(
     ensures looks { OnlyLooks S.tells (S.world site.old) (S.world site.new) }
     ensures earlier { (S.world site.new).earlier ≡ (S.world site.old).earlier }
     ensures unrefused { OnOk result (Unrefused (S.world site.old) (S.world site.new)) }
-    ensures read { IfOk result (λ additions. WasHeld S.tells (text_at graph.now.manifest.paths file) (IsSaying (Ok additions)) (S.world site.old) (S.world site.new)) }
+    ensures read { IfOk result (WasSaid S.tells (text_at graph.now.manifest.paths file) (S.world site.old) (S.world site.new)) }
     ensures calm { IfErr result (λ stop. IfRefused stop (λ refusal. Unrefused (S.world site.old) (S.world site.new))) }
     ensures refused { IfErr result (λ stop. IfRefused stop (IsUnread S.tells (text_at graph.now.manifest.paths file) (S.world site.old) (S.world site.new))) }
     ensures met { IfErr result (λ stop. IfFault stop (IsMet (S.world site.old) (S.world site.new))) }
@@ -239,7 +248,7 @@ fn unread(path: Path, error: ReadError) -> Stop
 
 /// Why what the file says does not join the graph.
 fn unfit(alloc: Global, graph: &Graph, file: PathId, fault: ExtendFault) -> Result<Stop, AllocError>
-    ensures refused { IfOk result (λ stop. IfRefused stop (λ refusal. (of : Graph) (additions : List Added) → IsRefusedLoad of (text_at graph.now.manifest.paths file) additions fault → IsUnfitBy (declared_by of).edges (text_at graph.now.manifest.paths file) additions refusal)) }
+    ensures refused { IfOk result (λ stop. IfRefused stop (IsUnfitOf (text_at graph.now.manifest.paths file) fault)) }
     ensures memory { IfOk result IsMemory }
 {
     match fault {
@@ -255,7 +264,7 @@ fn unfit(alloc: Global, graph: &Graph, file: PathId, fault: ExtendFault) -> Resu
 /// Why the targets have no cone any more.
 fn circle(alloc: Global, graph: &Graph, fault: ConeFault) -> Result<Stop, AllocError>
     requires { (asked : Asked) × (store : Store) × IsNoConeAgain asked store graph.now.manifest.paths fault }
-    ensures refused { IfOk result (λ stop. IfRefused stop (λ refusal. (asked : Asked) (store : Store) → IsNoConeAgain asked store graph.now.manifest.paths fault → IsCircle asked store refusal)) }
+    ensures refused { IfOk result (λ stop. IfRefused stop (IsCircleOf graph.now.manifest.paths fault)) }
     ensures memory { IfOk result IsMemory }
 {
     match fault {

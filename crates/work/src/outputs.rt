@@ -1,15 +1,13 @@
 //! What becomes of the outputs of a command with `restat` (manual: "Rule variables", `restat`).
 
-ghost use Rattle.std.specs.Prelude.{◌≡◌, ◌<◌, not, ℕ, IfOk, OnOk, List, true, false, suc, length, slice_index, slice_index_or};
+ghost use Rattle.std.specs.Prelude.{◌≡◌, ◌<◌, IfOk, OnOk, false, suc, length};
 ghost use Rattle.model.specs.Calls.{OnlyLooks, HasCause};
-ghost use Rattle.model.specs.Graph.{edge_at, has_number, IsCommand};
-ghost use Rattle.plan.specs.Flags.{has};
+ghost use Rattle.model.specs.Graph.{IsCommand};
 ghost use Rattle.graph.specs.Links.{links_of};
 ghost use Rattle.graph.specs.Told.{declared_by};
-ghost use Rattle.judge.specs.declared.looks.Look.TheVariants.{Unasked};
 ghost use Rattle.judge.specs.Looking.{HasLooked};
-ghost use Rattle.judge.specs.Seen.{look_at, is_asked};
-ghost use Rattle.work.specs.Restat.{is_same_look, AreChangesOf, LooksAnew};
+ghost use Rattle.work.specs.EdgeIn.{edge_in};
+ghost use Rattle.work.specs.Restat.{is_same_look, AreChangesOf, AreLooksOf, AreFlagsOf, AreAskedBefore, LooksAnew};
 
 use crate::setting::Setting;
 use graph::{Graph, lists_stand};
@@ -22,7 +20,7 @@ use std::alloc::{AllocError, Global};
 /// Whether the outputs of the edge count as changed only where their stamps differ.
 pub fn has_restat(graph: &Graph, edge: EdgeId) -> bool
     requires { IsCommand (declared_by graph.now).edges (suc edge) }
-    ensures { result ≡ (edge_at (declared_by graph.now).edges (suc edge)).restat }
+    ensures { result ≡ (edge_in graph.now edge).restat }
 {
     match graph.manifest.action(edge) {
         Action::Alias => unreachable!(),
@@ -43,7 +41,7 @@ pub fn ask_before<S: Site>(
     requires command { IsCommand (declared_by setting.graph.now).edges (suc edge) }
     ensures looked { HasLooked S.tells setting.entry.graph.now (S.world site.old) (S.world site.new) looks.old looks.new }
     ensures cause { HasCause (S.world site.old) (S.world site.new) result }
-    ensures asked { OnOk result ((edge_at (declared_by setting.entry.graph.now).edges (suc edge)).restat ≡ true → (p : ℕ) → has_number ((links_of setting.entry.graph.now).outputs edge) p ≡ true → is_asked (look_at looks.new.seen.items p) ≡ true) }
+    ensures asked { OnOk result (AreAskedBefore setting.entry.graph.now edge looks.new) }
 {
     if !has_restat(setting.graph, edge) {
         return Ok(());
@@ -78,7 +76,7 @@ pub fn changes<S: Site>(
 
 /// What was seen of these paths.
 fn looks_of(alloc: Global, looks: &Looks, paths: &[PathId]) -> Result<Vec<Look>, AllocError>
-    ensures { IfOk result (λ seen. (length seen.items ≡ length paths.now) × ((k : ℕ) → k < length paths.now → slice_index_or seen.items k Unasked ≡ look_at looks.now.seen.items (slice_index paths.now k))) }
+    ensures { IfOk result (λ seen. AreLooksOf looks.now.seen.items paths.now seen.items) }
 {
     let mut seen = Vec::with_capacity(alloc, paths.len())?;
     for path in paths {
@@ -95,7 +93,7 @@ fn flags_of(
     before: &[Look],
 ) -> Result<Vec<bool>, AllocError>
     requires { length before.now ≡ length paths.now }
-    ensures { IfOk result (λ flags. (length flags.items ≡ length paths.now) × ((k : ℕ) → k < length paths.now → has flags.items k ≡ not (is_same_look (slice_index_or before.now k Unasked) (look_at looks.now.seen.items (slice_index paths.now k))))) }
+    ensures { IfOk result (λ flags. AreFlagsOf looks.now.seen.items paths.now before.now flags.items) }
 {
     let mut flags = Vec::with_capacity(alloc, paths.len())?;
     for place in 0..paths.len() {

@@ -1,19 +1,16 @@
 //! Recorded inputs, which commands of earlier builds told in their depfiles (manual: "Depfile").
 
-ghost use Rattle.std.specs.Prelude.{◌≡◌, ◌<◌, ◌+◌, ◌++◌, [], ℕ, suc, true, List, None, Some, IfOk, OnOk, OnErr, length, get_or, slice_get};
+ghost use Rattle.std.specs.Prelude.{◌≡◌, ◌<◌, [], ℕ, true, List, None, IfOk, OnOk, OnErr, length, get_or, slice_get};
 ghost use Rattle.model.specs.declared.record.Record.{Record};
 ghost use Rattle.model.specs.declared.record.DepsRecord.{DepsRecord};
-ghost use Rattle.model.specs.Graph.{has_number, edge_at, outputs};
-ghost use Rattle.model.specs.Records.{in_force, deps_in_force, is_known, all_paths_in};
-ghost use Rattle.paths.specs.Told.{text_at, texts_at};
+ghost use Rattle.model.specs.Graph.{has_number, outputs};
 ghost use Rattle.graph.specs.Held.{list_at};
 ghost use Rattle.graph.specs.Links.{links_of};
 ghost use Rattle.graph.specs.LoadedEdges.{numbers_in};
-ghost use Rattle.graph.specs.Told.{declared_by};
 ghost use Rattle.log_text.specs.Kept.{if_some, texts_at as logged_at};
-ghost use Rattle.records.specs.Known.{IsOf, IsOfDeps, AreKnown};
-ghost use Rattle.judge.specs.Facts.{AreKnownOf};
-ghost use Rattle.work.specs.Recorded.{IsUnrecorded, are_known, is_in_use, HasMorePaths, HasOnlyMorePaths, IsJoined, MayBeJoined, AreToJoin, HasJoinedOf, AreNumbered, IsNumberedToo, HaveJust, IsShared, HasJoined, deps_place, named_by, texts_of};
+ghost use Rattle.records.specs.Known.{AreKnown};
+ghost use Rattle.work.specs.EdgeIn.{edge_in};
+ghost use Rattle.work.specs.Recorded.{IsKnownBy, AreKnownBy, JoinsAll, JoinsEdge, StayNumbered, AddsJust, AddsNamed, PutsNamed, StayNumberedBy, IsNumberBy, is_in_use, HasMorePaths, HasOnlyMorePaths, HasGrownAt, Joins, AreNumbered, IsNumberedToo, IsShared, deps_place, texts_of};
 
 use graph::{Graph, LoadedEdge, PathSet};
 use log_text::Deps;
@@ -25,7 +22,7 @@ use std::alloc::{AllocError, Global};
 /// Records in the graph the recorded inputs that are in use, of each edge. Paths that no build line names get numbers.
 pub fn join_recorded(alloc: Global, graph: &mut Graph, records: &Records) -> Result<(), AllocError>
     requires known { (rs : List Record) × (ds : List DepsRecord) × AreKnown graph.old rs ds records.now }
-    ensures { OnOk result ((rs : List Record) (ds : List DepsRecord) → AreKnown graph.old rs ds records.now → IsUnrecorded graph.old → HasJoined graph.old graph.new rs ds records.now) }
+    ensures { OnOk result (JoinsAll graph.old graph.new records.now) }
 {
     graph.reserve_inputs(count_of(graph, records))?;
     let mut numbers = Vec::new(alloc);
@@ -36,7 +33,7 @@ pub fn join_recorded(alloc: Global, graph: &mut Graph, records: &Records) -> Res
     Ok(())
 }
 
-/// The same of these edges alone, whose dyndep file was loaded.
+/// The same of these edges alone, whose dyndep file was loaded. Where memory is refused, some of them may have got theirs.
 pub fn join_loaded(
     alloc: Global,
     graph: &mut Graph,
@@ -45,7 +42,8 @@ pub fn join_loaded(
 ) -> Result<(), AllocError>
     requires edges { (e : ℕ) → has_number (numbers_in edges.now) e ≡ true → e < length graph.old.manifest.lines }
     requires known { (rs : List Record) × (ds : List DepsRecord) × AreKnown graph.old rs ds records.now }
-    ensures { OnOk result ((rs : List Record) (ds : List DepsRecord) → AreKnown graph.old rs ds records.now → AreToJoin (numbers_in edges.now) graph.old rs ds → HasJoinedOf (numbers_in edges.now) graph.old graph.new rs ds) }
+    ensures grown { HasGrownAt (numbers_in edges.now) graph.old graph.new }
+    ensures joined { OnOk result (Joins (numbers_in edges.now) graph.old graph.new records.now) }
 {
     let mut numbers = Vec::new(alloc);
     for loaded in edges {
@@ -87,10 +85,10 @@ fn join_edge(
     requires edge { edge < length graph.old.manifest.lines }
     requires known { (rs : List Record) × (ds : List DepsRecord) × AreKnown graph.old rs ds records.now }
     requires numbered { AreNumbered graph.old (texts_of records.now) numbers.old.items }
-    ensures grown { OnOk result (HasMorePaths graph.old graph.new) }
+    ensures grown { HasMorePaths graph.old graph.new }
     ensures numbered { OnOk result (AreNumbered graph.new (texts_of records.now) numbers.new.items) }
-    ensures joined { OnOk result ((rs : List Record) (ds : List DepsRecord) → AreKnown graph.old rs ds records.now → MayBeJoined graph.old rs ds edge → IsJoined graph.new rs ds edge) }
-    ensures others { OnOk result ((e : ℕ) → (e ≡ edge → ⊥) → list_at graph.new.recorded e ≡ list_at graph.old.recorded e) }
+    ensures joined { OnOk result (JoinsEdge graph.old graph.new records.now edge) }
+    ensures others { (e : ℕ) → (e ≡ edge → ⊥) → list_at graph.new.recorded e ≡ list_at graph.old.recorded e }
 {
     if !is_in_use(graph, records, edge) {
         return Ok(());
@@ -105,7 +103,7 @@ fn join_edge(
 /// start. Those of an edge with a dyndep file are not.
 fn is_in_use(graph: &Graph, records: &Records, edge: EdgeId) -> bool
     requires { edge < length graph.now.manifest.lines }
-    ensures { (rs : List Record) (ds : List DepsRecord) → AreKnown graph.now rs ds records.now → result ≡ is_in_use rs ds (edge_at (declared_by graph.now).edges (suc edge)) }
+    ensures { (rs : List Record) (ds : List DepsRecord) → AreKnown graph.now rs ds records.now → result ≡ is_in_use rs ds (edge_in graph.now edge) }
 {
     match graph.manifest.action(edge) {
         Action::Alias => false,
@@ -117,7 +115,7 @@ fn is_in_use(graph: &Graph, records: &Records, edge: EdgeId) -> bool
 
 /// Whether each of these outputs is known to be of this act, with what the command told that made it.
 fn are_known(records: &Records, act: &Act, outputs: &[PathId]) -> bool
-    ensures { (paths : List (List ℕ)) (rs : List Record) (ds : List DepsRecord) → AreKnownOf paths outputs.now rs ds records.now → result ≡ are_known rs ds act.now (texts_at paths outputs.now) }
+    ensures { AreKnownBy act.now outputs.now records.now result }
 {
     for output in outputs {
         if !is_known(records, act, *output) {
@@ -129,7 +127,7 @@ fn are_known(records: &Records, act: &Act, outputs: &[PathId]) -> bool
 
 /// Whether the output is known to be of this act, with what the command told that made it.
 fn is_known(records: &Records, act: &Act, output: PathId) -> bool
-    ensures { (paths : List (List ℕ)) (rs : List Record) (ds : List DepsRecord) → IsOf rs paths records.now → IsOfDeps ds paths records.now → output < length paths → result ≡ is_known act.now (in_force rs (text_at paths output)) (deps_in_force ds (text_at paths output)) }
+    ensures { IsKnownBy act.now output records.now result }
 {
     match (records.deps(output), records.made(output)) {
         (Some(deps), Some(done)) => deps.start == done.start && done.act == *act,
@@ -149,8 +147,8 @@ fn put_inputs(
     requires edge { edge < length graph.old.manifest.lines }
     requires empty { inputs.old ≡ [] }
     ensures grown { HasOnlyMorePaths graph.old graph.new }
-    ensures numbered { AreNumbered graph.old (texts_of records.now) numbers.old.items → AreNumbered graph.new (texts_of records.now) numbers.new.items }
-    ensures inputs { OnOk result ((rs : List Record) (ds : List DepsRecord) → AreKnown graph.old rs ds records.now → AreNumbered graph.old (texts_of records.now) numbers.old.items → HaveJust graph.new inputs.new (all_paths_in ds (outputs (edge_at (declared_by graph.old).edges (suc edge))))) }
+    ensures numbered { StayNumbered graph.old graph.new records.now numbers.old.items numbers.new.items }
+    ensures inputs { OnOk result (PutsNamed graph.old graph.new records.now numbers.old.items inputs.new (outputs (edge_in graph.old edge))) }
 {
     for place in 0..graph.outputs(edge).len() {
         push_inputs_at(alloc, graph, records, numbers, inputs, edge, place)?;
@@ -171,8 +169,8 @@ fn push_inputs_at(
     requires edge { edge < length graph.old.manifest.lines }
     requires place { place < length ((links_of graph.old).outputs edge) }
     ensures grown { HasOnlyMorePaths graph.old graph.new }
-    ensures numbered { AreNumbered graph.old (texts_of records.now) numbers.old.items → AreNumbered graph.new (texts_of records.now) numbers.new.items }
-    ensures inputs { OnOk result ((paths : List (List ℕ)) (rs : List Record) (ds : List DepsRecord) → AreKnownOf paths ((links_of graph.old).outputs edge) rs ds records.now → AreNumbered graph.old (texts_of records.now) numbers.old.items → HaveJust graph.old inputs.old (named_by paths ds ((links_of graph.old).outputs edge) place) → HaveJust graph.new inputs.new (named_by paths ds ((links_of graph.old).outputs edge) (place + 1))) }
+    ensures numbered { StayNumbered graph.old graph.new records.now numbers.old.items numbers.new.items }
+    ensures inputs { OnOk result (AddsNamed graph.old graph.new records.now numbers.old.items inputs.old inputs.new ((links_of graph.old).outputs edge) place) }
 {
     if is_shared(graph, records, edge, place) {
         return Ok(());
@@ -213,8 +211,8 @@ fn push_inputs(
     deps: &Deps,
 ) -> Result<(), AllocError>
     ensures grown { HasOnlyMorePaths graph.old graph.new }
-    ensures numbered { AreNumbered graph.old (texts_of records.now) numbers.old.items → AreNumbered graph.new (texts_of records.now) numbers.new.items }
-    ensures inputs { OnOk result ((paths : List (List ℕ)) → AreNumbered graph.old (texts_of records.now) numbers.old.items → HaveJust graph.old inputs.old paths → HaveJust graph.new inputs.new (paths ++ logged_at (texts_of records.now) deps.now.paths)) }
+    ensures numbered { StayNumbered graph.old graph.new records.now numbers.old.items numbers.new.items }
+    ensures inputs { OnOk result (AddsJust graph.old graph.new records.now numbers.old.items inputs.old inputs.new (logged_at (texts_of records.now) deps.now.paths)) }
 {
     for path in deps.paths.as_slice() {
         push_input(alloc, graph, records, numbers, inputs, *path)?;
@@ -232,8 +230,8 @@ fn push_input(
     path: usize,
 ) -> Result<(), AllocError>
     ensures grown { HasOnlyMorePaths graph.old graph.new }
-    ensures numbered { AreNumbered graph.old (texts_of records.now) numbers.old.items → AreNumbered graph.new (texts_of records.now) numbers.new.items }
-    ensures inputs { OnOk result ((paths : List (List ℕ)) → AreNumbered graph.old (texts_of records.now) numbers.old.items → HaveJust graph.old inputs.old paths → HaveJust graph.new inputs.new (paths ++ if_some (slice_get (texts_of records.now) path))) }
+    ensures numbered { StayNumbered graph.old graph.new records.now numbers.old.items numbers.new.items }
+    ensures inputs { OnOk result (AddsJust graph.old graph.new records.now numbers.old.items inputs.old inputs.new (if_some (slice_get (texts_of records.now) path))) }
 {
     if let Some(number) = number_at(numbers, path) {
         inputs.insert(number)?;
@@ -258,8 +256,8 @@ fn number_of(
     text: &str,
 ) -> Result<PathId, AllocError>
     ensures grown { HasOnlyMorePaths graph.old graph.new }
-    ensures numbered { (texts : List (List ℕ)) → slice_get texts path ≡ Some text.now → AreNumbered graph.old texts numbers.old.items → AreNumbered graph.new texts numbers.new.items }
-    ensures number { IfOk result (λ number. (texts : List (List ℕ)) → slice_get texts path ≡ Some text.now → AreNumbered graph.old texts numbers.old.items → (number < length graph.new.manifest.paths) × (text_at graph.new.manifest.paths number ≡ text.now)) }
+    ensures numbered { StayNumberedBy graph.old graph.new path text.now numbers.old.items numbers.new.items }
+    ensures number { IfOk result (IsNumberBy graph.old graph.new path text.now numbers.old.items) }
 {
     if let Some(number) = number_at(numbers, path) {
         return Ok(number);

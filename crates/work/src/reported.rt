@@ -1,13 +1,11 @@
 //! What commands tell in their depfiles (manual: "Depfile").
 
-ghost use Rattle.std.specs.Prelude.{◌≡◌, ◌≢◌, ◌≤◌, [], ◌<◌, suc, true, false, Some, None, IfOk, IfErr, OnOk, OnErr, IsOk, length};
+ghost use Rattle.std.specs.Prelude.{◌≡◌, ◌≢◌, [], ◌<◌, true, false, Some, None, IfOk, IfErr, OnOk, OnErr, IsOk};
 ghost use Rattle.model.specs.declared.fault.SiteFault.TheVariants.{Memory};
 ghost use Rattle.model.specs.declared.graph.Deps.TheVariants.{Gcc};
 ghost use Rattle.model.specs.Calls.{OnlyLooks, HasCause, Writes, WritesOrNot};
 ghost use Rattle.theory.specs.Writes.{WritesAt};
-ghost use Rattle.work.specs.Course.{Course, Suits};
-ghost use Rattle.work.specs.Going.{IsCut};
-ghost use Rattle.work.specs.Starting.{IsTakenIn, MayBeDone};
+ghost use Rattle.work.specs.Starting.{IsTakenInOf, MayBeDoneThen, CutsTelling};
 ghost use Rattle.work.specs.Telling.{Says, WasRead, fault_in, ended_well};
 
 use crate::setting::Setting;
@@ -103,16 +101,15 @@ pub fn report<S: Site>(
     told: &Told<'_>,
 ) -> Result<(), SiteFault>
     requires running { (S.world site.old).stopped ≡ false }
-    requires taken_in { (course : Course) × Suits course setting.tick.now setting.graph.now × IsTakenIn S.tells course setting.graph.now (suc edge) start true told.now state.old (S.world site.old) }
+    requires taken_in { IsTakenInOf S.tells setting.tick.now setting.graph.now edge start true told.now state.old (S.world site.old) }
     ensures cause { HasCause (S.world site.old) (S.world site.new) result }
     ensures writes { WritesAt S.tells state.old.records.logs.deps_log.path (S.world site.old) (S.world site.new) }
     ensures plan { state.new.plan ≡ state.old.plan }
     ensures starts { state.new.starts ≡ state.old.starts }
-    ensures set { state.new.set ≡ state.old.set }
     ensures looks { state.new.looks ≡ state.old.looks }
     ensures failed { state.new.failed ≡ state.old.failed }
-    ensures on { OnOk result ((course : Course) → Suits course setting.entry.tick.now setting.entry.graph.now → IsTakenIn S.tells course setting.entry.graph.now (suc edge) start true told.now state.old (S.world site.old) → MayBeDone S.tells course setting.entry.graph.now (suc edge) start state.new (S.world site.new)) }
-    ensures cut { OnErr result ((course : Course) → Suits course setting.entry.tick.now setting.entry.graph.now → IsTakenIn S.tells course setting.entry.graph.now (suc edge) start true told.now state.old (S.world site.old) → IsCut S.tells course setting.entry.graph.now state.new.plan (S.world site.new)) }
+    ensures on { OnOk result (MayBeDoneThen S.tells setting.entry edge start told.now (S.world site.old) (S.world site.new) state.old state.new) }
+    ensures cut { OnErr result (CutsTelling S.tells setting.entry edge start told.now (S.world site.old) (S.world site.new) state.old state.new) }
 {
     let Told::Inputs(paths) = told else {
         return Ok(());

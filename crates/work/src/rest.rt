@@ -1,18 +1,16 @@
 //! Taking in what runs after a fault.
 
-ghost use Rattle.std.specs.Prelude.{◌≡◌, ◌⊎◌, ℕ, List, Option, false, Some, Err, OnOk, OnErr};
-ghost use Rattle.model.specs.World.{World, IsIdle};
-ghost use Rattle.model.specs.Schedule.{Step as Done};
+ghost use Rattle.std.specs.Prelude.{◌≡◌, ◌⊎◌, false, Some, Err, OnOk, OnErr};
+ghost use Rattle.model.specs.World.{IsIdle};
 ghost use Rattle.model.specs.Calls.{HasCause, is_stop};
 ghost use Rattle.graph.specs.declared.graph.Graph.{Graph};
-ghost use Rattle.theory.specs.Ledger.{IsCutOff};
 ghost use Rattle.work.specs.After.{ComesAfter};
 ghost use Rattle.work.specs.Course.{Course};
 ghost use Rattle.work.specs.declared.cut.Cut.TheVariants.{Other};
 ghost use Rattle.work.specs.Cut.{fault_of, HasRefusedWait, IsLeft};
 ghost use Rattle.work.specs.Cutting.{IfWaiting, SomeRuns, SoManyRun, StaysSeen, IsStoppedBy, TakesIn};
 ghost use Rattle.work.specs.Going.{IsCut};
-ghost use Rattle.work.specs.Ran.{HasRun};
+ghost use Rattle.work.specs.Ran.{CutsStay, EndsCut};
 
 use crate::cut::Cut;
 use model::SiteFault;
@@ -24,13 +22,13 @@ use site::Site;
 pub fn give_up<S: Site>(site: &mut S, plan: &Plan, fault: SiteFault) -> Cut
     requires met { (course : Course) × (graph : Graph) × IsCut S.tells course graph plan.now (S.world site.old) }
     requires stopped { (S.world site.old).stopped ≡ is_stop {T = Unit {0}} (Err fault) }
-    ensures ran { (course : Course) (graph : Graph) → IsCut S.tells course graph plan.now (S.world site.old) → HasRun S.tells course (S.world site.new) (Err result) }
+    ensures ran { EndsCut S.tells plan.now (S.world site.old) (S.world site.new) result }
     ensures seen { StaysSeen (S.world site.old) (S.world site.new) (Other fault) result }
     ensures first { (fault_of result ≡ fault) ⊎ (fault_of result ≡ SiteFault.Stopped) }
     ensures left { IsLeft (S.world site.new) result }
     ensures grows { ComesAfter S.tells (S.world site.old) (S.world site.new) }
     ensures takes_in { TakesIn (S.world site.old) (S.world site.new) result }
-    ensures rest { (course : Course) (steps : List Done) (met : Option ℕ) → IsCutOff S.tells course.behaviour course.format course.own course.asked course.store course.phases steps met course.entry (S.world site.old) → IsCutOff S.tells course.behaviour course.format course.own course.asked course.store course.phases steps met course.entry (S.world site.new) }
+    ensures rest { CutsStay S.tells (S.world site.old) (S.world site.new) }
 {
     take_in_rest(site, plan.running(), Cut::Other(fault))
 }
@@ -47,7 +45,7 @@ pub fn take_in_rest<S: Site>(site: &mut S, count: usize, cut: Cut) -> Cut
     ensures left { IsLeft (S.world site.new) result }
     ensures grows { ComesAfter S.tells (S.world site.old) (S.world site.new) }
     ensures takes_in { TakesIn (S.world site.old) (S.world site.new) result }
-    ensures rest { (course : Course) (steps : List Done) (met : Option ℕ) → IsCutOff S.tells course.behaviour course.format course.own course.asked course.store course.phases steps met course.entry (S.world site.old) → IsCutOff S.tells course.behaviour course.format course.own course.asked course.store course.phases steps met course.entry (S.world site.new) }
+    ensures rest { CutsStay S.tells (S.world site.old) (S.world site.new) }
 {
     if cut.is_final() {
         return cut;
@@ -69,7 +67,7 @@ fn take_in_all<S: Site>(site: &mut S, count: usize) -> Result<(), SiteFault>
     ensures runs { OnErr result (SomeRuns (S.world site.new)) }
     ensures noted { OnErr result ((S.world site.new).wait_refused ≡ Some (S.world site.old).failures) }
     ensures idle { OnOk result (IsIdle (S.world site.new).events) }
-    ensures rest { (course : Course) (steps : List Done) (met : Option ℕ) → IsCutOff S.tells course.behaviour course.format course.own course.asked course.store course.phases steps met course.entry (S.world site.old) → IsCutOff S.tells course.behaviour course.format course.own course.asked course.store course.phases steps met course.entry (S.world site.new) }
+    ensures rest { CutsStay S.tells (S.world site.old) (S.world site.new) }
 {
     let mut left = count;
     'rest: while left > 0 {

@@ -1,15 +1,15 @@
 //! Running commands until a plan has ended, or a dyndep file is to be loaded.
 
-ghost use Rattle.std.specs.Prelude.{◌≡◌, Bool, true, false, None, IfOk, IfErr, OnOk, OnErr, Ok};
+ghost use Rattle.std.specs.Prelude.{◌≡◌, Bool, true, false, IfOk, IfErr, OnOk, OnErr, Ok};
 ghost use Rattle.model.specs.World.{World};
 ghost use Rattle.model.specs.SingleBuild.{PassesNoFault};
 ghost use Rattle.model.specs.SingleBuild as answer;
 ghost use Rattle.theory.specs.Seen.{IsSeen, Unrefused, StartsUnrefused};
 ghost use Rattle.work.specs.Cut.{fault_of, IsLeft};
 ghost use Rattle.work.specs.After.{ComesAfter, LooksUnlessMore};
-ghost use Rattle.work.specs.Course.{Course, goes_on, Suits, IsOn};
-ghost use Rattle.work.specs.Going.{IsGoing, IsOver, IsHalted, IsCut, AreSet};
-ghost use Rattle.work.specs.Ran.{HasRun, HasPaused, AreEdgesOf, IsPauseOf};
+ghost use Rattle.work.specs.Course.{Course};
+ghost use Rattle.work.specs.Going.{IsGoing, IsOver, Halts, CutsOff};
+ghost use Rattle.work.specs.Ran.{HasRun, PausesSo, Pauses, AreEdgesOf, IsPauseOf};
 ghost use Rattle.work.specs.Cutting.{Cuts};
 ghost use Rattle.graph.specs.declared.graph.Graph.{Graph};
 
@@ -42,13 +42,11 @@ pub fn run_plan<S: Site>(
     state: &mut State<'_>,
 ) -> Result<Pause, Cut>
     requires running { (S.world site.old).stopped ≡ false }
-    requires going { (going : IsGoing S.tells setting.tick.now setting.graph.now state.old (S.world site.old)) × (goes_on going.course ≡ true) }
-    requires enough { AreSet setting.graph.now state.old.set.items }
-    ensures ran { (course : Course) → Suits course setting.entry.tick.now setting.entry.graph.now → goes_on course ≡ true → IsOn S.tells course setting.entry.graph.now None state.old (S.world site.old) → HasPaused S.tells course setting.entry.graph.now state.new (S.world site.new) result }
+    requires going { IsGoing S.tells true setting.tick.now setting.graph.now state.old (S.world site.old) }
+    ensures ran { PausesSo S.tells setting.entry (S.world site.old) (S.world site.new) state.old state.new result }
     ensures pause { IfOk result (IsPauseOf setting.entry.graph.now) }
     ensures grows { ComesAfter S.tells (S.world site.old) (S.world site.new) }
     ensures looked { OnOk result (LooksUnlessMore S.tells setting.entry.graph.now (S.world site.old) (S.world site.new) state.old.looks state.new.looks) }
-    ensures set { state.new.set ≡ state.old.set }
     ensures calm { IfOk result (λ pause. Unrefused (S.world site.old) (S.world site.new)) }
     ensures starts { StartsUnrefused (S.world site.old) (S.world site.new) }
     ensures seen { IfErr result (λ cut. IsSeen (S.world site.old) (S.world site.new) (fault_of cut)) }
@@ -64,14 +62,12 @@ pub fn run_plan<S: Site>(
 /// Does what the plan says until it says no step.
 fn run<S: Site>(site: &mut S, setting: Setting<'_>, state: &mut State<'_>) -> Result<Halt, Cut>
     requires running { (S.world site.old).stopped ≡ false }
-    requires going { (going : IsGoing S.tells setting.tick.now setting.graph.now state.old (S.world site.old)) × (goes_on going.course ≡ true) }
-    requires enough { AreSet setting.graph.now state.old.set.items }
+    requires going { IsGoing S.tells true setting.tick.now setting.graph.now state.old (S.world site.old) }
     ensures cuts { Cuts (S.world site.old) (S.world site.new) result }
     ensures grows { ComesAfter S.tells (S.world site.old) (S.world site.new) }
     ensures looked { OnOk result (LooksUnlessMore S.tells setting.entry.graph.now (S.world site.old) (S.world site.new) state.old.looks state.new.looks) }
-    ensures set { state.new.set ≡ state.old.set }
-    ensures halts { IfOk result (λ halt. (course : Course) → Suits course setting.entry.tick.now setting.entry.graph.now → goes_on course ≡ true → IsOn S.tells course setting.entry.graph.now None state.old (S.world site.old) → IsHalted S.tells course setting.entry.graph.now state.new (S.world site.new) halt) }
-    ensures cut { OnErr result ((course : Course) → Suits course setting.entry.tick.now setting.entry.graph.now → goes_on course ≡ true → IsOn S.tells course setting.entry.graph.now None state.old (S.world site.old) → IsCut S.tells course setting.entry.graph.now state.new.plan (S.world site.new)) }
+    ensures halts { IfOk result (Halts S.tells setting.entry (S.world site.old) (S.world site.new) state.old state.new) }
+    ensures cut { OnErr result (CutsOff S.tells setting.entry (S.world site.old) (S.world site.new) state.old state.new) }
 {
     looks_follow();
     let mut sums = Sums::new(setting.alloc);
@@ -84,9 +80,8 @@ fn run<S: Site>(site: &mut S, setting: Setting<'_>, state: &mut State<'_>) -> Re
 
 /// Why a run pauses that takes no step now. At its end the failed edges go to the summary.
 fn paused(alloc: Global, state: &mut State<'_>, halt: Halt) -> Pause
-    ensures set { state.new.set ≡ state.old.set }
     ensures looks { state.new.looks ≡ state.old.looks }
-    ensures pauses { (tells : Bool) (course : Course) (graph : Graph) (now : World) → IsHalted tells course graph state.old now halt → HasPaused tells course graph state.new now (Ok result) × IsPauseOf graph result }
+    ensures pauses { Pauses state.old state.new halt result }
 {
     match halt {
         Halt::Load(file) => Pause::Load(file),

@@ -1,19 +1,18 @@
 //! Starting the command of an edge.
 
-ghost use Rattle.std.specs.Prelude.{◌≡◌, ℕ, suc, ◌<◌, Some, None, length, slice_set, true, false, OnOk, OnErr};
-ghost use Rattle.model.specs.World.{World};
+ghost use Rattle.std.specs.Prelude.{◌≡◌, suc, ◌<◌, length, slice_set, true, false, OnOk, OnErr};
 ghost use Rattle.model.specs.Schedule.{Started};
 ghost use Rattle.model.specs.Calls.{OnlyLooks, HasCause};
-ghost use Rattle.model.specs.Graph.{edge_at, IsCommand};
+ghost use Rattle.model.specs.Graph.{IsCommand};
 ghost use Rattle.theory.specs.Seen.{StartsUnrefused};
 ghost use Rattle.graph.specs.Told.{declared_by};
 ghost use Rattle.plan.specs.declared.step.Standing.{Standing};
 ghost use Rattle.plan.specs.declared.step.Step.TheVariants as step;
-ghost use Rattle.plan.specs.Planned.{TakesStep, IsOffered};
+ghost use Rattle.plan.specs.Planned.{TakesStep, IsOffered, IsNext};
+ghost use Rattle.work.specs.EdgeIn.{edge_in};
 ghost use Rattle.work.specs.After.{ComesAfter};
-ghost use Rattle.work.specs.Course.{Course, Suits, IsOn};
-ghost use Rattle.work.specs.Going.{IsGoing, IsSaid, IsCut, work_left};
-ghost use Rattle.work.specs.Starting.{IsBegun};
+ghost use Rattle.work.specs.Going.{IsGoing, GoesOn, CutsOff, work_left};
+ghost use Rattle.work.specs.Starting.{IsBegunOf, LaunchesOn, CutsLaunch};
 
 use crate::counts::progress;
 use crate::folders::{make_folder, make_output_folders};
@@ -40,18 +39,17 @@ pub fn start_edge<S: Site>(
     edge: EdgeId,
 ) -> Result<(), SiteFault>
     requires running { (S.world site.old).stopped ≡ false }
-    requires going { (going : IsGoing S.tells setting.tick.now setting.graph.now state.old (S.world site.old)) × IsSaid going.course setting.graph.now going.on.steps (step.Start edge) }
-    requires offered { IsOffered state.old.plan (step.Start edge) }
+    requires going { IsGoing S.tells true setting.tick.now setting.graph.now state.old (S.world site.old) }
+    requires next { IsNext state.old.plan (step.Start edge) }
     ensures cause { HasCause (S.world site.old) (S.world site.new) result }
     ensures starts { StartsUnrefused (S.world site.old) (S.world site.new) }
     ensures grows { ComesAfter S.tells (S.world site.old) (S.world site.new) }
     ensures some { OnOk result ((S.world site.new).events ≡ (S.world site.old).events → ⊥) }
     ensures nearer { OnOk result (work_left state.new.plan.standings.items < work_left state.old.plan.standings.items) }
-    ensures set { state.new.set ≡ state.old.set }
     ensures looks { state.new.looks ≡ state.old.looks }
     ensures changed { state.new.plan.changed ≡ state.old.plan.changed }
-    ensures on { OnOk result ((course : Course) → Suits course setting.entry.tick.now setting.entry.graph.now → (on : IsOn S.tells course setting.entry.graph.now None state.old (S.world site.old)) → IsSaid course setting.entry.graph.now on.steps (step.Start edge) → IsOn S.tells course setting.entry.graph.now None state.new (S.world site.new)) }
-    ensures cut { OnErr result ((course : Course) → Suits course setting.entry.tick.now setting.entry.graph.now → (on : IsOn S.tells course setting.entry.graph.now None state.old (S.world site.old)) → IsSaid course setting.entry.graph.now on.steps (step.Start edge) → IsCut S.tells course setting.entry.graph.now state.new.plan (S.world site.new)) }
+    ensures on { OnOk result (GoesOn S.tells setting.entry (S.world site.old) (S.world site.new) state.old state.new) }
+    ensures cut { OnErr result (CutsOff S.tells setting.entry (S.world site.old) (S.world site.new) state.old state.new) }
 {
     log_stays();
     make_folders(site, setting, edge)?;
@@ -87,18 +85,17 @@ fn launch<S: Site>(
     edge: EdgeId,
 ) -> Result<(), SiteFault>
     requires running { (S.world site.old).stopped ≡ false }
-    requires begun { (course : Course) × Suits course setting.tick.now setting.graph.now × IsBegun S.tells course setting.graph.now (suc edge) state.old (S.world site.old) }
+    requires begun { IsBegunOf S.tells setting.tick.now setting.graph.now edge state.old (S.world site.old) }
     requires offered { IsOffered state.old.plan (step.Start edge) }
     ensures cause { HasCause (S.world site.old) (S.world site.new) result }
     ensures starts { StartsUnrefused (S.world site.old) (S.world site.new) }
     ensures grows { ComesAfter S.tells (S.world site.old) (S.world site.new) }
     ensures some { OnOk result ((S.world site.new).events ≡ (S.world site.old).events → ⊥) }
     ensures nearer { OnOk result (work_left state.new.plan.standings.items < work_left state.old.plan.standings.items) }
-    ensures set { state.new.set ≡ state.old.set }
     ensures looks { state.new.looks ≡ state.old.looks }
     ensures changed { state.new.plan.changed ≡ state.old.plan.changed }
-    ensures on { OnOk result ((course : Course) → Suits course setting.entry.tick.now setting.entry.graph.now → IsBegun S.tells course setting.entry.graph.now (suc edge) state.old (S.world site.old) → IsOn S.tells course setting.entry.graph.now None state.new (S.world site.new)) }
-    ensures cut { OnErr result ((course : Course) → Suits course setting.entry.tick.now setting.entry.graph.now → IsBegun S.tells course setting.entry.graph.now (suc edge) state.old (S.world site.old) → IsCut S.tells course setting.entry.graph.now state.new.plan (S.world site.new)) }
+    ensures on { OnOk result (LaunchesOn S.tells setting.entry edge (S.world site.old) (S.world site.new) state.old state.new) }
+    ensures cut { OnErr result (CutsLaunch S.tells setting.entry edge (S.world site.old) (S.world site.new) state.old state.new) }
 {
     log_stays();
     let act = act(setting.graph, edge);
@@ -116,7 +113,7 @@ fn launch<S: Site>(
 /// What the command of an edge does.
 pub fn act(graph: &Graph, edge: EdgeId) -> &Act
     requires { IsCommand (declared_by graph.now).edges (suc edge) }
-    ensures { result.now ≡ (edge_at (declared_by graph.now).edges (suc edge)).act }
+    ensures { result.now ≡ (edge_in graph.now edge).act }
 {
     &command(graph, edge).act
 }
@@ -124,8 +121,8 @@ pub fn act(graph: &Graph, edge: EdgeId) -> &Act
 /// The command of an edge.
 pub fn command(graph: &Graph, edge: EdgeId) -> &Command
     requires { IsCommand (declared_by graph.now).edges (suc edge) }
-    ensures act { result.now.act ≡ (edge_at (declared_by graph.now).edges (suc edge)).act }
-    ensures deps { result.now.deps ≡ (edge_at (declared_by graph.now).edges (suc edge)).deps }
+    ensures act { result.now.act ≡ (edge_in graph.now edge).act }
+    ensures deps { result.now.deps ≡ (edge_in graph.now edge).deps }
 {
     match graph.manifest.action(edge) {
         Action::Alias => unreachable!(),

@@ -1,9 +1,6 @@
 //! What a run changes.
 
-ghost use Rattle.std.specs.Prelude.{◌≡◌, ◌≤◌, ℕ, IfOk, OnOk, OnErr, [], None, false, true, length, vec_len};
-ghost use Rattle.std.proofs.Math.ListN.{replicate};
-ghost use Rattle.model.specs.Schedule.{Task};
-ghost use Rattle.work.specs.Going.{AreEnough, AreSet};
+ghost use Rattle.std.specs.Prelude.{◌≡◌, IfOk, [], length, vec_len};
 
 use crate::display::Display;
 use graph::Graph;
@@ -27,8 +24,6 @@ pub struct State<'a> {
     pub starts: Vec<u64>,
     /// The edges whose command failed, in the order in which they ended.
     pub failed: Vec<EdgeId>,
-    /// As many flags that are set as an edge may have outputs: all outputs of a command without `restat` count as changed.
-    pub set: Vec<bool>,
 }
 
 impl<'a> State<'a> {
@@ -49,7 +44,6 @@ impl<'a> State<'a> {
         ensures due { IfOk result (λ state. state.due ≡ due) }
         ensures starts { IfOk result (λ state. vec_len state.starts ≡ length graph.now.manifest.lines) }
         ensures failed { IfOk result (λ state. state.failed.items ≡ []) }
-        ensures enough { IfOk result (λ state. AreSet graph.now state.set.items) }
     {
         Ok(State {
             plan,
@@ -59,34 +53,6 @@ impl<'a> State<'a> {
             due,
             starts: vec![in alloc; 0; graph.edges()]?,
             failed: Vec::new(alloc),
-            set: vec![in alloc; true; most_outputs(graph)]?,
         })
     }
-
-    /// Room for the outputs that a loaded dyndep file added to the graph. `AllocError` where memory is refused; nothing is changed
-    /// then.
-    pub fn grow(&mut self, alloc: Global, graph: &Graph) -> Result<(), AllocError>
-        ensures enough { OnOk result (AreSet graph.now self.new.set.items) }
-        ensures plan { self.new.plan ≡ self.old.plan }
-        ensures looks { self.new.looks ≡ self.old.looks }
-        ensures records { self.new.records ≡ self.old.records }
-        ensures due { self.new.due ≡ self.old.due }
-        ensures starts { self.new.starts ≡ self.old.starts }
-        ensures failed { self.new.failed ≡ self.old.failed }
-        ensures err { OnErr result (self.new.set ≡ self.old.set) }
-    {
-        self.set = vec![in alloc; true; most_outputs(graph)]?;
-        Ok(())
-    }
-}
-
-/// How many outputs the edge with the most of them has.
-fn most_outputs(graph: &Graph) -> usize
-    ensures { AreEnough graph.now result }
-{
-    let mut most = 0;
-    for place in 0..graph.edges() {
-        most = most.max(graph.outputs(graph.manifest.edge(place)).len());
-    }
-    most
 }

@@ -1,25 +1,23 @@
 //! Taking in a command that has ended.
 
-ghost use Rattle.std.specs.Prelude.{◌≡◌, ◌<◌, ◌++◌, ◌∷◌, [], not, ℕ, suc, None, true, false, length, get_or, IfErr, OnOk, OnErr};
-ghost use Rattle.model.specs.declared.event.Event.TheVariants.{Finish};
+ghost use Rattle.std.specs.Prelude.{◌≡◌, ◌<◌, suc, true, false, length, get_or, IfErr, OnOk, OnErr};
 ghost use Rattle.model.specs.Calls.{OnlyLooks, HasCause};
-ghost use Rattle.model.specs.Graph.{edge_at, has_number, IsCommand};
+ghost use Rattle.model.specs.Graph.{IsCommand};
 ghost use Rattle.model.specs.Schedule.{Ended};
-ghost use Rattle.plan.specs.Flags.{has};
-ghost use Rattle.graph.specs.Links.{links_of};
 ghost use Rattle.graph.specs.Told.{declared_by};
-ghost use Rattle.judge.specs.Seen.{look_at};
 ghost use Rattle.plan.specs.declared.step.Standing.{Standing};
 ghost use Rattle.plan.specs.Standing.{standing_at};
+ghost use Rattle.plan.specs.Changed.{AreSetAt};
 ghost use Rattle.plan.specs.Planned.{IsPlanOver, TakesStep};
+ghost use Rattle.plan.specs.Settling.{outputs_in};
+ghost use Rattle.work.specs.EdgeIn.{edge_in};
 ghost use Rattle.work.specs.After.{ComesAfter};
-ghost use Rattle.work.specs.Course.{Course, Suits, IsOn};
-ghost use Rattle.work.specs.Going.{IsGoing, MayTakeIn, IsCut, AreSet, IsSameBeside, HasEnded, failed_after, work_left};
+ghost use Rattle.work.specs.Going.{IsAwaiting, WaitsOn, WaitsCut, IsSameBeside, HasEnded, failed_after, work_left};
 ghost use Rattle.work.specs.Removing.{EndsByRemoving};
-ghost use Rattle.work.specs.Restat.{is_same_look, IsForgotten, LooksAnew};
-ghost use Rattle.work.specs.Starting.{IsTakenIn};
+ghost use Rattle.work.specs.Restat.{FlagsDiffer, FlagsStay, IsForgotten, LooksAnew};
+ghost use Rattle.work.specs.Starting.{IsTakenInOf, RecordsOn, CutsRecord};
 ghost use Rattle.work.specs.Cutting.{Cuts, IfWaiting, IsOfWait};
-ghost use Rattle.work.specs.Telling.{IsEnding, ended_well};
+ghost use Rattle.work.specs.Telling.{IsEndingOf, EndsOn, CutsEnd, RemovesWhatEnded, ended_well};
 ghost use Rattle.work.specs.Unmade.{KnowsUnmade};
 
 use crate::counts::progress;
@@ -35,6 +33,7 @@ use depfile::one_answer;
 use graph::lists_stand;
 use model::{Finished, SiteFault};
 use paths::EdgeId;
+use plan::Changed;
 use records::{log_stays, none_while_running};
 use site::Site;
 use std::alloc::AllocError;
@@ -46,18 +45,16 @@ pub fn take_in<S: Site>(
     state: &mut State<'_>,
 ) -> Result<(), Cut>
     requires running { (S.world site.old).stopped ≡ false }
-    requires waits { (going : IsGoing S.tells setting.tick.now setting.graph.now state.old (S.world site.old)) × MayTakeIn going.course going.on.steps }
-    requires enough { AreSet setting.graph.now state.old.set.items }
+    requires going { IsAwaiting S.tells setting.tick.now setting.graph.now state.old (S.world site.old) }
     ensures cuts { Cuts (S.world site.old) (S.world site.new) result }
     ensures grows { ComesAfter S.tells (S.world site.old) (S.world site.new) }
     ensures some { OnOk result ((S.world site.new).events ≡ (S.world site.old).events → ⊥) }
     ensures of_wait { IfErr result (IsOfWait (S.world site.old) (S.world site.new)) }
     ensures nearer { OnOk result (work_left state.new.plan.standings.items < work_left state.old.plan.standings.items) }
-    ensures set { state.new.set ≡ state.old.set }
     ensures kept { OnOk result (KnowsUnmade setting.entry.graph.now state.old state.new) }
-    ensures removed { OnOk result ((i : ℕ) → (S.world site.new).events ≡ (S.world site.old).events ++ Finish i true ∷ [] → state.new.failed ≡ state.old.failed → EndsByRemoving S.tells (edge_at (declared_by setting.entry.graph.now).edges i).act (S.world site.old) (S.world site.new)) }
-    ensures on { OnOk result ((course : Course) → Suits course setting.entry.tick.now setting.entry.graph.now → (on : IsOn S.tells course setting.entry.graph.now None state.old (S.world site.old)) → MayTakeIn course on.steps → IsOn S.tells course setting.entry.graph.now None state.new (S.world site.new)) }
-    ensures cut { OnErr result ((course : Course) → Suits course setting.entry.tick.now setting.entry.graph.now → (on : IsOn S.tells course setting.entry.graph.now None state.old (S.world site.old)) → MayTakeIn course on.steps → IsCut S.tells course setting.entry.graph.now state.new.plan (S.world site.new)) }
+    ensures removed { OnOk result (RemovesWhatEnded S.tells setting.entry.graph.now (S.world site.old) (S.world site.new) state.old state.new) }
+    ensures on { OnOk result (WaitsOn S.tells setting.entry (S.world site.old) (S.world site.new) state.old state.new) }
+    ensures cut { OnErr result (WaitsCut S.tells setting.entry (S.world site.old) (S.world site.new) state.old state.new) }
 {
     match site.wait_any() {
         Ok(finished) => {
@@ -91,19 +88,17 @@ fn take_in_told<S: Site>(
     told: &Told<'_>,
 ) -> Result<(), Cut>
     requires running { (S.world site.old).stopped ≡ false }
-    requires ending { (course : Course) × Suits course setting.tick.now setting.graph.now × IsEnding S.tells course setting.graph.now (suc edge) finished.ok told.now state.old (S.world site.old) }
-    requires enough { AreSet setting.graph.now state.old.set.items }
+    requires ending { IsEndingOf S.tells setting.tick.now setting.graph.now edge finished.ok told.now state.old (S.world site.old) }
     ensures cuts { Cuts (S.world site.old) (S.world site.new) result }
     ensures grows { ComesAfter S.tells (S.world site.old) (S.world site.new) }
     ensures events { (S.world site.new).events ≡ (S.world site.old).events }
     ensures of_wait { IfErr result (λ cut. IfWaiting cut ⊥) }
     ensures nearer { OnOk result (work_left state.new.plan.standings.items < work_left state.old.plan.standings.items) }
-    ensures set { state.new.set ≡ state.old.set }
     ensures kept { OnOk result (KnowsUnmade setting.entry.graph.now state.old state.new) }
     ensures noted { OnOk result (state.new.failed.items ≡ failed_after state.old.failed.items edge (ended_well finished.ok told.now)) }
-    ensures removed { OnOk result (ended_well finished.ok told.now ≡ true → EndsByRemoving S.tells (edge_at (declared_by setting.entry.graph.now).edges (suc edge)).act (S.world site.old) (S.world site.new)) }
-    ensures on { OnOk result ((course : Course) → Suits course setting.entry.tick.now setting.entry.graph.now → IsEnding S.tells course setting.entry.graph.now (suc edge) finished.ok told.now state.old (S.world site.old) → IsOn S.tells course setting.entry.graph.now None state.new (S.world site.new)) }
-    ensures cut { OnErr result ((course : Course) → Suits course setting.entry.tick.now setting.entry.graph.now → IsEnding S.tells course setting.entry.graph.now (suc edge) finished.ok told.now state.old (S.world site.old) → IsCut S.tells course setting.entry.graph.now state.new.plan (S.world site.new)) }
+    ensures removed { OnOk result (ended_well finished.ok told.now ≡ true → EndsByRemoving S.tells (edge_in setting.entry.graph.now edge).act (S.world site.old) (S.world site.new)) }
+    ensures on { OnOk result (EndsOn S.tells setting.entry edge finished.ok told.now (S.world site.old) (S.world site.new) state.old state.new) }
+    ensures cut { OnErr result (CutsEnd S.tells setting.entry edge finished.ok told.now (S.world site.old) (S.world site.new) state.old state.new) }
 {
     lists_stand(setting.graph);
     log_stays();
@@ -129,14 +124,11 @@ fn take_in_told<S: Site>(
 fn note_unread(setting: Setting<'_>, state: &mut State<'_>, edge: EdgeId)
     requires over { IsPlanOver setting.graph.now state.old.plan }
     requires running { standing_at state.old.plan.standings.items edge ≡ Standing.Running }
-    requires enough { AreSet setting.graph.now state.old.set.items }
     ensures planned { TakesStep setting.entry.graph.now state.old.plan state.new.plan (Ended (suc edge) false) }
-    ensures set { state.new.set ≡ state.old.set }
 {
-    let outputs = setting.graph.outputs(edge);
     state
         .plan
-        .finished(setting.graph, edge, false, &state.set[..outputs.len()]);
+        .finished(setting.graph, edge, false, Changed::All);
 }
 
 /// Notes how the command of a running edge ended: in the plan, which of its outputs are new, and that it failed where it did. Of
@@ -152,13 +144,11 @@ fn note_end<S: Site>(
     requires over { IsPlanOver setting.graph.now state.old.plan }
     requires running { standing_at state.old.plan.standings.items edge ≡ Standing.Running }
     requires command { IsCommand (declared_by setting.graph.now).edges (suc edge) }
-    requires enough { AreSet setting.graph.now state.old.set.items }
     requires fits { length state.old.looks.seen.items ≡ length setting.graph.now.manifest.paths }
     ensures looks { OnlyLooks S.tells (S.world site.old) (S.world site.new) }
     ensures cause { HasCause (S.world site.old) (S.world site.new) result }
     ensures nearer { work_left state.new.plan.standings.items < work_left state.old.plan.standings.items }
     ensures ended { OnOk result (HasEnded S.tells setting.entry.graph.now edge ok (S.world site.old) (S.world site.new) state.old state.new) }
-    ensures set { state.new.set ≡ state.old.set }
     ensures planned { TakesStep setting.entry.graph.now state.old.plan state.new.plan (Ended (suc edge) ok) }
     ensures noted { OnOk result (state.new.failed.items ≡ failed_after state.old.failed.items edge ok) }
 {
@@ -178,19 +168,15 @@ fn note_all(
 ) -> Result<(), AllocError>
     requires over { IsPlanOver setting.graph.now state.old.plan }
     requires running { standing_at state.old.plan.standings.items edge ≡ Standing.Running }
-    requires enough { AreSet setting.graph.now state.old.set.items }
     ensures nearer { work_left state.new.plan.standings.items < work_left state.old.plan.standings.items }
-    ensures changed { (p : ℕ) → has_number ((links_of setting.entry.graph.now).outputs edge) p ≡ true → has state.new.plan.changed.items p ≡ true }
-    ensures unchanged { (p : ℕ) → has_number ((links_of setting.entry.graph.now).outputs edge) p ≡ false → has state.new.plan.changed.items p ≡ has state.old.plan.changed.items p }
+    ensures flags { AreSetAt state.old.plan.changed.items state.new.plan.changed.items (outputs_in setting.entry.graph.now edge) }
     ensures forgets { IsForgotten setting.entry.graph.now edge state.old.looks state.new.looks }
     ensures beside { IsSameBeside state.old state.new }
     ensures planned { TakesStep setting.entry.graph.now state.old.plan state.new.plan (Ended (suc edge) ok) }
     ensures noted { OnOk result (state.new.failed.items ≡ failed_after state.old.failed.items edge ok) }
 {
     let outputs = setting.graph.outputs(edge);
-    state
-        .plan
-        .finished(setting.graph, edge, ok, &state.set[..outputs.len()]);
+    state.plan.finished(setting.graph, edge, ok, Changed::All);
     state.looks.forget(outputs);
     if !ok {
         state.failed.push(edge)?;
@@ -208,13 +194,12 @@ fn note_compared<S: Site>(
     requires going_on { (S.world site.old).stopped ≡ false }
     requires over { IsPlanOver setting.graph.now state.old.plan }
     requires running { standing_at state.old.plan.standings.items edge ≡ Standing.Running }
-    requires enough { AreSet setting.graph.now state.old.set.items }
     requires fits { length state.old.looks.seen.items ≡ length setting.graph.now.manifest.paths }
     ensures looks { OnlyLooks S.tells (S.world site.old) (S.world site.new) }
     ensures cause { HasCause (S.world site.old) (S.world site.new) result }
     ensures nearer { work_left state.new.plan.standings.items < work_left state.old.plan.standings.items }
-    ensures changed { OnOk result ((p : ℕ) → has_number ((links_of setting.entry.graph.now).outputs edge) p ≡ true → has state.new.plan.changed.items p ≡ not (is_same_look (look_at state.old.looks.seen.items p) (look_at state.new.looks.seen.items p))) }
-    ensures unchanged { OnOk result ((p : ℕ) → has_number ((links_of setting.entry.graph.now).outputs edge) p ≡ false → has state.new.plan.changed.items p ≡ has state.old.plan.changed.items p) }
+    ensures changed { OnOk result (FlagsDiffer setting.entry.graph.now edge state.old state.new) }
+    ensures unchanged { OnOk result (FlagsStay setting.entry.graph.now edge state.old state.new) }
     ensures anew { OnOk result (LooksAnew S.tells setting.entry.graph.now edge (S.world site.old) (S.world site.new) state.old.looks state.new.looks) }
     ensures beside { IsSameBeside state.old state.new }
     ensures planned { TakesStep setting.entry.graph.now state.old.plan state.new.plan (Ended (suc edge) true) }
@@ -222,16 +207,12 @@ fn note_compared<S: Site>(
 {
     match changes(site, setting, &mut state.looks, edge) {
         Ok(changed) => {
-            state
-                .plan
-                .finished(setting.graph, edge, true, changed.as_slice());
+            let changed = Changed::Each(changed.as_slice());
+            state.plan.finished(setting.graph, edge, true, changed);
             Ok(())
         }
         Err(fault) => {
-            let outputs = setting.graph.outputs(edge);
-            state
-                .plan
-                .finished(setting.graph, edge, true, &state.set[..outputs.len()]);
+            state.plan.finished(setting.graph, edge, true, Changed::All);
             Err(fault)
         }
     }
@@ -248,18 +229,17 @@ fn record_end<S: Site>(
     told: &Told<'_>,
 ) -> Result<(), SiteFault>
     requires running { (S.world site.old).stopped ≡ false }
-    requires taken_in { (course : Course) × Suits course setting.tick.now setting.graph.now × IsTakenIn S.tells course setting.graph.now (suc edge) (get_or state.old.starts.items edge 0) ok told.now state.old (S.world site.old) }
+    requires taken_in { IsTakenInOf S.tells setting.tick.now setting.graph.now edge (get_or state.old.starts.items edge 0) ok told.now state.old (S.world site.old) }
     ensures cause { HasCause (S.world site.old) (S.world site.new) result }
     ensures grows { ComesAfter S.tells (S.world site.old) (S.world site.new) }
     ensures events { (S.world site.new).events ≡ (S.world site.old).events }
     ensures at_start { (S.world site.new).failures_at_start ≡ (S.world site.old).failures_at_start }
     ensures plan { state.new.plan ≡ state.old.plan }
-    ensures set { state.new.set ≡ state.old.set }
     ensures looks { state.new.looks ≡ state.old.looks }
     ensures failed { state.new.failed ≡ state.old.failed }
-    ensures removed { OnOk result (ok ≡ true → EndsByRemoving S.tells (edge_at (declared_by setting.entry.graph.now).edges (suc edge)).act (S.world site.old) (S.world site.new)) }
-    ensures on { OnOk result ((course : Course) → Suits course setting.entry.tick.now setting.entry.graph.now → IsTakenIn S.tells course setting.entry.graph.now (suc edge) (get_or state.old.starts.items edge 0) ok told.now state.old (S.world site.old) → IsOn S.tells course setting.entry.graph.now None state.new (S.world site.new)) }
-    ensures cut { OnErr result ((course : Course) → Suits course setting.entry.tick.now setting.entry.graph.now → IsTakenIn S.tells course setting.entry.graph.now (suc edge) (get_or state.old.starts.items edge 0) ok told.now state.old (S.world site.old) → IsCut S.tells course setting.entry.graph.now state.new.plan (S.world site.new)) }
+    ensures removed { OnOk result (ok ≡ true → EndsByRemoving S.tells (edge_in setting.entry.graph.now edge).act (S.world site.old) (S.world site.new)) }
+    ensures on { OnOk result (RecordsOn S.tells setting.entry edge ok told.now (S.world site.old) (S.world site.new) state.old state.new) }
+    ensures cut { OnErr result (CutsRecord S.tells setting.entry edge ok told.now (S.world site.old) (S.world site.new) state.old state.new) }
 {
     if !ok {
         return Ok(());

@@ -1,8 +1,7 @@
 //! Which commands get the terminal to themselves.
 
-ghost use Rattle.std.specs.Prelude.{◌≡◌, ◌<◌, suc, length};
-ghost use Rattle.model.specs.Graph.{edge_at};
-ghost use Rattle.graph.specs.Told.{declared_by};
+ghost use Rattle.std.specs.Prelude.{◌≡◌, ◌<◌, length};
+ghost use Rattle.work.specs.EdgeIn.{edge_in};
 ghost use Rattle.work.specs.Shown.{is_console};
 
 use graph::Graph;
@@ -14,7 +13,7 @@ const CONSOLE: &str = "console";
 /// Whether the command gets the terminal to itself: that of an edge in the pool `console` (manual: "The `console` pool").
 pub fn has_terminal(graph: &Graph, edge: EdgeId) -> bool
     requires { edge < length graph.now.manifest.lines }
-    ensures { result ≡ is_console (edge_at (declared_by graph.now).edges (suc edge)) }
+    ensures { result ≡ is_console (edge_in graph.now edge) }
 {
     match graph.manifest.action(edge) {
         Action::Alias => false,

@@ -1,11 +1,10 @@
 //! One turn of a run.
 
-ghost use Rattle.std.specs.Prelude.{◌≡◌, ◌<◌, None, true, false, IfOk, OnOk, OnErr, MatchOption};
+ghost use Rattle.std.specs.Prelude.{◌≡◌, true, false, IfOk, OnOk, OnErr};
 ghost use Rattle.work.specs.After.{ComesAfter, LooksUnlessMore};
 ghost use Rattle.judge.specs.Lasting.{AreMarked};
 ghost use Rattle.judge.specs.Summed.{AreSums};
-ghost use Rattle.work.specs.Course.{Course, goes_on, Suits, IsOn};
-ghost use Rattle.work.specs.Going.{IsGoing, IsHalted, IsCut, AreSet, work_left};
+ghost use Rattle.work.specs.Going.{IsGoing, TurnsTo, CutsOff, IsNearer};
 ghost use Rattle.work.specs.Cutting.{Cuts};
 
 use crate::cut::Cut;
@@ -37,19 +36,17 @@ pub fn go_on<S: Site>(
     sums: &mut Sums,
 ) -> Result<Option<Halt>, Cut>
     requires running { (S.world site.old).stopped ≡ false }
-    requires going { (going : IsGoing S.tells setting.tick.now setting.graph.now state.old (S.world site.old)) × (goes_on going.course ≡ true) }
-    requires enough { AreSet setting.graph.now state.old.set.items }
+    requires going { IsGoing S.tells true setting.tick.now setting.graph.now state.old (S.world site.old) }
     requires summed { AreSums setting.graph.now state.old.plan.changed.items state.old.looks.seen.items sums.old }
     requires marked { AreMarked setting.graph.now state.old.plan.changed.items state.old.looks.seen.items sums.old }
     ensures cuts { Cuts (S.world site.old) (S.world site.new) result }
     ensures grows { ComesAfter S.tells (S.world site.old) (S.world site.new) }
     ensures looked { OnOk result (LooksUnlessMore S.tells setting.entry.graph.now (S.world site.old) (S.world site.new) state.old.looks state.new.looks) }
-    ensures nearer { IfOk result (λ halt. MatchOption halt (work_left state.new.plan.standings.items < work_left state.old.plan.standings.items) (λ halt. Unit {0})) }
+    ensures nearer { IfOk result (λ halt. IsNearer state.old state.new halt) }
     ensures summed { OnOk result (AreSums setting.entry.graph.now state.new.plan.changed.items state.new.looks.seen.items sums.new) }
     ensures marked { OnOk result (AreMarked setting.entry.graph.now state.new.plan.changed.items state.new.looks.seen.items sums.new) }
-    ensures set { state.new.set ≡ state.old.set }
-    ensures on { IfOk result (λ halt. (course : Course) → Suits course setting.entry.tick.now setting.entry.graph.now → goes_on course ≡ true → IsOn S.tells course setting.entry.graph.now None state.old (S.world site.old) → MatchOption halt (IsOn S.tells course setting.entry.graph.now None state.new (S.world site.new)) (IsHalted S.tells course setting.entry.graph.now state.new (S.world site.new))) }
-    ensures cut { OnErr result ((course : Course) → Suits course setting.entry.tick.now setting.entry.graph.now → goes_on course ≡ true → IsOn S.tells course setting.entry.graph.now None state.old (S.world site.old) → IsCut S.tells course setting.entry.graph.now state.new.plan (S.world site.new)) }
+    ensures on { IfOk result (TurnsTo S.tells setting.entry (S.world site.old) (S.world site.new) state.old state.new) }
+    ensures cut { OnErr result (CutsOff S.tells setting.entry (S.world site.old) (S.world site.new) state.old state.new) }
 {
     looks_follow();
     sums_follow();

@@ -5,7 +5,7 @@ use Rattle.graph.specs.Told.{declared_by}
 use Rattle.builder.specs.Build.{asked_of}
 use Rattle.builder.proofs.Beginning.{begins_this}
 use Rattle.builder.proofs.Looking.{course_of}
-use Rattle.work.proofs.CountedSlices.{if_ok_then}
+use Rattle.builder.proofs.Values.{if_ok_then}
 use Rattle.builder.proofs.explaining.explain_graph.Goals as goal
 
 pub returns-in_err-cone-clause-looks : goal.returns-in_err-cone-clause-looks
@@ -30,9 +30,6 @@ explain_state-requires-clause-begins g c =
       begins_this tells graph asked c.args.records course old c.requires.read.1 c.requires.formed c.requires.once c.requires.inputs c.in_ok-cone.cone c.in_ok-cone.ensures.cone state.plan fresh.plan state.looks
           fresh.looks state refl refl fresh.kept fresh.failed fresh.starts _ refl,
     )
-
-pub explain_state-requires-clause-enough : goal.explain_state-requires-clause-enough
-explain_state-requires-clause-enough g c = c.in_ok-state.ensures.enough
 
 pub returns-clause-explains : goal.returns-clause-explains
 returns-clause-explains g c =

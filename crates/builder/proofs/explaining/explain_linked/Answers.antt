@@ -9,7 +9,7 @@ use Rattle.manifest.specs.Answer.{IsGraph}
 use Rattle.builder.specs.Build.{asked_of}
 use Rattle.builder.specs.Explained.{ExplainsBuild}
 use Rattle.builder.proofs.Dueing.{explains_before}
-use Rattle.work.proofs.CountedSlices.{if_ok_then}
+use Rattle.builder.proofs.Values.{if_ok_then}
 use Rattle.builder.proofs.Looking.{course_of}
 use Rattle.builder.proofs.Builds.{any_own, own_in, looked_nothing}
 use Rattle.builder.proofs.Opening.{has_read}

@@ -6,7 +6,7 @@ use Rattle.theory.proofs.Looks.{looks_nothing}
 use Rattle.manifest.specs.Answer.{IsGraph}
 use Rattle.paths.specs.Told.{graph_of}
 use Rattle.builder.specs.Explained.{ExplainsBuild}
-use Rattle.work.proofs.CountedSlices.{if_ok_then}
+use Rattle.builder.proofs.Values.{if_ok_then}
 use Rattle.builder.proofs.explaining.explain_read.Goals as goal
 
 pub returns-in_err-graph-clause-looks : goal.returns-in_err-graph-clause-looks

@@ -1,7 +1,6 @@
 use Rattle.std.proofs.Common.{◌∙◌, List, Bool, length, ap, subst}
 use Rattle.theory.proofs.Looks.{looks_then}
 use Rattle.builder.specs.Explained.{SaysDue}
-use Rattle.work.proofs.Asking.{order_within, same_edges}
 use Rattle.builder.proofs.explaining.explain_run.Goals as goal
 
 pub check_sources-requires-clause-fits : goal.check_sources-requires-clause-fits
@@ -10,7 +9,7 @@ check_sources-requires-clause-fits g c = c.requires.begins.4.stands.on.room.look
 pub check_sources-requires-clause-order : goal.check_sources-requires-clause-order
 check_sources-requires-clause-order g c =
     let begins = c.requires.begins in
-    order_within c.args.graph.now c.args.cone.now begins.2 _ _ (same_edges g.S.Texts.tells begins.0 begins.1 begins.2 begins.3 c.args.graph.now c.args.cone.now c.args.state.now (g.S.Texts.world c.args.site.now) begins.4.stands) begins.4.stands.listed
+    c.orders_stand.ensures g.S.Texts.tells begins.0 begins.1 begins.2 begins.3 c.args.cone.now c.args.state.now (g.S.Texts.world c.args.site.now) begins.4.stands
 
 pub check_sources-requires-clause-targets : goal.check_sources-requires-clause-targets
 check_sources-requires-clause-targets g c = c.requires.begins.4.stands.within
@@ -27,7 +26,7 @@ explain_due-requires-clause-fits g c = c.check_sources.ensures.looked.fits ∙ c
 pub explain_due-requires-clause-order : goal.explain_due-requires-clause-order
 explain_due-requires-clause-order g c =
     let begins = c.requires.begins in
-    order_within c.args.graph.now c.args.cone.now begins.2 _ _ (same_edges g.S.Texts.tells begins.0 begins.1 begins.2 begins.3 c.args.graph.now c.args.cone.now c.args.state.now (g.S.Texts.world c.args.site.now) begins.4.stands) begins.4.stands.listed
+    c.orders_stand.ensures g.S.Texts.tells begins.0 begins.1 begins.2 begins.3 c.args.cone.now c.args.state.now (g.S.Texts.world c.args.site.now) begins.4.stands
 
 pub explain_due-requires-clause-due : goal.explain_due-requires-clause-due
 explain_due-requires-clause-due g c = ap length c.deref.ensures.value ∙ c.in_ok-due.ensures.due.fits

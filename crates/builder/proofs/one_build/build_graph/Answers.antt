@@ -66,9 +66,6 @@ run_state-told-requires-clause-begins g c =
           fresh.looks state refl refl fresh.kept fresh.failed fresh.starts _ is_tick,
     )
 
-pub run_state-told-requires-clause-enough : goal.run_state-told-requires-clause-enough
-run_state-told-requires-clause-enough g c = c.in_ok-state.ensures.enough
-
 pub returns : goal.returns
 returns g c = (
   c.run_state-told.ensures.grown,

@@ -2,8 +2,7 @@ use Rattle.std.proofs.Common.{refl}
 use Rattle.model.specs.SingleBuild.{task_of}
 use Rattle.graph.specs.Told.{declared_by}
 use Rattle.builder.specs.Build.{asked_of}
-use Rattle.work.proofs.CountedSlices.{if_ok_and}
-use Rattle.work.proofs.Telling.{none_of_phony}
+use Rattle.builder.proofs.Values.{if_ok_and}
 use Rattle.builder.proofs.one_build.plan_of.Goals as goal
 
 pub returns : goal.returns
@@ -18,7 +17,7 @@ returns c =
           (c.task_of.ensures task record {
             declared = refl;
             recorded = in_use;
-            bare = none_of_phony graph store in_use;
+            bare = c.phonies_record_none.ensures graph store in_use;
           })
           refl refl cone.listed;
     })

@@ -4,11 +4,13 @@ use Rattle.plan.specs.declared.plan.Plan.{Plan}
 use Rattle.builder.specs.Reports.{IsPlanFor}
 use Rattle.builder.proofs.one_build.state_of.Goals as goal
 
-pub returns-clause-fresh : goal.returns-clause-fresh
-returns-clause-fresh c = record {
-  plan = subst (λ (p : Plan). IsPlanFor c.args.graph.now c.args.cone.now c.args.asked.now.limits p) (sym {A = Plan} c.in_ok-state.ensures.plan) c.in_ok-plan.ensures;
-  looks = ap (λ (l : Looks). l.seen.items) c.in_ok-state.ensures.looks ∙ c.in_ok-looks.ensures;
-  kept = c.in_ok-state.ensures.records;
-  failed = c.in_ok-state.ensures.failed;
-  starts = c.in_ok-state.ensures.starts;
+pub returns : goal.returns
+returns c = record {
+  fresh = record {
+    plan = subst (λ (p : Plan). IsPlanFor c.args.graph.now c.args.cone.now c.args.asked.now.limits p) (sym {A = Plan} c.in_ok-state.ensures.plan) c.in_ok-plan.ensures;
+    looks = ap (λ (l : Looks). l.seen.items) c.in_ok-state.ensures.looks ∙ c.in_ok-looks.ensures;
+    kept = c.in_ok-state.ensures.records;
+    failed = c.in_ok-state.ensures.failed;
+    starts = c.in_ok-state.ensures.starts;
+  };
 }

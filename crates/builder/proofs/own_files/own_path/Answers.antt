@@ -1,6 +1,6 @@
 use Rattle.std.proofs.Common.{◌∙◌, sym}
 use Rattle.builder.proofs.Folders.{file_below}
-use Rattle.work.proofs.CountedSlices.{if_ok_then}
+use Rattle.builder.proofs.Values.{if_ok_then}
 use Rattle.builder.proofs.own_files.own_path.Goals as goal
 
 pub returns-in_default : goal.returns-in_default

@@ -94,7 +94,7 @@ returns-clause-inputs g c =
     c.add_paths-2.ensures.looked in
     record {
       edges = c.args.edge ∷ joined.edges;
-      read = read_by_all graph flags two c.args.edge c.add_paths.new.inputs c.add_aliases.new.inputs joined;
+      read = read_by_all graph flags c.reading_stands.ensures two c.args.edge c.add_paths.new.inputs c.add_aliases.new.inputs joined;
       all = λ told_files set kept seen in_ns in_ms. has_all graph flags set (g.S.Texts.world c.add_paths-2.new.site).history three (whole.seen told_files set kept seen) _ recorded c.new-inputs.result c.add_aliases.new.inputs c.add_paths-2.new.inputs c.new-inputs.ensures
           (taken_stays graph flags false two three c.add_paths-2.ensures.looked.stays _ c.new-inputs.result c.add_aliases.new.inputs both) told in_ns in_ms;
     }

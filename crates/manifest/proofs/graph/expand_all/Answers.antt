@@ -2,6 +2,7 @@ use Rattle.std.proofs.Common.{◌≡◌, ◌<◌, ◌≤◌, ◌+◌, subst, rul
 use Rattle.std.specs.List.{AllByRecursion}
 use Rattle.std.specs.Vec.Iter.{into_iter_items}
 use Rattle.std.proofs.lemmas.Result.{err_from_is_err_and}
+use Rattle.scopes.specs.Marks.{AreOfScopes}
 use Rattle.paths.specs.declared.manifest.Action.{Action}
 use Rattle.paths.specs.Commands.{dyndep_stop}
 use Rattle.manifest.specs.declared.kept.ReadEdge.{ReadEdge}
@@ -45,6 +46,17 @@ loop-edge-preserved c =
           (edges_more _ _ c.args.lines.now c.loop-edge.actions _ c.in_ok-action.field-0 grows c.loop-edge.invariant.3 c.loop-edge.invariant.6 low c.in_ok-push.ensures.ok) count
           (λ build is for. (rw place at c.in_ok-action.ensures.edge) past said build of are is for) (c.loop-edge.invariant.7 past said builds of are all named),
     )
+
+pub marks_at-of_scope-requires-clause-within : goal.marks_at-of_scope-requires-clause-within
+marks_at-of_scope-requires-clause-within c =
+    let scopes : AllByRecursion (IsInScope c.args.scopes.now) (c.in-Some.edge ∷ into_iter_items c.next.new.self) = rw c.in-Some.ensures.steps.0 at c.loop-edge.invariant.4 in
+    let low = scopes.0 in
+    let len = c.as_slice.ensures.len in
+    let count = c.in_ok-marks.ensures.count in
+    omega (arith, low, len, count)
+
+pub marks_at-of_scope-requires-clause-marks : goal.marks_at-of_scope-requires-clause-marks
+marks_at-of_scope-requires-clause-marks c = subst (AreOfScopes c.args.scopes.now) (sym c.as_slice.ensures.value) c.in_ok-marks.ensures.marks
 
 pub returns-in_err-action-clause-edges : goal.returns-in_err-action-clause-edges
 returns-in_err-action-clause-edges c = λ past said builds of are all named.

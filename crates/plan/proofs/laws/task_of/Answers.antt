@@ -16,7 +16,6 @@ use Rattle.graph.specs.Held.{dyndep_of}
 use Rattle.graph.specs.Links.{links_of, is_alias}
 use Rattle.graph.specs.Linked.{IsLinksOf}
 use Rattle.graph.specs.Told.{declared_by}
-use Rattle.plan.proofs.Loaded.{file_within}
 use Rattle.plan.proofs.Grown.{pool_is}
 use Rattle.plan.proofs.laws.task_of.Goals as goal
 
@@ -48,6 +47,6 @@ returns c = λ task is.
       makers = λ p lt. ap (λ (es : List Edge). maker es (text_at paths p)) edges ∙ c.lists_stand.ensures.makers p lt;
       apart = graph.apart;
       files = λ e. ap (λ (es : List Edge). (edge_at es (suc e)).dyndep) edges ∙ (ap (λ (edge : Edge). edge.dyndep) (law.edges e) ∙ dyndep_is paths (line e) (get_or graph.manifest.actions e no_action));
-      known = file_within graph;
+      known = λ e file names. (c.files_stand.ensures graph e file names).1;
       bare = λ i phony. none_there (task.recorded i) (λ p. is.recorded i p ∙ ap (λ (texts : List (List ℕ)). has texts p) (is.bare i (sym (ap (λ (es : List Edge). (edge_at es i).phony) edges) ∙ phony)));
     }

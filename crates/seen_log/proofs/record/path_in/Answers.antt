@@ -1,8 +1,7 @@
 use Rattle.std.proofs.Common.{◌∷◌, ◌++◌, List, ℕ, sym, ap, ◌∙◌, subst}
 use Rattle.text.specs.Marks.{Lacks}
 use Rattle.log_text.specs.Line.{field_and_tab, IsPlain}
-use Rattle.log_text.proofs.Bytes.{Lacks-front, Lacks-back}
-use Rattle.log_text.proofs.Notes.{field_in_front}
+use Rattle.seen_log.proofs.InFront.{Lacks-front, Lacks-back, field_in_front}
 use Rattle.seen_log.proofs.record.path_in.Goals as goal
 
 pub returns-in-Ok-clause-found : goal.returns-in-Ok-clause-found

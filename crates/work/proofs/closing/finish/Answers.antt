@@ -7,8 +7,8 @@ use Rattle.work.proofs.closing.finish.Goals as goal
 
 pub take_in_rest-requires-clause-many : goal.take_in_rest-requires-clause-many
 take_in_rest-requires-clause-many g c =
-    let going = c.requires.going.0 in
-    let cut = c.in-Err.ensures.cut going.course going.suits c.requires.going.1 going.on in
+    let going = c.requires.going in
+    let cut = c.in-Err.ensures.cut going.course going.suits going.is going.on in
     many_by_steps g.S.Texts.tells going.course.own (task_of going.course.asked going.course.store) cut.steps going.course.entry (g.S.Texts.world c.take_in_running.new.site) c.running.result going.suits.idle cut.run
     (c.running.ensures.steps (task_of going.course.asked going.course.store) c.args.setting.graph.now cut.steps cut.planned cut.taken)
 

@@ -1,4 +1,4 @@
-use Rattle.std.proofs.Common.{◌∙◌}
+use Rattle.std.proofs.Common.{false}
 use Rattle.model.specs.SingleBuild.{task_of}
 use Rattle.theory.proofs.SiteCalls.{unrefused_call, unrefused_then}
 use Rattle.work.proofs.Cutting.{starts_then}
@@ -12,28 +12,24 @@ run-preserved g c = record {
   unrefused = unrefused_then (g.S.Texts.world c.args.site.now) (g.S.Texts.world c.run.site) (g.S.Texts.world c.take_in.new.site) c.run.invariant.unrefused
       (unrefused_call (g.S.Texts.world c.run.site) (g.S.Texts.world c.take_in.new.site) _ c.in_ok-take_in.ensures.cuts.cause);
   starts = starts_then (g.S.Texts.world c.args.site.now) (g.S.Texts.world c.run.site) (g.S.Texts.world c.take_in.new.site) c.run.invariant.unrefused c.run.invariant.starts c.in_ok-take_in.ensures.cuts.starts;
-  set = c.take_in.ensures.set ∙ c.run.invariant.set;
   grows = after_then g.S.Texts.tells (g.S.Texts.world c.args.site.now) (g.S.Texts.world c.run.site) (g.S.Texts.world c.take_in.new.site) c.run.invariant.grows c.take_in.ensures.grows;
   looked = λ same. absurd (some_after g.S.Texts.tells (g.S.Texts.world c.args.site.now) (g.S.Texts.world c.run.site) (g.S.Texts.world c.take_in.new.site) c.run.invariant.grows c.in_ok-take_in.ensures.some c.take_in.ensures.grows same);
   on = λ course suits ends was.
-      let on = c.run.invariant.on course suits ends was in
-      c.in_ok-take_in.ensures.on course suits on
-      (may_finish course on.steps c.running.result ends (c.running.ensures.steps (task_of course.asked course.store) c.args.setting.graph.now on.steps on.planned on.taken) c.run-test.true);
+      c.in_ok-take_in.ensures.on false (may_finish c.run.state.plan c.running.result c.running.ensures.steps c.run-test.true) course suits ends (c.run.invariant.on course suits ends was);
 }
 
-pub take_in-requires-clause-waits : goal.take_in-requires-clause-waits
-take_in-requires-clause-waits g c =
-    let going = c.requires.going.0 in
-    let on = c.run.invariant.on going.course going.suits c.requires.going.1 going.on in (
-      record { course = going.course; suits = going.suits; on = on },
-      may_finish going.course on.steps c.running.result c.requires.going.1 (c.running.ensures.steps (task_of going.course.asked going.course.store) c.args.setting.graph.now on.steps on.planned on.taken) c.run-test.true,
-    )
+pub take_in-requires-clause-going : goal.take_in-requires-clause-going
+take_in-requires-clause-going g c =
+    let going = c.requires.going in
+    record {
+      goes = false;
+      may = may_finish c.run.state.plan c.running.result c.running.ensures.steps c.run-test.true;
+      going = record { course = going.course; suits = going.suits; is = going.is; on = c.run.invariant.on going.course going.suits going.is going.on };
+    }
 
 pub returns-in_err-take_in-clause-cut : goal.returns-in_err-take_in-clause-cut
 returns-in_err-take_in-clause-cut g c = on_err c.from_residual.result (λ course suits ends was.
-    let on = c.run.invariant.on course suits ends was in
-    c.in_err-take_in.ensures.cut course suits on
-    (may_finish course on.steps c.running.result ends (c.running.ensures.steps (task_of course.asked course.store) c.args.setting.graph.now on.steps on.planned on.taken) c.run-test.true))
+    c.in_err-take_in.ensures.cut false (may_finish c.run.state.plan c.running.result c.running.ensures.steps c.run-test.true) course suits ends (c.run.invariant.on course suits ends was))
 
 pub returns-clause-finished : goal.returns-clause-finished
 returns-clause-finished g c course suits ends was =

@@ -10,7 +10,7 @@ check_sources-requires-clause-fits g c = c.requires.begins.4.stands.on.room.look
 pub check_sources-requires-clause-order : goal.check_sources-requires-clause-order
 check_sources-requires-clause-order g c =
     let begins = c.requires.begins in
-    order_within c.args.graph.now c.args.cone.now begins.2 _ _ (same_edges g.S.Texts.tells begins.0 begins.1 begins.2 begins.3 c.args.graph.now c.args.cone.now c.args.state.now (g.S.Texts.world c.args.site.now) begins.4.stands) begins.4.stands.listed
+    order_within c.args.graph.now c.lists_stand.ensures.fits c.args.cone.now begins.2 _ _ (same_edges g.S.Texts.tells begins.0 begins.1 begins.2 begins.3 c.args.graph.now c.args.cone.now c.args.state.now (g.S.Texts.world c.args.site.now) begins.4.stands) begins.4.stands.listed
 
 pub check_sources-requires-clause-targets : goal.check_sources-requires-clause-targets
 check_sources-requires-clause-targets g c = c.requires.begins.4.stands.within

@@ -1,4 +1,4 @@
-use Rattle.work.proofs.GivingUp.{refusal_so, refused_going, refused_finished, refused_cut, refused_stop, refused_faulted, running_still, fault_stays, fault_ended}
+use Rattle.work.proofs.GivingUp.{refused_going, refused_finished, refused_cut, refused_stop, refused_faulted, running_still, fault_stays, fault_ended}
 use Rattle.work.proofs.going.finished.Goals as goal
 
 pub finish-requires-clause-running : goal.finish-requires-clause-running
@@ -6,9 +6,6 @@ finish-requires-clause-running g c = running_still c.requires.stop.0 (g.S.Texts.
 
 pub finish-requires-clause-going : goal.finish-requires-clause-going
 finish-requires-clause-going g c = refused_going g.S.Texts.tells c.args.setting.tick.now c.args.setting.graph.now c.args.state.now (g.S.Texts.world c.args.site.now) c.args.stop c.in-Refused.refusal c.in-Refused.is c.requires.refused
-
-pub finish-requires-clause-enough : goal.finish-requires-clause-enough
-finish-requires-clause-enough g c = refusal_so c.args.stop c.in-Refused.refusal _ c.in-Refused.is c.requires.enough
 
 pub returns-in-Fault-clause-stop : goal.returns-in-Fault-clause-stop
 returns-in-Fault-clause-stop g c entry so = fault_stays entry (g.S.Texts.world c.args.site.now) c.args.stop c.in-Fault.fault c.in-Fault.is so

@@ -1,4 +1,4 @@
-use Rattle.work.proofs.Stops.{fault_so, fault_unrefused, fault_fault, fault_stopped, fault_on, fault_halted, refusal_on, refusal_same, refusal_halted, refusal_no_fault}
+use Rattle.work.proofs.Stops.{fault_so, fault_stopped, fault_on, fault_halted, refusal_on, refusal_halted}
 use Rattle.work.proofs.going.given_up.Goals as goal
 
 pub give_up-requires-clause-met : goal.give_up-requires-clause-met
@@ -11,9 +11,6 @@ pub returns-in-Fault-clause-stop : goal.returns-in-Fault-clause-stop
 returns-in-Fault-clause-stop g c entry so =
     fault_on entry (g.S.Texts.world c.args.site.now) (g.S.Texts.world c.give_up.new.site) c.args.stop c.in-Fault.fault c.fault.result c.give_up.result c.in-Fault.is c.fault.ensures so (c.give_up.ensures.seen entry) c.give_up.ensures.takes_in
 
-pub returns-in-Fault-clause-same : goal.returns-in-Fault-clause-same
-returns-in-Fault-clause-same g c = fault_unrefused c.args.stop c.in-Fault.fault _ c.in-Fault.is
-
 pub returns-in-Fault-clause-halted : goal.returns-in-Fault-clause-halted
 returns-in-Fault-clause-halted g c tick course grown graph cone state same there =
     fault_halted g.S.Texts.tells tick course grown graph cone state (g.S.Texts.world c.args.site.now) (g.S.Texts.world c.give_up.new.site) c.args.stop c.in-Fault.fault c.fault.result c.give_up.result c.in-Fault.is c.fault.ensures there c.give_up.ensures.left c.give_up.ensures.grows c.give_up.ensures.rest
@@ -21,15 +18,6 @@ returns-in-Fault-clause-halted g c tick course grown graph cone state same there
 pub returns-in-Refused-clause-stop : goal.returns-in-Refused-clause-stop
 returns-in-Refused-clause-stop g c entry so = refusal_on entry (g.S.Texts.world c.args.site.now) c.args.stop c.in-Refused.refusal c.in-Refused.is so
 
-pub returns-in-Refused-clause-same : goal.returns-in-Refused-clause-same
-returns-in-Refused-clause-same g c = refusal_same c.args.stop c.in-Refused.refusal c.in-Refused.is
-
 pub returns-in-Refused-clause-halted : goal.returns-in-Refused-clause-halted
 returns-in-Refused-clause-halted g c tick course grown graph cone state same there =
     refusal_halted g.S.Texts.tells tick course grown graph cone state (g.S.Texts.world c.args.site.now) c.args.stop c.in-Refused.refusal c.in-Refused.is there
-
-pub returns-in-Fault-clause-faults : goal.returns-in-Fault-clause-faults
-returns-in-Fault-clause-faults g c = fault_fault c.args.stop c.in-Fault.fault c.fault.result c.in-Fault.is
-
-pub returns-in-Refused-clause-faults : goal.returns-in-Refused-clause-faults
-returns-in-Refused-clause-faults g c = refusal_no_fault c.args.stop c.in-Refused.refusal _ c.in-Refused.is

@@ -1,39 +1,29 @@
 use Rattle.std.proofs.Common.{refl}
+use Rattle.graph.specs.Told.{declared_by}
 use Rattle.work.proofs.Faults.{well_looks}
-use Rattle.work.proofs.LoadEnds.{load_stop, load_met, load_there}
-use Rattle.work.proofs.Stops.{refused_still}
-use Rattle.work.proofs.Stopping.{refused_both}
+use Rattle.work.proofs.LoadEnds.{stop_met}
 use Rattle.work.proofs.going.load_file.Goals as goal
 
-pub load-requires-clause-stands : goal.load-requires-clause-stands
-load-requires-clause-stands g c =
-    let at = c.requires.stands in
-    (at.0, at.1, at.2, at.3, at.4.stands, at.4.next)
+pub load-requires-clause-at : goal.load-requires-clause-at
+load-requires-clause-at g c = let at = c.requires.at in (at.0, at.1, at.2, at.3, at.4.stands, at.4.next)
 
 pub returns-in-Ok-clause-well : goal.returns-in-Ok-clause-well
-returns-in-Ok-clause-well g c = well_looks g.S.Texts.tells (g.S.Texts.world c.args.site.now) (g.S.Texts.world c.load.new.site) c.load.ensures.looks c.in-Ok.ensures.unrefused
+returns-in-Ok-clause-well g c = well_looks g.S.Texts.tells (g.S.Texts.world c.args.site.now) (g.S.Texts.world c.load.new.site) c.load.ensures.looks c.in-Ok.ensures.well
 
 pub returns-in-Ok-clause-begun : goal.returns-in-Ok-clause-begun
-returns-in-Ok-clause-begun g c tick course edges phases at = c.in-Ok.ensures.begun tick course edges phases at.stands at.next at.asked
+returns-in-Ok-clause-begun g c = c.in-Ok.ensures.begun
 
 pub given_up-requires-clause-met : goal.given_up-requires-clause-met
 given_up-requires-clause-met g c =
-    load_met g.S.Texts.tells c.args.graph.now c.load.new.graph c.args.cone.now c.load.new.cone c.args.state.now c.load.new.state c.args.file (g.S.Texts.world c.args.site.now) (g.S.Texts.world c.load.new.site) c.in-Err.stop c.in-Err.ensures.cut c.requires.stands
+    let at = c.requires.at in
+    stop_met g.S.Texts.tells at.0 at.1 (declared_by c.load.new.graph).edges c.load.new.graph c.load.new.cone c.load.new.state (g.S.Texts.world c.load.new.site) c.in-Err.stop (c.in-Err.ensures.halted at.0 at.1 at.2 at.3 at.4)
 
 pub given_up-requires-clause-stop : goal.given_up-requires-clause-stop
-given_up-requires-clause-stop g c =
-    (g.S.Texts.world c.args.site.now, load_stop g.S.Texts.tells (g.S.Texts.world c.args.site.now) (g.S.Texts.world c.load.new.site) c.in-Err.stop c.load.ensures.looks c.load.ensures.earlier c.in-Err.ensures.refused c.in-Err.ensures.met c.in-Err.ensures.stop)
-
-pub returns-in-Err-clause-same : goal.returns-in-Err-clause-same
-returns-in-Err-clause-same g c =
-    refused_still c.in-Err.stop c.given_up.result _ c.given_up.ensures.same c.given_up.ensures.faults (refused_both c.in-Err.stop _ _ c.in-Err.ensures.graph c.in-Err.ensures.room)
+given_up-requires-clause-stop g c = (g.S.Texts.world c.args.site.now, c.in-Err.ensures.stop)
 
 pub returns-in-Err-clause-stop : goal.returns-in-Err-clause-stop
-returns-in-Err-clause-stop g c =
-    c.given_up.ensures.stop (g.S.Texts.world c.args.site.now)
-    (load_stop g.S.Texts.tells (g.S.Texts.world c.args.site.now) (g.S.Texts.world c.load.new.site) c.in-Err.stop c.load.ensures.looks c.load.ensures.earlier c.in-Err.ensures.refused c.in-Err.ensures.met c.in-Err.ensures.stop)
+returns-in-Err-clause-stop g c = c.given_up.ensures.stop (g.S.Texts.world c.args.site.now) c.in-Err.ensures.stop
 
 pub returns-in-Err-clause-halted : goal.returns-in-Err-clause-halted
-returns-in-Err-clause-halted g c =
-    let there = load_there g.S.Texts.tells c.args.graph.now c.load.new.graph c.args.cone.now c.load.new.cone c.args.state.now c.load.new.state c.args.file (g.S.Texts.world c.args.site.now) (g.S.Texts.world c.load.new.site) c.in-Err.stop c.load.ensures.looks c.in-Err.ensures.stopped c.in-Err.ensures.cut in
-    (there.0, λ tick course edges phases at. c.given_up.ensures.halted tick course there.0 c.load.new.graph c.load.new.cone c.load.new.state refl (there.1 tick course edges phases at))
+returns-in-Err-clause-halted g c tick course edges phases at =
+    c.given_up.ensures.halted tick course (declared_by c.load.new.graph).edges c.load.new.graph c.load.new.cone c.load.new.state refl (c.in-Err.ensures.halted tick course edges phases at)

@@ -1,6 +1,5 @@
 use Rattle.std.proofs.Common.{[], ◌∷◌, ◌++◌}
 use Rattle.std.proofs.lemmas.Result.{err_from_is_err_and}
-use Rattle.graph.specs.Told.{declared_by}
 use Rattle.work.proofs.Faults.{well_then}
 use Rattle.work.proofs.Rounds.{done_there, load_next, halted_there}
 use Rattle.work.proofs.going.run_and_load.Goals as goal
@@ -14,13 +13,10 @@ run_to_load-requires-clause-begins g c =
 pub returns-in_err-summary-clause-halted : goal.returns-in_err-summary-clause-halted
 returns-in_err-summary-clause-halted g c =
     let failed = err_from_is_err_and c.from_residual.result c.from_residual.ensures.1 in
-    rw (failed.1, failed.2) (
-      (declared_by c.run.graph).edges,
-      λ course edges phases begins.
-          let at = c.run.invariant.begins course edges phases begins in
-          halted_there g.S.Texts.tells c.args.tick.now course at.0 at.1 c.run.graph c.run.cone c.run.state (g.S.Texts.world c.run.site) at.2 c.run_to_load.new.state (g.S.Texts.world c.run_to_load.new.site) c.in_err-summary.field-0.0
-          (c.in_err-summary.ensures.halted course at.0 at.1 at.2),
-    )
+    rw (failed.1, failed.2) (λ course edges phases begins.
+    let at = c.run.invariant.begins course edges phases begins in
+    halted_there g.S.Texts.tells c.args.tick.now course at.0 at.1 c.run.graph c.run.cone c.run.state (g.S.Texts.world c.run.site) at.2 c.run_to_load.new.state (g.S.Texts.world c.run_to_load.new.site) c.in_err-summary.field-0.0
+    (c.in_err-summary.ensures.halted course at.0 at.1 at.2))
 
 pub returns-in-Ended-clause-done : goal.returns-in-Ended-clause-done
 returns-in-Ended-clause-done g c course edges phases begins =
@@ -28,8 +24,8 @@ returns-in-Ended-clause-done g c course edges phases begins =
     done_there g.S.Texts.tells c.args.tick.now course at.0 at.1 c.run.graph c.run.cone c.run.state (g.S.Texts.world c.run.site) at.2 c.run_to_load.new.state (g.S.Texts.world c.run_to_load.new.site) c.in_ok-summary.field-0 c.in-Ended.summary c.in-Ended.is
     (c.in_ok-summary.ensures.paused course at.0 at.1 at.2)
 
-pub load_file-requires-clause-stands : goal.load_file-requires-clause-stands
-load_file-requires-clause-stands g c =
+pub load_file-requires-clause-at : goal.load_file-requires-clause-at
+load_file-requires-clause-at g c =
     let begins = c.requires.begins in
     let at = c.run.invariant.begins begins.0 begins.1 begins.2 begins.3 in (
       c.args.tick.now,
@@ -44,7 +40,6 @@ pub run-preserved : goal.run-preserved
 run-preserved g c = record {
   well = well_then (g.S.Texts.world c.args.site.now) (g.S.Texts.world c.run_to_load.new.site) (g.S.Texts.world c.load_file.new.site)
       (well_then (g.S.Texts.world c.args.site.now) (g.S.Texts.world c.run.site) (g.S.Texts.world c.run_to_load.new.site) c.run.invariant.well c.in_ok-summary.ensures.well) c.in_ok-load_file-in-Load.ensures.well;
-  enough = c.in_ok-load_file-in-Load.ensures.set;
   begins = λ course edges phases begins.
       let at = c.run.invariant.begins course edges phases begins in
       let next =
@@ -57,12 +52,8 @@ run-preserved g c = record {
 pub returns-in_err-load_file-in-Load-clause-halted : goal.returns-in_err-load_file-in-Load-clause-halted
 returns-in_err-load_file-in-Load-clause-halted g c =
     let failed = err_from_is_err_and c.from_residual-in_err-load_file-in-Load.result c.from_residual-in_err-load_file-in-Load.ensures.1 in
-    let halted = c.in_err-load_file-in-Load.ensures.halted in
-    rw (failed.1, failed.2) (
-      halted.0,
-      λ course edges phases begins.
-          let at = c.run.invariant.begins course edges phases begins in
-          halted.1 c.args.tick.now course at.0 at.1
-          (load_next g.S.Texts.tells c.args.tick.now course at.0 at.1 c.run.graph c.run.cone c.run.state (g.S.Texts.world c.run.site) at.2 c.run_to_load.new.state (g.S.Texts.world c.run_to_load.new.site) c.in_ok-summary.field-0 c.in-Load.file c.in-Load.is
-          (c.in_ok-summary.ensures.paused course at.0 at.1 at.2)),
-    )
+    rw (failed.1, failed.2) (λ course edges phases begins.
+    let at = c.run.invariant.begins course edges phases begins in
+    c.in_err-load_file-in-Load.ensures.halted c.args.tick.now course at.0 at.1
+    (load_next g.S.Texts.tells c.args.tick.now course at.0 at.1 c.run.graph c.run.cone c.run.state (g.S.Texts.world c.run.site) at.2 c.run_to_load.new.state (g.S.Texts.world c.run_to_load.new.site) c.in_ok-summary.field-0 c.in-Load.file c.in-Load.is
+    (c.in_ok-summary.ensures.paused course at.0 at.1 at.2)))

@@ -3,14 +3,12 @@ use Rattle.model.specs.declared.graph.Edge.{Edge}
 use Rattle.model.specs.Phases.{Phase}
 use Rattle.graph.specs.Told.{declared_by}
 use Rattle.work.specs.Course.{Course}
-use Rattle.work.specs.Going.{AreSet}
 use Rattle.work.specs.Standing.{BeginsAt, GoesWell, files_left}
 use Rattle.work.proofs.going.run_and_load.Given as goal
 
 abbrev pub invariant-run : goal.invariant-run
 invariant-run g l = record {
   well : GoesWell (g.S.Texts.world l.fn.site) (g.S.Texts.world l.site);
-  enough : AreSet l.graph l.state.set.items;
   begins : (course : Course) (edges : List Edge) (phases : List Phase) → BeginsAt g.S.Texts.tells l.tick course edges phases l.fn.graph l.fn.cone l.fn.state (g.S.Texts.world l.fn.site)
       → (many : List Edge) × (more : List Phase) × BeginsAt g.S.Texts.tells l.tick course many more l.graph l.cone l.state (g.S.Texts.world l.site);
 }

@@ -7,16 +7,15 @@ use Rattle.work.proofs.going.run_graph.Goals as goal
 pub finished-requires-clause-refused : goal.finished-requires-clause-refused
 finished-requires-clause-refused g c =
     let begins = c.requires.begins in
-    refused_some g.S.Texts.tells c.args.tick.now begins.0 c.in-Err.ensures.halted.0 c.run_and_load.new.graph c.run_and_load.new.cone c.run_and_load.new.state (g.S.Texts.world c.run_and_load.new.site) c.in-Err.stop
-    (c.in-Err.ensures.halted.1 begins.0 begins.1 begins.2 begins.3)
+    refused_some g.S.Texts.tells c.args.tick.now begins.0 (declared_by c.run_and_load.new.graph).edges c.run_and_load.new.graph c.run_and_load.new.cone c.run_and_load.new.state (g.S.Texts.world c.run_and_load.new.site) c.in-Err.stop
+    (c.in-Err.ensures.halted begins.0 begins.1 begins.2 begins.3)
 
 pub finished-requires-clause-stop : goal.finished-requires-clause-stop
 finished-requires-clause-stop g c = (g.S.Texts.world c.args.site.now, c.in-Err.ensures.stop)
 
 pub returns-in-Err-clause-ended : goal.returns-in-Err-clause-ended
-returns-in-Err-clause-ended g c =
-    let halted = c.in-Err.ensures.halted in
-    (halted.0, λ course edges phases begins. c.finished.ensures.ended course halted.0 c.run_and_load.new.cone (halted.1 course edges phases begins))
+returns-in-Err-clause-ended g c course edges phases begins =
+    c.finished.ensures.ended course (declared_by c.run_and_load.new.graph).edges c.run_and_load.new.cone (c.in-Err.ensures.halted course edges phases begins)
 
 pub returns-in-Err-clause-seen : goal.returns-in-Err-clause-seen
 returns-in-Err-clause-seen g c =
@@ -27,7 +26,7 @@ returns-in-Err-clause-faults g c =
     passes_stop (g.S.Texts.world c.args.site.now) (g.S.Texts.world c.finished.new.site) c.finished.result (c.finished.ensures.stop (g.S.Texts.world c.args.site.now) c.in-Err.ensures.stop)
 
 pub returns-in-Ok-clause-ended : goal.returns-in-Ok-clause-ended
-returns-in-Ok-clause-ended g c = ((declared_by c.run_and_load.new.graph).edges, λ course edges phases begins. c.in-Ok.ensures.done course edges phases begins)
+returns-in-Ok-clause-ended g c = c.in-Ok.ensures.done
 
 pub returns-in-Ok-clause-faults : goal.returns-in-Ok-clause-faults
 returns-in-Ok-clause-faults g c = passes_well (g.S.Texts.world c.args.site.now) (g.S.Texts.world c.run_and_load.new.site) answer.Refused c.in-Ok.ensures.well

@@ -1,6 +1,7 @@
 use Rattle.std.proofs.Common.{suc, true, List, Bool, sym, ap, ◌∙◌, subst}
 use Rattle.model.specs.declared.record.Record.{Record}
 use Rattle.model.specs.declared.record.DepsRecord.{DepsRecord}
+use Rattle.model.specs.SingleBuild.{task_of}
 use Rattle.graph.specs.Told.{declared_by}
 use Rattle.judge.specs.Seen.{IfKept}
 use Rattle.plan.specs.Planned.{is_stale}
@@ -15,8 +16,9 @@ use Rattle.work.proofs.judged.judge.Goals as goal
 
 pub reason-requires-clause-command : goal.reason-requires-clause-command
 reason-requires-clause-command g c =
-    let going = c.requires.going.0 in
-    judged_command going.course c.args.setting.graph.now c.args.setting.tick.now going.suits c.args.edge (c.requires.going.1.lawful true).0.command
+    let going = c.requires.going in
+    let graph = c.args.setting.graph.now in
+    judged_command going.course graph c.args.setting.tick.now going.suits c.args.edge (c.requires.next.lawful (task_of going.course.asked going.course.store) graph going.on.steps going.on.planned going.on.taken true).0.command
 
 pub returns-in_err-reason-clause-looked : goal.returns-in_err-reason-clause-looked
 returns-in_err-reason-clause-looked g c = (c.looks_follow.ensures.follow g.S.Texts.tells (g.S.Texts.world c.args.site.now) (g.S.Texts.world c.ask_before.new.site) (g.S.Texts.world c.reason.new.site)).looked c.args.setting.graph.now c.args.state.now.looks c.ask_before.new.looks c.reason.new.looks c.ask_before.ensures.looked c.reason.ensures.looked
@@ -67,16 +69,16 @@ returns-clause-marked g c =
     (c.sums_follow.ensures.marks graph state.plan.changed.items state.looks.seen.items c.ask_before.new.looks.seen.items c.ask_before.ensures.looked.stays c.args.sums.now c.requires.marked)))
 
 pub returns-clause-nearer : goal.returns-clause-nearer
-returns-clause-nearer g c = judged_less c.args.state.now.plan c.judged.new.self.standings.items c.args.edge c.verdict_of-verdict.result c.requires.offered c.judged.ensures.stands
+returns-clause-nearer g c = judged_less c.args.state.now.plan c.judged.new.self.standings.items c.args.edge c.verdict_of-verdict.result c.requires.next.offered c.judged.ensures.stands
 
 pub returns-clause-on : goal.returns-clause-on
-returns-clause-on g c course suits on next =
+returns-clause-on g c course suits goes on =
     let tells = g.S.Texts.tells in
     let graph = c.args.setting.graph.now in
     let state = c.args.state.now in
     let mid = g.S.Texts.world c.ask_before.new.site in
     judged_on tells course graph c.log_stays.ensures c.args.setting.tick.now suits (with_looks tells course graph state c.ask_before.new.looks) mid (g.S.Texts.world c.reason.new.site) c.args.edge
-    (on_looked tells course graph c.log_stays.ensures c.args.setting.tick.now suits state (g.S.Texts.world c.args.site.now) mid c.ask_before.new.looks c.ask_before.ensures.looked on) next
+    (on_looked tells course graph c.log_stays.ensures c.args.setting.tick.now suits state (g.S.Texts.world c.args.site.now) mid c.ask_before.new.looks c.ask_before.ensures.looked on) goes c.requires.next
     c.reason.ensures.looked.looks c.reason.new.looks c.in_ok-reason.reason (is_stale c.verdict_of-verdict.result) c.verdict_of-verdict.ensures c.reason.ensures.looked
     c.lists_stand.ensures (asked_outputs course graph c.args.setting.tick.now suits c.args.edge c.ask_before.new.looks c.in_ok-ask_before.ensures.asked)
     (subst

@@ -1,130 +1,78 @@
-use Rattle.std.proofs.Common.{◌≡◌, inl, inr, ◌++◌, ℕ, List, map, sym, ◌∙◌, ap, subst}
-use Rattle.model.specs.Records.{recorded_inputs}
+use Rattle.std.proofs.Common.{ℕ, length, take, map, refl, sym, ◌∙◌, ap, subst}
 use Rattle.graph.specs.declared.graph.Graph.{Graph}
 use Rattle.graph.specs.Extended.{addition_of}
-use Rattle.graph.specs.Told.{declared_by}
-use Rattle.paths.specs.Told.{text_at}
-use Rattle.records.specs.declared.records.Records.{Records}
-use Rattle.records.specs.Known.{IsOf, IsOfDeps, AreKnown}
-use Rattle.work.proofs.FileJoins.{numbers_within, to_join, recorded_now, joined_file, asked_now, asked_same, targets_within, targets_are, circle_by, may_go_on, seen_fits, may_take_back}
-use Rattle.work.proofs.Joining.{known_more}
-use Rattle.work.proofs.StopCases.{refused_any, refused_then, left_by}
+use Rattle.records.specs.Known.{AreStillKnown}
+use Rattle.work.proofs.FileJoins.{may_take_back, known_shrunk}
+use Rattle.work.proofs.Results.{on_err}
+use Rattle.work.proofs.StopCases.{refused_then}
 use Rattle.work.proofs.loads.join.Goals as goal
 
-pub join_inputs-requires-clause-edges : goal.join_inputs-requires-clause-edges
-join_inputs-requires-clause-edges c e there =
-    let undoes = c.in_ok-before.ensures.before in
-    let has_it = c.in_ok-before.ensures.loaded in
-    let may = c.requires.may.2 in
-    numbers_within may undoes has_it e there
+-- nothing was changed yet
+pub returns-in_err-before-clause-undone : goal.returns-in_err-before-clause-undone
+returns-in_err-before-clause-undone c = on_err c.from_residual.result (record {
+  graph_is = c.in_err-before.ensures.err;
+  cone_is = refl;
+  state = record { plan = refl; looks = refl; logs = refl; starts = refl; failed = refl };
+  known = λ rs ds known. known;
+})
 
-pub cone_again-requires-clause-targets : goal.cone_again-requires-clause-targets
-cone_again-requires-clause-targets c k d lt =
-    let undoes = c.in_ok-before.ensures.before in
-    let has_it = c.in_ok-before.ensures.loaded in
-    let store = c.requires.may.1 in
-    let may = c.requires.may.2 in
-    let joined = c.in_ok-join_inputs.ensures.joined c.args.graph.now has_it.added store.records store.deps has_it.paths may.known (to_join may undoes has_it) in
-    targets_within may undoes has_it joined k d lt
-
-pub cone_again-requires-clause-asked : goal.cone_again-requires-clause-asked
-cone_again-requires-clause-asked c =
-    let undoes = c.in_ok-before.ensures.before in
-    let has_it = c.in_ok-before.ensures.loaded in
-    let store = c.requires.may.1 in
-    let may = c.requires.may.2 in
-    let joined = c.in_ok-join_inputs.ensures.joined c.args.graph.now has_it.added store.records store.deps has_it.paths may.known (to_join may undoes has_it) in (
-      asked_now may undoes has_it joined,
-      store,
-      asked_same may undoes has_it joined,
-      targets_are may undoes has_it joined,
-      recorded_now may undoes has_it joined,
-    )
-
-pub grow-requires-clause-may : goal.grow-requires-clause-may
-grow-requires-clause-may c =
-    let undoes = c.in_ok-before.ensures.before in
-    let has_it = c.in_ok-before.ensures.loaded in
-    let store = c.requires.may.1 in
-    let may = c.requires.may.2 in
-    let joined = c.in_ok-join_inputs.ensures.joined c.args.graph.now has_it.added store.records store.deps has_it.paths may.known (to_join may undoes has_it) in
-    may_go_on may undoes has_it joined (c.loads_go_on.ensures c.args.graph.now c.extend.new.graph (text_at c.args.graph.now.manifest.paths c.args.file) (map addition_of c.args.additions.now) c.args.state.now.plan may.over may.some has_it)
-
-pub grow-requires-clause-fits : goal.grow-requires-clause-fits
-grow-requires-clause-fits c =
-    let undoes = c.in_ok-before.ensures.before in
-    let has_it = c.in_ok-before.ensures.loaded in
-    let store = c.requires.may.1 in
-    let may = c.requires.may.2 in
-    let joined = c.in_ok-join_inputs.ensures.joined c.args.graph.now has_it.added store.records store.deps has_it.paths may.known (to_join may undoes has_it) in
-    seen_fits may undoes has_it joined
-
-pub returns-in_err-grow-in-Ok-clause-left : goal.returns-in_err-grow-in-Ok-clause-left
-returns-in_err-grow-in-Ok-clause-left c =
-    left_by c.from_residual-in_err-grow-in-Ok.result (elim c.in_err-grow-in-Ok.ensures.left [
-      | inl same ↦ inl same
-      | inr goes ↦ inr (λ asked store may.
-          let undoes = c.in_ok-before.ensures.before in
-          let has_it = c.in_ok-before.ensures.loaded in
-          let joined = c.in_ok-join_inputs.ensures.joined c.args.graph.now has_it.added store.records store.deps has_it.paths may.known (to_join may undoes has_it) in
-          let recorded = recorded_now may undoes has_it joined in
-          (c.in-Ok.grown, record { joined = joined_file may undoes has_it joined; cone_of = c.in-Ok.ensures.cone (recorded_inputs store (declared_by c.join_inputs.new.graph).edges) recorded; planned = goes }))
-    ])
+pub join_parts-requires : goal.join_parts-requires
+join_parts-requires c =
+    let may = c.requires.may in
+    record {
+      loaded = (
+        may.0,
+        may.1,
+        c.args.graph.now,
+        record { file = c.args.file; additions = map addition_of c.args.additions.now; may = may.2; undoes = c.in_ok-before.ensures.before; has = c.in_ok-before.ensures.loaded },
+      );
+    }
 
 pub take_back-requires : goal.take_back-requires
-take_back-requires c =
-    let undoes = c.in_ok-before.ensures.before in
-    let has_it = c.in_ok-before.ensures.loaded in
-    let store = c.requires.may.1 in
-    let may = c.requires.may.2 in
-    let joined = c.in_ok-join_inputs.ensures.joined c.args.graph.now has_it.added store.records store.deps has_it.paths may.known (to_join may undoes has_it) in
-    (c.args.graph.now, (c.extend.new.graph, may_take_back may undoes has_it joined))
+take_back-requires c = (c.args.graph.now, (c.extend.new.graph, may_take_back c.requires.may.2 c.in_ok-before.ensures.before c.in_ok-before.ensures.loaded c.in-Err.ensures.grown))
 
-pub returns-in_ok-grow-in-Ok-clause-goes : goal.returns-in_ok-grow-in-Ok-clause-goes
-returns-in_ok-grow-in-Ok-clause-goes c asked store may =
-    let undoes = c.in_ok-before.ensures.before in
-    let has_it = c.in_ok-before.ensures.loaded in
-    let joined = c.in_ok-join_inputs.ensures.joined c.args.graph.now has_it.added store.records store.deps has_it.paths may.known (to_join may undoes has_it) in
-    let recorded = recorded_now may undoes has_it joined in
-    record { joined = joined_file may undoes has_it joined; cone_of = c.in-Ok.ensures.cone (recorded_inputs store (declared_by c.join_inputs.new.graph).edges) recorded; planned = c.in_ok-grow-in-Ok.ensures.planned }
+pub returns-in-Ok-clause-goes : goal.returns-in-Ok-clause-goes
+returns-in-Ok-clause-goes c asked store may =
+    c.in-Ok.ensures.goes asked store c.args.graph.now
+    (record { file = c.args.file; additions = map addition_of c.args.additions.now; may = may; undoes = c.in_ok-before.ensures.before; has = c.in_ok-before.ensures.loaded })
 
-pub returns-in_ok-grow-in-Ok-clause-known : goal.returns-in_ok-grow-in-Ok-clause-known
-returns-in_ok-grow-in-Ok-clause-known c rs ds known =
-    let undoes = c.in_ok-before.ensures.before in
+pub returns-in-Ok-clause-known : goal.returns-in-Ok-clause-known
+returns-in-Ok-clause-known c rs ds known =
     let has_it = c.in_ok-before.ensures.loaded in
-    let store = c.requires.may.1 in
-    let may = c.requires.may.2 in
-    let joined = c.in_ok-join_inputs.ensures.joined c.args.graph.now has_it.added store.records store.deps has_it.paths may.known (to_join may undoes has_it) in
-    subst (λ (r : Records). AreKnown c.join_inputs.new.graph rs ds r) (sym {A = Records} c.grow.ensures.records)
-    (known_more c.extend.new.graph c.join_inputs.new.graph joined.grown rs ds c.join_inputs.new.records (c.in_ok-join_inputs.ensures.known c.args.graph.now has_it.added rs ds has_it.paths known))
+    c.in-Ok.ensures.known c.args.graph.now has_it.added has_it.paths rs ds known
 
-pub returns-in-Err-clause-graph : goal.returns-in-Err-clause-graph
-returns-in-Err-clause-graph c =
-    let undoes = c.in_ok-before.ensures.before in
-    let has_it = c.in_ok-before.ensures.loaded in
-    let store = c.requires.may.1 in
-    let may = c.requires.may.2 in
-    let joined = c.in_ok-join_inputs.ensures.joined c.args.graph.now has_it.added store.records store.deps has_it.paths may.known (to_join may undoes has_it) in
-    refused_any c.in-Err.stop (c.take_back.ensures c.args.graph.now c.extend.new.graph (may_take_back may undoes has_it joined))
+pub returns-in-Ok-clause-logs : goal.returns-in-Ok-clause-logs
+returns-in-Ok-clause-logs c = c.join_parts.ensures.beside.logs
 
-pub returns-in-Err-clause-records : goal.returns-in-Err-clause-records
-returns-in-Err-clause-records c =
+-- all is undone
+pub returns-in-Err-clause-undone : goal.returns-in-Err-clause-undone
+returns-in-Err-clause-undone c =
+    let may = c.requires.may.2 in
     let undoes = c.in_ok-before.ensures.before in
     let has_it = c.in_ok-before.ensures.loaded in
-    let store = c.requires.may.1 in
-    let may = c.requires.may.2 in
-    let joined = c.in_ok-join_inputs.ensures.joined c.args.graph.now has_it.added store.records store.deps has_it.paths may.known (to_join may undoes has_it) in
-    refused_any c.in-Err.stop (λ rs ds known.
-    let all = c.in_ok-join_inputs.ensures.all c.args.graph.now has_it.added rs ds has_it.paths known in
-    let back = c.take_back.ensures c.args.graph.now c.extend.new.graph (may_take_back may undoes has_it joined) in
-    let paths : c.extend.new.graph.manifest.paths ≡ c.take_back.new.self.manifest.paths ++ has_it.added = has_it.paths ∙ ap (λ (g : Graph). g.manifest.paths ++ has_it.added) (sym {A = Graph} back) in
-    c.shrink.ensures.known has_it.added rs ds (subst (λ (l : List (List ℕ)). IsOf rs l c.join_inputs.new.records) paths all.0) (subst (λ (l : List (List ℕ)). IsOfDeps ds l c.join_inputs.new.records) paths all.1))
+    let back = c.take_back.ensures c.args.graph.now c.extend.new.graph (may_take_back may undoes has_it c.in-Err.ensures.grown) in
+    let now = c.join_parts.new.state in
+    record {
+      graph_is = back;
+      cone_is = c.in-Err.ensures.cone;
+      state = record {
+        plan = c.in-Err.ensures.plan;
+        looks = c.shrink-in-Err.ensures
+            ∙ (ap (λ (g : Graph). take (length g.manifest.paths) now.looks.seen.items) back
+            ∙ (ap (λ (n : ℕ). take n now.looks.seen.items) (sym may.seen)
+            ∙ c.in-Err.ensures.looks));
+        logs = c.shrink.ensures.logs ∙ c.join_parts.ensures.beside.logs;
+        starts = c.join_parts.ensures.beside.starts;
+        failed = c.join_parts.ensures.beside.failed;
+      };
+      known = known_shrunk c.args.graph.now has_it.added c.extend.new.graph has_it.paths c.args.state.now.records now.records c.shrink.new.self c.in-Err.ensures.kept
+          (c.shrink.ensures.logs ∙ c.join_parts.ensures.beside.logs)
+          (c.shrink.ensures.places ∙ ap (λ (g : Graph). take (length g.manifest.paths) now.records.places.items) back)
+          (c.shrink.ensures.deps_places ∙ ap (λ (g : Graph). take (length g.manifest.paths) now.records.deps_places.items) back)
+          (subst (λ (g : Graph). AreStillKnown g now.records c.shrink.new.self) back c.shrink.ensures.known);
+    }
 
 pub returns-in-Err-clause-cause : goal.returns-in-Err-clause-cause
 returns-in-Err-clause-cause c =
-    refused_then c.in-Err.stop c.in-Err.ensures.refused (λ refusal circle asked store may.
-    let undoes = c.in_ok-before.ensures.before in
-    let has_it = c.in_ok-before.ensures.loaded in
-    let joined = c.in_ok-join_inputs.ensures.joined c.args.graph.now has_it.added store.records store.deps has_it.paths may.known (to_join may undoes has_it) in
-    circle_by may undoes has_it joined refusal
-    (circle (asked_now may undoes has_it joined) store (asked_same may undoes has_it joined) (targets_are may undoes has_it joined) (recorded_now may undoes has_it joined)))
+    refused_then c.in-Err.stop c.in-Err.ensures.cause (λ refusal cause asked store may.
+    cause asked store c.args.graph.now (record { file = c.args.file; additions = map addition_of c.args.additions.now; may = may; undoes = c.in_ok-before.ensures.before; has = c.in_ok-before.ensures.loaded }))

@@ -1,33 +1,31 @@
-use Rattle.std.proofs.Common.{inl, inr, refl, sym, subst, List, Ok}
+use Rattle.std.proofs.Common.{List, Ok, refl, sym, subst}
 use Rattle.model.specs.SingleBuild.{asked_with}
-use Rattle.graph.specs.declared.graph.Graph.{Graph}
-use Rattle.graph.specs.declared.cone.Cone.{Cone}
-use Rattle.graph.specs.Told.{declared_by}
 use Rattle.paths.specs.Told.{text_at}
 use Rattle.dyndep.specs.declared.addition.Addition.{Addition as Statement}
-use Rattle.work.specs.Standing.{IfRefused, IsStopped}
-use Rattle.work.specs.Joined.{WasHeld, IsUnread, StayKnown}
+use Rattle.work.specs.Standing.{RefusesAt, StopsAt, IsStopThere, IfRefused}
+use Rattle.work.specs.Joined.{WasHeld}
 use Rattle.work.specs.Loads.{IsSaying}
-use Rattle.work.proofs.Loading.{StopsThere, may_join, stopped_there, stopped_here, unread_cause, unjoined_cause, cut_here, cut_later, has_begun, fewer_by}
-use Rattle.work.proofs.StopCases.{refused_then, refused_four, fault_then, passed, left_by}
+use Rattle.work.proofs.LoadEnds.{load_stop, load_stop_by, stops_undone, refuses_undone}
+use Rattle.work.proofs.Loading.{may_join, unread_cause, unjoined_cause, has_begun, fewer_by}
+use Rattle.work.proofs.Results.{on_err}
+use Rattle.work.proofs.StopCases.{refused_then, passed}
 use Rattle.work.proofs.loads.load.Goals as goal
 
-pub returns-in_err-additions-clause-stopped : goal.returns-in_err-additions-clause-stopped
-returns-in_err-additions-clause-stopped g c =
-    let tells = g.S.Texts.tells in
-    let graph = c.args.graph.now in
-    let cone = c.args.cone.now in
-    let state = c.args.state.now in
-    let file = c.args.file in
-    let old = g.S.Texts.world c.args.site.now in
-    let new = g.S.Texts.world c.additions_in.new.site in
-    passed (λ s. IfRefused s (StopsThere tells graph cone state old file new)) _ c.from_residual.result c.from_residual.ensures.1
-    (refused_then {P = IsUnread tells (text_at graph.manifest.paths file) old new} {Q = StopsThere tells graph cone state old file new} _ c.in_err-additions.ensures.refused (λ refusal unread tick course edges phases stands next.
-    stopped_here tells tick course edges phases graph cone state old stands file next c.log_stays.ensures new c.additions_in.ensures.looks refusal
-    (unread_cause tells tick course edges phases graph cone state old stands file next c.log_stays.ensures new c.additions_in.ensures.looks refusal unread)))
+-- ---- the file was not read
 
-pub returns-in_err-additions-clause-cut : goal.returns-in_err-additions-clause-cut
-returns-in_err-additions-clause-cut g c =
+pub returns-in_err-additions-clause-stop : goal.returns-in_err-additions-clause-stop
+returns-in_err-additions-clause-stop g c =
+    let old = g.S.Texts.world c.args.site.now in
+    let new = g.S.Texts.world c.additions_in.new.site in
+    passed (λ s. IsStopThere old new s) c.in_err-additions.field-0.0 c.from_residual.result c.from_residual.ensures.1
+    (load_stop g.S.Texts.tells old new c.in_err-additions.field-0.0 c.additions_in.ensures.looks c.additions_in.ensures.earlier c.in_err-additions.ensures.calm c.in_err-additions.ensures.met c.in_err-additions.ensures.stop)
+
+pub returns-in_err-additions-clause-undone : goal.returns-in_err-additions-clause-undone
+returns-in_err-additions-clause-undone g c =
+    on_err c.from_residual.result (record { graph_is = refl; cone_is = refl; state = record { plan = refl; looks = refl; logs = refl; starts = refl; failed = refl }; known = λ rs ds known. known })
+
+pub returns-in_err-additions-clause-refused : goal.returns-in_err-additions-clause-refused
+returns-in_err-additions-clause-refused g c =
     let tells = g.S.Texts.tells in
     let graph = c.args.graph.now in
     let cone = c.args.cone.now in
@@ -35,31 +33,40 @@ returns-in_err-additions-clause-cut g c =
     let file = c.args.file in
     let old = g.S.Texts.world c.args.site.now in
     let new = g.S.Texts.world c.additions_in.new.site in
-    left_by c.from_residual.result (
-      (declared_by graph).edges,
-      λ tick course edges phases stands next was.
-          cut_here tells tick course edges phases graph cone state old stands file next c.log_stays.ensures new c.additions_in.ensures.looks state refl was,
-    )
+    passed (λ s. IfRefused s (RefusesAt tells file graph cone state old graph cone state new)) c.in_err-additions.field-0.0 c.from_residual.result c.from_residual.ensures.1
+    (refused_then c.in_err-additions.field-0.0 c.in_err-additions.ensures.refused (λ refusal unread tick course edges phases stands to_load.
+    refuses_undone tells tick course edges phases graph cone state file old stands to_load c.log_stays.ensures new c.additions_in.ensures.looks state graph cone
+    (record { graph_is = refl; cone_is = refl; state = record { plan = refl; looks = refl; logs = refl; starts = refl; failed = refl }; known = λ rs ds known. known })
+    refusal (unread_cause tells tick course edges phases graph cone state old stands file to_load c.log_stays.ensures new c.additions_in.ensures.looks refusal unread)))
+
+pub returns-in_err-additions-clause-halted : goal.returns-in_err-additions-clause-halted
+returns-in_err-additions-clause-halted g c =
+    let tells = g.S.Texts.tells in
+    let graph = c.args.graph.now in
+    let cone = c.args.cone.now in
+    let state = c.args.state.now in
+    let file = c.args.file in
+    let old = g.S.Texts.world c.args.site.now in
+    let new = g.S.Texts.world c.additions_in.new.site in
+    passed (λ s. StopsAt tells file graph cone state old graph cone state new s) c.in_err-additions.field-0.0 c.from_residual.result c.from_residual.ensures.1 (λ tick course edges phases at.
+    stops_undone tells tick course edges phases graph cone state file old at c.log_stays.ensures new c.additions_in.ensures.looks state graph cone
+    (record { graph_is = refl; cone_is = refl; state = record { plan = refl; looks = refl; logs = refl; starts = refl; failed = refl }; known = λ rs ds known. known })
+    c.in_err-additions.field-0.0
+    (refused_then c.in_err-additions.field-0.0 c.in_err-additions.ensures.refused (λ refusal unread.
+    unread_cause tells tick course edges phases graph cone state old at.stands file at.next c.log_stays.ensures new c.additions_in.ensures.looks refusal unread)))
+
+-- ---- it was
 
 pub join-joined-requires : goal.join-joined-requires
 join-joined-requires g c =
-    let tells = g.S.Texts.tells in
-    let graph = c.args.graph.now in
-    let cone = c.args.cone.now in
-    let state = c.args.state.now in
-    let file = c.args.file in
-    let old = g.S.Texts.world c.args.site.now in
-    let new = g.S.Texts.world c.additions_in.new.site in
-    let tick = c.requires.stands.0 in
-    let course = c.requires.stands.1 in
-    let edges = c.requires.stands.2 in
-    let phases = c.requires.stands.3 in
-    let stands = c.requires.stands.4 in
-    let next = c.requires.stands.5 in
-    record { may = (asked_with course.asked edges, course.store, may_join tells tick course edges phases graph cone state old stands file next) }
+    let tick = c.requires.at.0 in
+    let course = c.requires.at.1 in
+    let edges = c.requires.at.2 in
+    let phases = c.requires.at.3 in
+    record { may = (asked_with course.asked edges, course.store, may_join g.S.Texts.tells tick course edges phases c.args.graph.now c.args.cone.now c.args.state.now (g.S.Texts.world c.args.site.now) c.requires.at.4 c.args.file c.requires.at.5) }
 
 pub returns-in-Ok-clause-begun : goal.returns-in-Ok-clause-begun
-returns-in-Ok-clause-begun g c tick course edges phases stands next was =
+returns-in-Ok-clause-begun g c tick course edges phases at =
     let tells = g.S.Texts.tells in
     let graph = c.args.graph.now in
     let cone = c.args.cone.now in
@@ -67,33 +74,37 @@ returns-in-Ok-clause-begun g c tick course edges phases stands next was =
     let file = c.args.file in
     let old = g.S.Texts.world c.args.site.now in
     let new = g.S.Texts.world c.additions_in.new.site in
-    let statements = c.in_ok-additions.additions in
     let adds = c.as_slice.result.now in
     let read = subst (λ (l : List Statement). WasHeld tells (text_at graph.manifest.paths file) (IsSaying (Ok l)) old new) (sym {A = List Statement} c.as_slice.ensures) c.in_ok-additions.ensures.read in
-    let gone = c.in-Ok.ensures.goes (asked_with course.asked edges) course.store (may_join tells tick course edges phases graph cone state old stands file next) in
-    has_begun tells tick course edges phases graph cone state old stands file next c.log_stays.ensures new c.additions_in.ensures.looks c.one_answer.ensures adds read c.join-joined.new.graph c.join-joined.new.state c.join-joined.new.cone gone c.lists_stand.ensures c.lists_stand-2.ensures c.task_of.ensures was
+    let gone = c.in-Ok.ensures.goes (asked_with course.asked edges) course.store (may_join tells tick course edges phases graph cone state old at.stands file at.next) in
+    has_begun tells tick course edges phases graph cone state old at.stands file at.next c.log_stays.ensures new c.additions_in.ensures.looks c.one_answer.ensures adds read c.join-joined.new.graph c.join-joined.new.state c.join-joined.new.cone gone c.lists_stand.ensures c.lists_stand-2.ensures c.task_of.ensures at.asked
     c.in-Ok.ensures.room c.in-Ok.ensures.known c.in-Ok.ensures.logs
 
 pub returns-in-Ok-clause-fewer : goal.returns-in-Ok-clause-fewer
 returns-in-Ok-clause-fewer g c =
+    let tick = c.requires.at.0 in
+    let course = c.requires.at.1 in
+    let edges = c.requires.at.2 in
+    let phases = c.requires.at.3 in
+    let stands = c.requires.at.4 in
+    let to_load = c.requires.at.5 in
     let tells = g.S.Texts.tells in
     let graph = c.args.graph.now in
     let cone = c.args.cone.now in
     let state = c.args.state.now in
-    let file = c.args.file in
     let old = g.S.Texts.world c.args.site.now in
-    let new = g.S.Texts.world c.additions_in.new.site in
-    let tick = c.requires.stands.0 in
-    let course = c.requires.stands.1 in
-    let edges = c.requires.stands.2 in
-    let phases = c.requires.stands.3 in
-    let stands = c.requires.stands.4 in
-    let next = c.requires.stands.5 in
-    let gone = c.in-Ok.ensures.goes (asked_with course.asked edges) course.store (may_join tells tick course edges phases graph cone state old stands file next) in
-    fewer_by tells tick course edges phases graph cone state old stands file next c.join-joined.new.graph _ gone.joined
+    let gone = c.in-Ok.ensures.goes (asked_with course.asked edges) course.store (may_join tells tick course edges phases graph cone state old stands c.args.file to_load) in
+    fewer_by tells tick course edges phases graph cone state old stands c.args.file to_load c.join-joined.new.graph _ gone.joined
 
-pub returns-clause-stopped : goal.returns-clause-stopped
-returns-clause-stopped g c =
+pub returns-clause-stop : goal.returns-clause-stop
+returns-clause-stop g c =
+    load_stop_by g.S.Texts.tells (g.S.Texts.world c.args.site.now) (g.S.Texts.world c.additions_in.new.site) c.in-Err.stop c.additions_in.ensures.looks c.in_ok-additions.ensures.unrefused c.in-Err.ensures.memory
+
+pub returns-clause-undone : goal.returns-clause-undone
+returns-clause-undone g c = c.in-Err.ensures.undone
+
+pub returns-clause-refused : goal.returns-clause-refused
+returns-clause-refused g c =
     let tells = g.S.Texts.tells in
     let graph = c.args.graph.now in
     let cone = c.args.cone.now in
@@ -103,16 +114,13 @@ returns-clause-stopped g c =
     let new = g.S.Texts.world c.additions_in.new.site in
     let adds = c.as_slice.result.now in
     let read = subst (λ (l : List Statement). WasHeld tells (text_at graph.manifest.paths file) (IsSaying (Ok l)) old new) (sym {A = List Statement} c.as_slice.ensures) c.in_ok-additions.ensures.read in
-    refused_four c.in-Err.stop c.in-Err.ensures.graph c.in-Err.ensures.back c.in-Err.ensures.records c.in-Err.ensures.cause (λ refusal same back known cause tick course edges phases stands next.
-    subst (λ (x : Cone). IsStopped tells tick course edges phases c.join-joined.new.graph x c.join-joined.new.state new refusal) (sym {A = Cone} c.in-Err.ensures.cone)
-    (subst (λ (x : Graph). IsStopped tells tick course edges phases x cone c.join-joined.new.state new refusal) (sym {A = Graph} same)
-    (stopped_there tells tick course edges phases graph cone state old stands file next c.log_stays.ensures new c.additions_in.ensures.looks c.join-joined.new.state back
-    (subst (λ (x : Graph). StayKnown graph x state.records c.join-joined.new.state.records) same known) refusal
-    (unjoined_cause tells tick course edges phases graph cone state old stands file next c.log_stays.ensures new c.additions_in.ensures.looks c.one_answer.ensures adds read refusal
-    (cause (asked_with course.asked edges) course.store (may_join tells tick course edges phases graph cone state old stands file next))))))
+    refused_then c.in-Err.stop c.in-Err.ensures.cause (λ refusal cause tick course edges phases stands to_load.
+    refuses_undone tells tick course edges phases graph cone state file old stands to_load c.log_stays.ensures new c.additions_in.ensures.looks c.join-joined.new.state c.join-joined.new.graph c.join-joined.new.cone c.in-Err.ensures.undone
+    refusal (unjoined_cause tells tick course edges phases graph cone state old stands file to_load c.log_stays.ensures new c.additions_in.ensures.looks c.one_answer.ensures adds read refusal
+    (cause (asked_with course.asked edges) course.store (may_join tells tick course edges phases graph cone state old stands file to_load))))
 
-pub returns-clause-cut : goal.returns-clause-cut
-returns-clause-cut g c =
+pub returns-clause-halted : goal.returns-clause-halted
+returns-clause-halted g c tick course edges phases at =
     let tells = g.S.Texts.tells in
     let graph = c.args.graph.now in
     let cone = c.args.cone.now in
@@ -122,12 +130,7 @@ returns-clause-cut g c =
     let new = g.S.Texts.world c.additions_in.new.site in
     let adds = c.as_slice.result.now in
     let read = subst (λ (l : List Statement). WasHeld tells (text_at graph.manifest.paths file) (IsSaying (Ok l)) old new) (sym {A = List Statement} c.as_slice.ensures) c.in_ok-additions.ensures.read in
-    fault_then c.in-Err.stop c.in-Err.ensures.left (λ fault left. elim left [
-      | inl same ↦ ((declared_by graph).edges, λ tick course edges phases stands next was. cut_here tells tick course edges phases graph cone state old stands file next c.log_stays.ensures new c.additions_in.ensures.looks c.join-joined.new.state same was)
-      | inr goes ↦ (
-        (declared_by c.join-joined.new.graph).edges,
-        λ tick course edges phases stands next was.
-            let gone = goes (asked_with course.asked edges) course.store (may_join tells tick course edges phases graph cone state old stands file next) in
-            cut_later tells tick course edges phases graph cone state old stands file next c.log_stays.ensures new c.additions_in.ensures.looks c.one_answer.ensures adds read c.join-joined.new.graph c.join-joined.new.state gone.0 gone.1 c.lists_stand.ensures c.lists_stand-2.ensures c.task_of.ensures was,
-      )
-    ])
+    stops_undone tells tick course edges phases graph cone state file old at c.log_stays.ensures new c.additions_in.ensures.looks c.join-joined.new.state c.join-joined.new.graph c.join-joined.new.cone c.in-Err.ensures.undone c.in-Err.stop
+    (refused_then c.in-Err.stop c.in-Err.ensures.cause (λ refusal cause.
+    unjoined_cause tells tick course edges phases graph cone state old at.stands file at.next c.log_stays.ensures new c.additions_in.ensures.looks c.one_answer.ensures adds read refusal
+    (cause (asked_with course.asked edges) course.store (may_join tells tick course edges phases graph cone state old at.stands file at.next))))

@@ -1,17 +1,37 @@
-use Rattle.std.proofs.Common.{[], suc, refl, sym, ◌∙◌, subst}
+use Rattle.std.proofs.Common.{ℕ, List, [], suc, refl, sym, ◌∙◌, ap, subst}
 use Rattle.model.specs.Graph.{edge_at, outputs}
 use Rattle.model.specs.Records.{all_paths_in}
 use Rattle.graph.specs.declared.graph.Graph.{Graph}
+use Rattle.graph.specs.Held.{list_at}
 use Rattle.graph.specs.Told.{declared_by}
 use Rattle.records.specs.Known.{AreKnown}
-use Rattle.work.specs.Recorded.{AreNumbered, HaveJust, texts_of}
+use Rattle.work.specs.Recorded.{HasMorePaths, AreNumbered, HaveJust, texts_of}
 use Rattle.work.proofs.Joining.{joined_unused, joined_used, others_kept, all_within, numbered_gained}
-use Rattle.work.proofs.Numbering.{only_same, only_then}
+use Rattle.work.proofs.Numbering.{more_none, only_same, only_then}
 use Rattle.work.proofs.recorded.join_edge.Goals as goal
 
 pub returns-then-not-is_in_use-clause-joined : goal.returns-then-not-is_in_use-clause-joined
 returns-then-not-is_in_use-clause-joined c rs ds known may =
     joined_unused c.args.graph.now rs ds c.args.edge (sym (c.is_in_use.ensures rs ds known) ∙ c.if-not-is_in_use.true) may
+
+pub returns-then-not-is_in_use-clause-grown : goal.returns-then-not-is_in_use-clause-grown
+returns-then-not-is_in_use-clause-grown c = more_none c.args.graph.now
+
+pub returns-in_err-put_inputs-clause-grown : goal.returns-in_err-put_inputs-clause-grown
+returns-in_err-put_inputs-clause-grown c = (only_then c.args.graph.now c.lend_set-inputs.new.self c.put_inputs.new.graph (only_same c.args.graph.now c.lend_set-inputs.new.self c.lend_set-inputs.ensures.same) c.put_inputs.ensures.grown).grown
+
+pub returns-in_err-put_inputs-clause-others : goal.returns-in_err-put_inputs-clause-others
+returns-in_err-put_inputs-clause-others c e other =
+    ap (λ (l : List (List ℕ)). list_at l e) (only_then c.args.graph.now c.lend_set-inputs.new.self c.put_inputs.new.graph (only_same c.args.graph.now c.lend_set-inputs.new.self c.lend_set-inputs.ensures.same) c.put_inputs.ensures.grown).recorded
+
+pub returns-in_err-add_set-clause-grown : goal.returns-in_err-add_set-clause-grown
+returns-in_err-add_set-clause-grown c = subst (λ (g : Graph). HasMorePaths c.args.graph.now g) (sym {A = Graph} c.in_err-add_set.ensures.err)
+    (only_then c.args.graph.now c.lend_set-inputs.new.self c.put_inputs.new.graph (only_same c.args.graph.now c.lend_set-inputs.new.self c.lend_set-inputs.ensures.same) c.put_inputs.ensures.grown).grown
+
+pub returns-in_err-add_set-clause-others : goal.returns-in_err-add_set-clause-others
+returns-in_err-add_set-clause-others c e other =
+    ap (λ (g : Graph). list_at g.recorded e) c.in_err-add_set.ensures.err
+    ∙ ap (λ (l : List (List ℕ)). list_at l e) (only_then c.args.graph.now c.lend_set-inputs.new.self c.put_inputs.new.graph (only_same c.args.graph.now c.lend_set-inputs.new.self c.lend_set-inputs.ensures.same) c.put_inputs.ensures.grown).recorded
 
 pub add_set-requires-clause-inputs : goal.add_set-requires-clause-inputs
 add_set-requires-clause-inputs c =

@@ -28,12 +28,12 @@ loop-place-preserved c =
     let now = c.loop-place.graph in
     let new = c.join_edge.new.graph in
     record {
-      grown = more_then first now new c.loop-place.invariant.grown c.in_ok-join_edge.ensures.grown;
+      grown = more_then first now new c.loop-place.invariant.grown c.join_edge.ensures.grown;
       numbered = c.in_ok-join_edge.ensures.numbered;
       joined = λ rs ds known none.
           let so_far = c.loop-place.invariant.joined rs ds known none in
-          joined_next now new rs ds c.loop-place.place so_far c.in_ok-join_edge.ensures.grown
-          (subst (λ (d : ℕ). (e : ℕ) → (e ≡ d → ⊥) → list_at new.recorded e ≡ list_at now.recorded e) c.edge-edge.ensures c.in_ok-join_edge.ensures.others)
+          joined_next now new rs ds c.loop-place.place so_far c.join_edge.ensures.grown
+          (subst (λ (d : ℕ). (e : ℕ) → (e ≡ d → ⊥) → list_at new.recorded e ≡ list_at now.recorded e) c.edge-edge.ensures c.join_edge.ensures.others)
           (subst (λ (d : ℕ). MayBeJoined now rs ds d → IsJoined new rs ds d) c.edge-edge.ensures (c.in_ok-join_edge.ensures.joined rs ds (known_more first now c.loop-place.invariant.grown rs ds c.args.records.now known))
           (may_be_first now rs ds c.loop-place.place so_far));
     }

@@ -14,7 +14,6 @@ returns-in_default g c = record {
   writes = looks_at g.S.Texts.tells c.args.state.now.records.logs.deps_log.path (g.S.Texts.world c.args.site.now) (g.S.Texts.world c.args.site.now) (looks_none g.S.Texts.tells (g.S.Texts.world c.args.site.now));
   plan = refl;
   starts = refl;
-  set = refl;
   looks = refl;
   failed = refl;
   on = λ course suits taken. tells_nothing g.S.Texts.tells course c.args.setting.tick.now c.args.setting.graph.now suits c.args.state.now (g.S.Texts.world c.args.site.now) c.args.edge c.args.start c.args.told.now taken (λ paths is. c.in_default.not-Inputs paths is);

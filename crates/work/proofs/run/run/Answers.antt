@@ -1,6 +1,5 @@
-use Rattle.std.proofs.Common.{None, inl, refl, ◌∙◌}
-use Rattle.work.specs.Course.{IsOn}
-use Rattle.work.specs.Going.{IsHalted}
+use Rattle.std.proofs.Common.{inl, refl}
+use Rattle.work.specs.Going.{GoesOn, Halts}
 use Rattle.work.proofs.Results.{some_of, on_err}
 use Rattle.work.proofs.Nothing.{none_of}
 use Rattle.work.proofs.After.{after_then, after_same, looks_then_looks}
@@ -18,7 +17,6 @@ run-init g c =
       starts = inl refl;
       summed = c.new-sums.ensures.summed graph state.plan.changed.items state.looks.seen.items;
       marked = c.new-sums.ensures.marked graph state.plan.changed.items state.looks.seen.items;
-      set = refl;
       grows = after_same g.S.Texts.tells now;
       looked = λ same. (c.looks_follow.ensures.follow g.S.Texts.tells now now now).none graph state.looks;
       on = λ course suits goes on. on;
@@ -26,17 +24,17 @@ run-init g c =
 
 pub go_on-requires-clause-going : goal.go_on-requires-clause-going
 go_on-requires-clause-going g c =
-    let going = c.requires.going.0 in
-    (record { course = going.course; suits = going.suits; on = c.run.invariant.on going.course going.suits c.requires.going.1 going.on }, c.requires.going.1)
+    let going = c.requires.going in
+    record { course = going.course; suits = going.suits; is = going.is; on = c.run.invariant.on going.course going.suits going.is going.on }
 
 pub returns-in_err-halt-clause-cut : goal.returns-in_err-halt-clause-cut
 returns-in_err-halt-clause-cut g c = on_err c.from_residual.result (λ course suits goes on. c.in_err-halt.ensures.cut course suits goes (c.run.invariant.on course suits goes on))
 
 pub returns-in-Some-clause-halts : goal.returns-in-Some-clause-halts
 returns-in-Some-clause-halts g c course suits goes on =
-    some_of c.in_ok-halt.field-0 c.in-Some.halt (IsOn g.S.Texts.tells course c.args.setting.graph.now None c.go_on.new.state (g.S.Texts.world c.go_on.new.site))
-    (IsHalted g.S.Texts.tells course c.args.setting.graph.now c.go_on.new.state (g.S.Texts.world c.go_on.new.site)) c.in-Some.is
-    (c.in_ok-halt.ensures.on course suits goes (c.run.invariant.on course suits goes on))
+    some_of c.in_ok-halt.field-0 c.in-Some.halt (GoesOn g.S.Texts.tells c.args.setting (g.S.Texts.world c.run.site) (g.S.Texts.world c.go_on.new.site) c.run.state c.go_on.new.state)
+    (Halts g.S.Texts.tells c.args.setting (g.S.Texts.world c.run.site) (g.S.Texts.world c.go_on.new.site) c.run.state c.go_on.new.state) c.in-Some.is
+    c.in_ok-halt.ensures.on course suits goes (c.run.invariant.on course suits goes on)
 
 pub returns-in_err-halt-clause-grows : goal.returns-in_err-halt-clause-grows
 returns-in_err-halt-clause-grows g c = after_then g.S.Texts.tells (g.S.Texts.world c.args.site.now) (g.S.Texts.world c.run.site) (g.S.Texts.world c.go_on.new.site) c.run.invariant.grows c.go_on.ensures.grows
@@ -55,12 +53,12 @@ run-preserved g c = record {
   starts = starts_then (g.S.Texts.world c.args.site.now) (g.S.Texts.world c.run.site) (g.S.Texts.world c.go_on.new.site) c.run.invariant.unrefused c.run.invariant.starts c.in_ok-halt.ensures.cuts.starts;
   summed = c.in_ok-halt.ensures.summed;
   marked = c.in_ok-halt.ensures.marked;
-  set = c.go_on.ensures.set ∙ c.run.invariant.set;
   grows = after_then g.S.Texts.tells (g.S.Texts.world c.args.site.now) (g.S.Texts.world c.run.site) (g.S.Texts.world c.go_on.new.site) c.run.invariant.grows c.go_on.ensures.grows;
   looked = looks_then_looks g.S.Texts.tells c.args.setting.graph.now (g.S.Texts.world c.args.site.now) (g.S.Texts.world c.run.site) (g.S.Texts.world c.go_on.new.site)
       (c.looks_follow.ensures.follow g.S.Texts.tells (g.S.Texts.world c.args.site.now) (g.S.Texts.world c.run.site) (g.S.Texts.world c.go_on.new.site))
       c.args.state.now.looks c.run.state.looks c.go_on.new.state.looks c.run.invariant.grows c.go_on.ensures.grows c.run.invariant.looked c.in_ok-halt.ensures.looked;
   on = λ course suits goes was.
-      none_of c.in_ok-halt.field-0 (IsOn g.S.Texts.tells course c.args.setting.graph.now None c.go_on.new.state (g.S.Texts.world c.go_on.new.site)) (IsHalted g.S.Texts.tells course c.args.setting.graph.now c.go_on.new.state (g.S.Texts.world c.go_on.new.site)) c.in_default.is
-      (c.in_ok-halt.ensures.on course suits goes (c.run.invariant.on course suits goes was));
+      none_of c.in_ok-halt.field-0 (GoesOn g.S.Texts.tells c.args.setting (g.S.Texts.world c.run.site) (g.S.Texts.world c.go_on.new.site) c.run.state c.go_on.new.state)
+      (Halts g.S.Texts.tells c.args.setting (g.S.Texts.world c.run.site) (g.S.Texts.world c.go_on.new.site) c.run.state c.go_on.new.state) c.in_default.is
+      c.in_ok-halt.ensures.on course suits goes (c.run.invariant.on course suits goes was);
 }

@@ -10,8 +10,8 @@ use Rattle.work.proofs.run.run_plan.Goals as goal
 
 pub take_in_rest-requires-clause-many : goal.take_in_rest-requires-clause-many
 take_in_rest-requires-clause-many g c =
-    let going = c.requires.going.0 in
-    let cut = c.in-Err.ensures.cut going.course going.suits c.requires.going.1 going.on in
+    let going = c.requires.going in
+    let cut = c.in-Err.ensures.cut going.course going.suits going.is going.on in
     many_by_steps g.S.Texts.tells going.course.own (task_of going.course.asked going.course.store) cut.steps going.course.entry (g.S.Texts.world c.run.new.site) c.running.result going.suits.idle cut.run
     (c.running.ensures.steps (task_of going.course.asked going.course.store) c.args.setting.graph.now cut.steps cut.planned cut.taken)
 
@@ -30,8 +30,8 @@ returns-in-Ok-clause-ran g c course suits goes on =
 
 pub returns-in-Ok-clause-pause : goal.returns-in-Ok-clause-pause
 returns-in-Ok-clause-pause g c =
-    let going = c.requires.going.0 in
-    (c.paused.ensures.pauses g.S.Texts.tells going.course c.args.setting.graph.now (g.S.Texts.world c.run.new.site) (c.in-Ok.ensures.halts going.course going.suits c.requires.going.1 going.on)).1
+    let going = c.requires.going in
+    (c.paused.ensures.pauses g.S.Texts.tells going.course c.args.setting.graph.now (g.S.Texts.world c.run.new.site) (c.in-Ok.ensures.halts going.course going.suits going.is going.on)).1
 
 pub returns-in-Err-clause-grows : goal.returns-in-Err-clause-grows
 returns-in-Err-clause-grows g c = after_then g.S.Texts.tells (g.S.Texts.world c.args.site.now) (g.S.Texts.world c.run.new.site) (g.S.Texts.world c.take_in_rest.new.site) c.run.ensures.grows c.take_in_rest.ensures.grows

@@ -42,10 +42,10 @@ returns-in_err-stamp-clause-cut g c =
 
 pub start-result-requires : goal.start-result-requires
 start-result-requires g c =
-    let course = c.requires.begun.0 in
+    let course = c.requires.begun.course in
     ap (λ (n : ℕ). runs n (g.S.Texts.world c.tick.new.self).events) c.job.ensures
-    ∙ starts_idle g.S.Texts.tells course c.args.setting.graph.now c.log_stays.ensures c.args.setting.tick.now c.requires.begun.1 c.args.state.now (g.S.Texts.world c.args.site.now) (g.S.Texts.world c.remove_old_depfile.new.site) c.args.edge c.act-act.result.now
-    c.act-act.ensures c.requires.begun.2 c.remove_old_depfile.ensures.at (g.S.Texts.world c.write_response.new.site) c.write_response.ensures.at (g.S.Texts.world c.tick.new.self) c.in_ok-stamp.stamp c.in_ok-stamp.ensures.ticks
+    ∙ starts_idle g.S.Texts.tells course c.args.setting.graph.now c.log_stays.ensures c.args.setting.tick.now c.requires.begun.suits c.args.state.now (g.S.Texts.world c.args.site.now) (g.S.Texts.world c.remove_old_depfile.new.site) c.args.edge c.act-act.result.now
+    c.act-act.ensures c.requires.begun.begun c.remove_old_depfile.ensures.at (g.S.Texts.world c.write_response.new.site) c.write_response.ensures.at (g.S.Texts.world c.tick.new.self) c.in_ok-stamp.stamp c.in_ok-stamp.ensures.ticks
 
 pub returns-clause-nearer : goal.returns-clause-nearer
 returns-clause-nearer g c =

@@ -23,9 +23,9 @@ pub returns-in_ok-note_all-clause-ended : goal.returns-in_ok-note_all-clause-end
 returns-in_ok-note_all-clause-ended g c =
     let graph = c.args.setting.graph.now in
     let restat = (edge_at (declared_by graph).edges (suc c.args.edge)).restat in
-    ended_all g.S.Texts.tells graph c.args.edge c.args.ok (g.S.Texts.world c.args.site.now) (g.S.Texts.world c.args.site.now) c.args.state.now c.note_all.new.state c.note_all.ensures.beside c.note_all.ensures.unchanged
+    ended_all g.S.Texts.tells graph c.args.edge c.args.ok (g.S.Texts.world c.args.site.now) (g.S.Texts.world c.args.site.now) c.args.state.now c.note_all.new.state c.note_all.ensures.beside c.note_all.ensures.flags.others
     (elim c.else-ok.branch [
       | else-ok-via-then-ok+else-has_restat w ↦ and_right c.args.ok restat (sym w.has_restat.ensures ∙ w.if-has_restat.false)
       | else-ok-via-else-ok w ↦ and_left c.args.ok restat w.if-ok.false
     ])
-    refl c.note_all.ensures.changed c.note_all.ensures.forgets
+    refl c.note_all.ensures.flags.set c.note_all.ensures.forgets

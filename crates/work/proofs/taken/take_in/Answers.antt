@@ -4,12 +4,14 @@ use Rattle.model.specs.declared.act.Act.{Act}
 use Rattle.model.specs.declared.graph.BuildGraph.{BuildGraph}
 use Rattle.model.specs.Calls.{Finishes}
 use Rattle.model.specs.Graph.{edge_at}
+use Rattle.model.specs.SingleBuild.{task_of}
 use Rattle.theory.proofs.SiteCalls.{unrefused_call, unrefused_then}
 use Rattle.plan.specs.Standing.{standing_at}
 use Rattle.work.proofs.Cutting.{some_still, cause_err, cuts_then}
 use Rattle.work.proofs.Ends.{cut_looking}
 use Rattle.work.proofs.Finishing.{end_unread, ending_of, not_failed}
 use Rattle.work.proofs.Launched.{err_then}
+use Rattle.work.proofs.Onward.{may_take}
 use Rattle.work.proofs.Removing.{taken_by_removing}
 use Rattle.work.proofs.Results.{ok_then, ok_both, on_ok}
 use Rattle.work.proofs.Running.{some_runs, running_edge}
@@ -18,29 +20,29 @@ use Rattle.work.proofs.taken.take_in.Goals as goal
 
 pub wait_any-requires : goal.wait_any-requires
 wait_any-requires g c =
-    let going = c.requires.waits.0 in
-    some_runs g.S.Texts.tells going.course c.args.setting.graph.now None c.args.state.now (g.S.Texts.world c.args.site.now) going.on c.requires.waits.1.runs
+    let going = c.requires.going.going in
+    some_runs g.S.Texts.tells going.course c.args.setting.graph.now None c.args.state.now (g.S.Texts.world c.args.site.now) going.on (c.requires.going.may.runs (task_of going.course.asked going.course.store) c.args.setting.graph.now going.on.steps going.on.planned going.on.taken)
 
 pub edge-edge-requires : goal.edge-edge-requires
 edge-edge-requires g c =
-    let going = c.requires.waits.0 in
+    let going = c.requires.going.going in
     let runs = running_edge g.S.Texts.tells going.course c.args.setting.graph.now None c.args.state.now (g.S.Texts.world c.args.site.now) going.on c.in-Ok.finished.job c.in-Ok.ensures.finishes.ran in
     omega (arith, runs.is, runs.within)
 
 pub take_in_told-requires-clause-ending : goal.take_in_told-requires-clause-ending
 take_in_told-requires-clause-ending g c =
-    let going = c.requires.waits.0 in
+    let going = c.requires.going.going in
     let runs = running_edge g.S.Texts.tells going.course c.args.setting.graph.now None c.args.state.now (g.S.Texts.world c.args.site.now) going.on c.in-Ok.finished.job c.in-Ok.ensures.finishes.ran in
     let job_is : c.in-Ok.finished.job ≡ suc c.edge-edge.result = omega (arith, runs.is, c.edge-edge.ensures) in (
       going.course,
       going.suits,
-      ending_of g.S.Texts.tells going.course c.args.setting.tick.now c.args.setting.graph.now going.suits c.args.state.now (g.S.Texts.world c.args.site.now) (g.S.Texts.world c.wait_any.new.self) (g.S.Texts.world c.read_told.new.site) c.in-Ok.finished.job c.edge-edge.result c.in-Ok.finished.ok c.in-Ok-read_told.told c.act.result.now job_is going.on c.requires.waits.1 c.in-Ok.ensures.finishes c.read_told.ensures.looks
+      ending_of g.S.Texts.tells going.course c.args.setting.tick.now c.args.setting.graph.now going.suits c.args.state.now (g.S.Texts.world c.args.site.now) (g.S.Texts.world c.wait_any.new.self) (g.S.Texts.world c.read_told.new.site) c.in-Ok.finished.job c.edge-edge.result c.in-Ok.finished.ok c.in-Ok-read_told.told c.act.result.now job_is going.on (may_take going.course c.args.setting.graph.now c.args.state.now.plan going.on.steps c.requires.going.goes going.is going.on.planned going.on.taken c.requires.going.may) c.in-Ok.ensures.finishes c.read_told.ensures.looks
           c.act.ensures c.in-Ok-read_told.ensures.read,
     )
 
 pub note_unread-requires-clause-running : goal.note_unread-requires-clause-running
 note_unread-requires-clause-running g c =
-    let going = c.requires.waits.0 in
+    let going = c.requires.going.going in
     let runs = running_edge g.S.Texts.tells going.course c.args.setting.graph.now None c.args.state.now (g.S.Texts.world c.args.site.now) going.on c.in-Ok.finished.job c.in-Ok.ensures.finishes.ran in
     let same : c.edge-edge.result ≡ runs.edge = omega (arith, runs.is, c.edge-edge.ensures) in
     ap (standing_at c.args.state.now.plan.standings.items) same ∙ runs.stands
@@ -53,7 +55,7 @@ returns-in-Ok-read_told-clause-cuts g c =
 
 pub returns-in-Ok-read_told-clause-removed : goal.returns-in-Ok-read_told-clause-removed
 returns-in-Ok-read_told-clause-removed g c =
-    let going = c.requires.waits.0 in
+    let going = c.requires.going.going in
     let runs = running_edge g.S.Texts.tells going.course c.args.setting.graph.now None c.args.state.now (g.S.Texts.world c.args.site.now) going.on c.in-Ok.finished.job c.in-Ok.ensures.finishes.ran in
     let job_is : c.in-Ok.finished.job ≡ suc c.edge-edge.result = omega (arith, runs.is, c.edge-edge.ensures) in
     ok_both c.take_in_told.result c.take_in_told.ensures.noted c.take_in_told.ensures.removed (λ noted removed i is failed.
@@ -63,7 +65,8 @@ returns-in-Ok-read_told-clause-removed g c =
 
 pub returns-in-Ok-read_told-clause-on : goal.returns-in-Ok-read_told-clause-on
 returns-in-Ok-read_told-clause-on g c =
-    ok_then c.take_in_told.result c.take_in_told.ensures.on (λ so course suits on turn.
+    ok_then c.take_in_told.result c.take_in_told.ensures.on (λ so goes may course suits is on.
+    let turn = may_take course c.args.setting.graph.now c.args.state.now.plan on.steps goes is on.planned on.taken may in
     let runs = running_edge g.S.Texts.tells course c.args.setting.graph.now None c.args.state.now (g.S.Texts.world c.args.site.now) on c.in-Ok.finished.job c.in-Ok.ensures.finishes.ran in
     let job_is : c.in-Ok.finished.job ≡ suc c.edge-edge.result = omega (arith, runs.is, c.edge-edge.ensures) in
     so course suits (ending_of g.S.Texts.tells course c.args.setting.tick.now c.args.setting.graph.now suits c.args.state.now (g.S.Texts.world c.args.site.now) (g.S.Texts.world c.wait_any.new.self) (g.S.Texts.world c.read_told.new.site) c.in-Ok.finished.job c.edge-edge.result c.in-Ok.finished.ok c.in-Ok-read_told.told c.act.result.now job_is on turn c.in-Ok.ensures.finishes c.read_told.ensures.looks
@@ -71,14 +74,16 @@ returns-in-Ok-read_told-clause-on g c =
 
 pub returns-in-Ok-read_told-clause-cut : goal.returns-in-Ok-read_told-clause-cut
 returns-in-Ok-read_told-clause-cut g c =
-    err_then c.take_in_told.result c.take_in_told.ensures.cut (λ so course suits on turn.
+    err_then c.take_in_told.result c.take_in_told.ensures.cut (λ so goes may course suits is on.
+    let turn = may_take course c.args.setting.graph.now c.args.state.now.plan on.steps goes is on.planned on.taken may in
     let runs = running_edge g.S.Texts.tells course c.args.setting.graph.now None c.args.state.now (g.S.Texts.world c.args.site.now) on c.in-Ok.finished.job c.in-Ok.ensures.finishes.ran in
     let job_is : c.in-Ok.finished.job ≡ suc c.edge-edge.result = omega (arith, runs.is, c.edge-edge.ensures) in
     so course suits (ending_of g.S.Texts.tells course c.args.setting.tick.now c.args.setting.graph.now suits c.args.state.now (g.S.Texts.world c.args.site.now) (g.S.Texts.world c.wait_any.new.self) (g.S.Texts.world c.read_told.new.site) c.in-Ok.finished.job c.edge-edge.result c.in-Ok.finished.ok c.in-Ok-read_told.told c.act.result.now job_is on turn c.in-Ok.ensures.finishes c.read_told.ensures.looks
     c.act.ensures c.in-Ok-read_told.ensures.read))
 
 pub returns-in-Err-read_told-clause-cut : goal.returns-in-Err-read_told-clause-cut
-returns-in-Err-read_told-clause-cut g c course suits on turn =
+returns-in-Err-read_told-clause-cut g c goes may course suits is on =
+    let turn = may_take course c.args.setting.graph.now c.args.state.now.plan on.steps goes is on.planned on.taken may in
     let runs = running_edge g.S.Texts.tells course c.args.setting.graph.now None c.args.state.now (g.S.Texts.world c.args.site.now) on c.in-Ok.finished.job c.in-Ok.ensures.finishes.ran in
     let job_is : c.in-Ok.finished.job ≡ suc c.edge-edge.result = omega (arith, runs.is, c.edge-edge.ensures) in
     end_unread g.S.Texts.tells course c.args.setting.tick.now c.args.setting.graph.now suits c.args.state.now (g.S.Texts.world c.args.site.now) (g.S.Texts.world c.wait_any.new.self) (g.S.Texts.world c.read_told.new.site) c.edge-edge.result c.in-Ok.finished.ok on turn
@@ -88,19 +93,19 @@ returns-in-Err-read_told-clause-cut g c course suits on turn =
 
 pub returns-in-Err-clause-cuts : goal.returns-in-Err-clause-cuts
 returns-in-Err-clause-cuts g c =
-    let going = c.requires.waits.0 in
+    let going = c.requires.going.going in
     record {
       cause = cause_err (g.S.Texts.world c.args.site.now) (g.S.Texts.world c.wait_any.new.self) c.in-Err.fault c.in-Err.ensures.cause;
       starts = inl c.in-Err.ensures.err.at_start;
       waits = record {
         some = some_still g.S.Texts.tells (g.S.Texts.world c.args.site.now) (g.S.Texts.world c.wait_any.new.self)
-            (some_runs g.S.Texts.tells going.course c.args.setting.graph.now None c.args.state.now (g.S.Texts.world c.args.site.now) going.on c.requires.waits.1.runs) c.in-Err.ensures.err;
+            (some_runs g.S.Texts.tells going.course c.args.setting.graph.now None c.args.state.now (g.S.Texts.world c.args.site.now) going.on (c.requires.going.may.runs (task_of going.course.asked going.course.store) c.args.setting.graph.now going.on.steps going.on.planned going.on.taken)) c.in-Err.ensures.err;
         noted = ((g.S.Texts.world c.args.site.now).failures, c.in-Err.ensures.waits c.requires.running);
       };
     }
 
 pub returns-in-Err-clause-cut : goal.returns-in-Err-clause-cut
-returns-in-Err-clause-cut g c course suits on turn =
+returns-in-Err-clause-cut g c goes may course suits is on =
     cut_looking g.S.Texts.tells course c.args.setting.graph.now (g.S.Texts.world c.args.site.now) c.args.state.now c.args.state.now.plan (g.S.Texts.world c.wait_any.new.self) refl c.in-Err.ensures.err on
 
 pub returns-in-Ok-read_told-clause-grows : goal.returns-in-Ok-read_told-clause-grows

@@ -1,68 +1,57 @@
-use Rattle.std.proofs.Common.{Bool, Vec, Global, sym, subst}
+use Rattle.std.proofs.Common.{Bool, true, Vec, Global, sym, subst}
 use Rattle.judge.specs.declared.looks.Looks.{Looks}
 use Rattle.judge.specs.Lasting.{AreMarked}
 use Rattle.work.proofs.Results.{on_err, ok_by, err_by}
-use Rattle.work.proofs.Ends.{cut_looking, at_load}
-use Rattle.work.proofs.Onward.{said_next, may_wait}
+use Rattle.work.proofs.Ends.{cut_looking, at_load, at_end}
+use Rattle.work.proofs.Onward.{may_wait}
 use Rattle.work.proofs.After.{after_same, after_looks}
 use Rattle.work.proofs.turn.go_on.Goals as goal
 
-pub judge-requires-clause-going : goal.judge-requires-clause-going
-judge-requires-clause-going g c =
-    let going = c.requires.going.0 in
-    (going, said_next going.course c.args.setting.graph.now c.args.state.now.plan _ going.on.steps c.requires.going.1 going.on.planned going.on.taken c.in-Judge.ensures.lawful c.in-Judge.ensures.loads)
+pub judge-requires-clause-next : goal.judge-requires-clause-next
+judge-requires-clause-next g c = record { offered = c.in-Judge.ensures.offered; lawful = c.in-Judge.ensures.lawful; loads = c.in-Judge.ensures.loads }
+
+pub start_edge-requires-clause-next : goal.start_edge-requires-clause-next
+start_edge-requires-clause-next g c = record { offered = c.in-Start.ensures.offered; lawful = c.in-Start.ensures.lawful; loads = c.in-Start.ensures.loads }
+
+pub take_in-requires-clause-going : goal.take_in-requires-clause-going
+take_in-requires-clause-going g c = record {
+  goes = true;
+  may = may_wait c.args.state.now.plan (record { offered = c.in-Wait.ensures.offered; lawful = c.in-Wait.ensures.lawful; loads = c.in-Wait.ensures.loads });
+  going = c.requires.going;
+}
 
 pub returns-in_err-map_err-in-Judge-clause-cut : goal.returns-in_err-map_err-in-Judge-clause-cut
 returns-in_err-map_err-in-Judge-clause-cut g c = on_err c.from_residual.result (λ course suits goes on.
     cut_looking g.S.Texts.tells course c.args.setting.graph.now (g.S.Texts.world c.args.site.now) c.args.state.now c.judge.new.state.plan (g.S.Texts.world c.judge.new.site)
     (err_by c.judge.result c.map_err.result _ c.map_err.ensures.variant c.in_err-map_err-in-Judge.was c.judge.ensures.plan) c.judge.ensures.looked.looks on)
 
-pub start_edge-requires-clause-going : goal.start_edge-requires-clause-going
-start_edge-requires-clause-going g c =
-    let going = c.requires.going.0 in
-    (going, said_next going.course c.args.setting.graph.now c.args.state.now.plan _ going.on.steps c.requires.going.1 going.on.planned going.on.taken c.in-Start.ensures.lawful c.in-Start.ensures.loads)
-
 pub returns-in_err-map_err-in-Start-clause-cut : goal.returns-in_err-map_err-in-Start-clause-cut
-returns-in_err-map_err-in-Start-clause-cut g c = on_err c.from_residual-in_err-map_err-in-Start.result (λ course suits goes on.
-    err_by c.start_edge.result c.map_err-in-Start.result _ c.map_err-in-Start.ensures.variant c.in_err-map_err-in-Start.was c.start_edge.ensures.cut course suits on
-    (said_next course c.args.setting.graph.now c.args.state.now.plan _ on.steps goes on.planned on.taken c.in-Start.ensures.lawful c.in-Start.ensures.loads))
-
-pub take_in-requires-clause-waits : goal.take_in-requires-clause-waits
-take_in-requires-clause-waits g c =
-    let going = c.requires.going.0 in (
-      going,
-      may_wait going.course c.args.setting.graph.now going.on.steps
-          (said_next going.course c.args.setting.graph.now c.args.state.now.plan _ going.on.steps c.requires.going.1 going.on.planned going.on.taken c.in-Wait.ensures.lawful c.in-Wait.ensures.loads),
-    )
+returns-in_err-map_err-in-Start-clause-cut g c = on_err c.from_residual-in_err-map_err-in-Start.result
+    (err_by c.start_edge.result c.map_err-in-Start.result _ c.map_err-in-Start.ensures.variant c.in_err-map_err-in-Start.was c.start_edge.ensures.cut)
 
 pub returns-in_err-take_in-in-Wait-clause-cut : goal.returns-in_err-take_in-in-Wait-clause-cut
-returns-in_err-take_in-in-Wait-clause-cut g c = on_err c.from_residual-in_err-take_in-in-Wait.result (λ course suits goes on.
-    c.in_err-take_in-in-Wait.ensures.cut course suits on (may_wait course c.args.setting.graph.now on.steps
-    (said_next course c.args.setting.graph.now c.args.state.now.plan _ on.steps goes on.planned on.taken c.in-Wait.ensures.lawful c.in-Wait.ensures.loads)))
+returns-in_err-take_in-in-Wait-clause-cut g c = on_err c.from_residual-in_err-take_in-in-Wait.result
+    (c.in_err-take_in-in-Wait.ensures.cut true (may_wait c.args.state.now.plan (record { offered = c.in-Wait.ensures.offered; lawful = c.in-Wait.ensures.lawful; loads = c.in-Wait.ensures.loads })))
 
 pub returns-in_ok-map_err-in-Judge-clause-on : goal.returns-in_ok-map_err-in-Judge-clause-on
-returns-in_ok-map_err-in-Judge-clause-on g c course suits goes on =
-    ok_by c.judge.result c.map_err.result _ c.map_err.ensures.variant c.in_ok-map_err-in-Judge.was c.judge.ensures.on course suits on
-    (said_next course c.args.setting.graph.now c.args.state.now.plan _ on.steps goes on.planned on.taken c.in-Judge.ensures.lawful c.in-Judge.ensures.loads)
+returns-in_ok-map_err-in-Judge-clause-on g c = ok_by c.judge.result c.map_err.result _ c.map_err.ensures.variant c.in_ok-map_err-in-Judge.was c.judge.ensures.on
 
 pub returns-in_ok-map_err-in-Start-clause-on : goal.returns-in_ok-map_err-in-Start-clause-on
-returns-in_ok-map_err-in-Start-clause-on g c course suits goes on =
-    ok_by c.start_edge.result c.map_err-in-Start.result _ c.map_err-in-Start.ensures.variant c.in_ok-map_err-in-Start.was c.start_edge.ensures.on course suits on
-    (said_next course c.args.setting.graph.now c.args.state.now.plan _ on.steps goes on.planned on.taken c.in-Start.ensures.lawful c.in-Start.ensures.loads)
+returns-in_ok-map_err-in-Start-clause-on g c = ok_by c.start_edge.result c.map_err-in-Start.result _ c.map_err-in-Start.ensures.variant c.in_ok-map_err-in-Start.was c.start_edge.ensures.on
 
 pub returns-in_ok-take_in-in-Wait-clause-on : goal.returns-in_ok-take_in-in-Wait-clause-on
-returns-in_ok-take_in-in-Wait-clause-on g c course suits goes on =
-    c.in_ok-take_in-in-Wait.ensures.on course suits on (may_wait course c.args.setting.graph.now on.steps
-    (said_next course c.args.setting.graph.now c.args.state.now.plan _ on.steps goes on.planned on.taken c.in-Wait.ensures.lawful c.in-Wait.ensures.loads))
+returns-in_ok-take_in-in-Wait-clause-on g c =
+    c.in_ok-take_in-in-Wait.ensures.on true (may_wait c.args.state.now.plan (record { offered = c.in-Wait.ensures.offered; lawful = c.in-Wait.ensures.lawful; loads = c.in-Wait.ensures.loads }))
 
 pub returns-in-Load-clause-on : goal.returns-in-Load-clause-on
-returns-in-Load-clause-on g c course suits goes on =
-    at_load g.S.Texts.tells course c.args.setting.graph.now (g.S.Texts.world c.args.site.now) c.args.state.now c.in-Load.file on
-    (said_next course c.args.setting.graph.now c.args.state.now.plan _ on.steps goes on.planned on.taken c.in-Load.ensures.lawful c.in-Load.ensures.loads) c.in-Load.ensures.offered
+returns-in-Load-clause-on g c course suits goes =
+    at_load g.S.Texts.tells course c.args.setting.graph.now (g.S.Texts.world c.args.site.now) c.args.state.now c.in-Load.file
+    (record { offered = c.in-Load.ensures.offered; lawful = c.in-Load.ensures.lawful; loads = c.in-Load.ensures.loads })
 
 pub returns-in-Ended-clause-on : goal.returns-in-Ended-clause-on
-returns-in-Ended-clause-on g c course suits goes on =
-    record { on = on; over = said_next course c.args.setting.graph.now c.args.state.now.plan _ on.steps goes on.planned on.taken c.in-Ended.ensures.lawful c.in-Ended.ensures.loads }
+returns-in-Ended-clause-on g c course suits =
+    at_end g.S.Texts.tells course c.args.setting.graph.now (g.S.Texts.world c.args.site.now) c.args.state.now _
+    (record { offered = c.in-Ended.ensures.offered; lawful = c.in-Ended.ensures.lawful; loads = c.in-Ended.ensures.loads })
 
 pub returns-in_err-map_err-in-Judge-clause-grows : goal.returns-in_err-map_err-in-Judge-clause-grows
 returns-in_err-map_err-in-Judge-clause-grows g c = after_looks g.S.Texts.tells (g.S.Texts.world c.args.site.now) (g.S.Texts.world c.judge.new.site) c.judge.ensures.looked.looks

@@ -22,4 +22,4 @@ returns-clause-all c before more rs ds grows known =
 pub returns-clause-known : goal.returns-clause-known
 returns-clause-known c before more rs ds grows known =
     let both = returns-clause-all c before more rs ds grows known in
-    known_all c.args.graph.now rs ds _ both.0 both.1
+    known_all c.args.graph.now c.lists_stand.ensures rs ds _ both.0 both.1

@@ -1,0 +1,35 @@
+-- What is so wherever a build stands, and of the recorded inputs of any graph.
+use Rattle.std.specs.Prelude.{◌≡◌, ◌<◌, ℕ, Bool, true, List, [], All, length, None}
+use Rattle.model.specs.declared.graph.Edge.{Edge}
+use Rattle.model.specs.World.{World}
+use Rattle.model.specs.Graph.{edge_at}
+use Rattle.model.specs.Phases.{Phase}
+use Rattle.model.specs.Records.{Store}
+use Rattle.graph.specs.declared.cone.Cone.{Cone}
+use Rattle.graph.specs.declared.graph.Graph.{Graph}
+use Rattle.graph.specs.Links.{links_of}
+use Rattle.graph.specs.Told.{declared_by, recorded_by}
+use Rattle.plan.specs.declared.step.Step.TheVariants.{Load}
+use Rattle.plan.specs.Planned.{IsNext}
+use Rattle.work.specs.declared.state.State.{State}
+use Rattle.work.specs.Course.{Course}
+use Rattle.work.specs.Recorded.{IsRecordedBy}
+use Rattle.work.specs.Standing.{StandsAt, BeginsAt, IsAtNextLoad}
+
+-- the order of the cone names edges of the graph
+abbrev pub OrdersStand : Graph → Type 0
+OrdersStand graph =
+    (tells : Bool) (tick : List ℕ) (course : Course) (edges : List Edge) (phases : List Phase) (cone : Cone) (state : State) (now : World)
+    → StandsAt tells tick course edges phases graph cone state now → All (λ e. e < length graph.manifest.lines) cone.order.items
+
+-- where a phase begins, and the plan says a file that no edge makes, the build stands at that load
+abbrev pub SourcesLoad : Type 0
+SourcesLoad =
+    (tells : Bool) (tick : List ℕ) (course : Course) (edges : List Edge) (phases : List Phase) (graph : Graph) (cone : Cone) (state : State) (now : World)
+    → BeginsAt tells tick course edges phases graph cone state now → (file : ℕ) → IsNext state.plan (Load file) → (links_of graph).maker file ≡ None
+    → IsAtNextLoad tells tick course edges phases graph cone state file now
+
+-- where they are those in use, a phony edge has none
+abbrev pub PhoniesRecordNone : Type 0
+PhoniesRecordNone =
+    (graph : Graph) (store : Store) → IsRecordedBy graph store → (i : ℕ) → (edge_at (declared_by graph).edges i).phony ≡ true → recorded_by graph i ≡ []
