@@ -27,8 +27,8 @@ loop-edge-init c =
       λ past said builds of are all named. goes_begin past said builds c.args.table.now c.args.read.items _ c.args.lines.now _ gives none all named,
     )
 
-pub loop-edge-preserved : goal.loop-edge-preserved
-loop-edge-preserved c =
+pub loop-edge-preserved-in_ok-push : goal.loop-edge-preserved-in_ok-push
+loop-edge-preserved-in_ok-push c =
     let scopes : AllByRecursion (IsInScope c.args.scopes.now) (c.in-Some.edge ∷ into_iter_items c.next.new.self) = rw c.in-Some.ensures.steps.0 at c.loop-edge.invariant.4 in
     let left : length c.loop-edge.actions + length (c.in-Some.edge ∷ into_iter_items c.next.new.self) ≡ length c.args.lines.now = rw c.in-Some.ensures.steps.0 at c.loop-edge.invariant.5 in
     let low : length c.loop-edge.actions < length c.args.lines.now = omega arith in
