@@ -161,7 +161,7 @@ impl Auditor {
         let Some(wholes) = wholes_of(self.alloc, facts)? else {
             return Ok(None);
         };
-        let mut wholes = by_given_names(self.alloc, &self.names, wholes)?;
+        let mut wholes = by_given_names(self.alloc, &self.names, &self.scratch, wholes)?;
         let scratch = self.scratch.front();
         push_folders(self.alloc, self.names.folder(), scratch, &mut wholes)?;
         Ok(Some(wholes))
@@ -233,14 +233,10 @@ impl Auditor {
     {
         let mut reals = Vec::with_capacity(self.alloc, wholes.len())?;
         for whole in wholes {
-            reals.push(self.is_by_real(whole.path.as_str()))?;
+            let path = whole.path.as_str();
+            reals.push(!self.scratch.counts_by_name(&self.names, path))?;
         }
         Ok(reals)
-    }
-
-    /// Whether a file that is named so counts by the name that the kernel has: a link may lead from a folder for scratch files to any other.
-    fn is_by_real(&self, path: &str) -> bool {
-        !self.names.counts(path) || (self.scratch.holds(path) && !self.names.knows(path))
     }
 
     /// Tells what breaks a premise, and answers how much it was.

@@ -5,6 +5,7 @@ ghost use Rattle.std.specs.List.{starts_with};
 ghost use Rattle.model.specs.Graph.{has};
 ghost use Rattle.auditor.specs.Scratch.{IsFrontIn, front_of, is_below, is_scratch};
 
+use crate::around::Names;
 use crate::listed::{Declared, push_sides};
 use audit::canonical_at;
 use paths::{EdgeId, Paths};
@@ -58,6 +59,12 @@ impl Scratch {
             Some(front) => front.as_str(),
             None => "",
         }
+    }
+
+    /// Whether what was done at a path, from the root, counts by that name, and not by the one that the kernel has: of what counts, but for
+    /// scratch files. A link may lead from a folder for these to any other.
+    pub fn counts_by_name(&self, names: &Names, path: &str) -> bool {
+        names.counts(path) && (!self.holds(path) || names.knows(path))
     }
 
     /// Whether the path, from the root, is of a scratch file.
