@@ -6,7 +6,7 @@ use Rattle.auditor.proofs.project.Auditor.arounds_of.Goals as goal
 pub loop-place-preserved : goal.loop-place-preserved
 loop-place-preserved c =
     judged_next c.args.self.now.scratch (sums_in c.args.uses.now).paths c.loop-place.place c.path_at.result.now c.loop-place.arounds.items c.push.new.self.items c.around.result
-    (omega arith) c.path_at.ensures c.around.ensures c.in_ok-push.ensures.ok c.loop-place.invariant
+    (omega arith) c.path_at.ensures c.around.ensures c.in_ok-push.ensures.items c.loop-place.invariant
 
 pub returns : goal.returns
 returns c =
