@@ -1,10 +1,19 @@
--- What is told of one path after another.
-use Rattle.std.proofs.Common.{◌≡◌, ◌≤◌, ◌<◌, ℕ, ◌+◌, Bool, List, [], ◌∷◌, ◌++◌, length, map, take, get_or, slice_get, unwrap_or, sym, ap, ◌∙◌}
+-- What is in a list of paths, and what is told of one path after another.
+use Rattle.std.proofs.Common.{◌≡◌, ◌≤◌, ◌<◌, ℕ, zero, suc, ◌+◌, Bool, true, List, [], ◌∷◌, ◌++◌, Some, length, map, take, get_or, slice_get, unwrap_or, bytes_eq, sym, ap, ◌∙◌}
+use Rattle.std.proofs.lemmas.Bool.{or_left, or_right}
 use Rattle.std.proofs.lemmas.List.{map-append, take_more, take_all}
 use Rattle.std.proofs.lemmas.Option.{unwrap_or-slice_get}
+use Rattle.std.proofs.lemmas.Slice.Eq.{bytes_eq-Decides}
+use Rattle.model.specs.Graph.{has}
 use Rattle.audit.specs.declared.place.Around.{Around}
 use Rattle.auditor.specs.declared.scratch.Scratch.{Scratch}
 use Rattle.auditor.specs.Scratch.{AreAround, is_scratch}
+
+-- what stands in a place of a list is in it
+pub in_has : (paths : List (List ℕ)) (n : ℕ) (p : List ℕ) → slice_get paths n ≡ Some p → has paths p ≡ true
+in_has [] n p is = absurd (cc)
+in_has (x ∷ xs) zero p is = let same : x ≡ p = cc in or_left (bytes_eq x p) (has xs p) ((bytes_eq-Decides x p).1 same)
+in_has (x ∷ xs) (suc n) p is = or_right (bytes_eq x p) (has xs p) (in_has xs n p is)
 
 abbrev of : Around → Bool
 of around = around.scratch
