@@ -46,7 +46,8 @@ unfoldable pub spoils_known : Place → Bool
 spoils_known place = (is_strange place && not place.around.made) && (place.around.named || place.around.recorded)
 
 unfoldable pub spoils_stray : Place → Bool
-spoils_stray place = (is_strange place && not place.around.made) && not (place.around.named || place.around.recorded)
+spoils_stray place =
+    ((is_strange place && not place.around.made) && not (place.around.named || place.around.recorded)) && not place.around.scratch
 
 -- what it wrote it has removed, and nothing stood there before: a scratch file
 abbrev pub is_scratch : Use → Bool

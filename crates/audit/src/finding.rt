@@ -251,7 +251,10 @@ fn spoils_known(place: Place) -> bool
 fn spoils_stray(place: Place) -> bool
     ensures { result ≡ spoils_stray place }
 {
-    is_strange(place) && !place.around.made && !(place.around.named || place.around.recorded)
+    is_strange(place)
+        && !place.around.made
+        && !(place.around.named || place.around.recorded)
+        && !place.around.scratch
 }
 
 #[tactic(auto, unfolding(crate::specs::Findings::is_unwritten))]

@@ -37,6 +37,8 @@ pub struct Around {
     pub inside: bool,
     /// It is a file of the program's own.
     pub own: bool,
+    /// It is one of the scratch files that stand below a folder for these.
+    pub scratch: bool,
 }
 
 /// What a path is to a command.

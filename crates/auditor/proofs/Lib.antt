@@ -1,2 +1,2 @@
-mod Counting
+mod Judged
 mod Things

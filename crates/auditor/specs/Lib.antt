@@ -1,2 +1,3 @@
 pub mod Things
+pub mod Scratch
 pub mod Tally

@@ -8,6 +8,8 @@ use Rattle.audit.specs.Breaches.{breaches}
 use Rattle.audit.specs.declared.seen.Whole.{Whole}
 use Rattle.audit.specs.Seen.{Sums, no_sums, with_all_done, with_untouched}
 use Rattle.auditor.specs.declared.tally.Counts.{Counts}
+use Rattle.auditor.specs.declared.scratch.Scratch.{Scratch}
+use Rattle.auditor.specs.Scratch.{AreAround}
 use Rattle.auditor.specs.Things.{AreThings}
 
 abbrev pub none_looked_at : ℕ → Counts
@@ -32,10 +34,10 @@ is_clean counts = (counts.looked == counts.commands) && (counts.kept == counts.l
 -- ---- what is counted
 
 -- Of a command which did this in sum, with a judgement of each path: it counts as one that keeps all premises only where nothing breaks one.
-pub record IsCountedBy (lists : Lists) (sums : Sums) (old new : Counts) : Type 0 where
+pub record IsCountedBy (scratch : Scratch) (lists : Lists) (sums : Sums) (old new : Counts) : Type 0 where
   pub keeps : Bool
   pub arounds : List Around
-  pub each : length arounds ≡ length sums.paths
+  pub each : AreAround scratch sums.paths arounds
   pub found : keeps ≡ true → breaches lists arounds sums ≡ []
   pub is : new ≡ with_one old keeps
 
@@ -46,27 +48,28 @@ pub record AreSums (wholes : List Whole) (outputs : List (List ℕ)) (sums : Sum
   pub are : sums ≡ with_untouched (with_all_done no_sums wholes reals) outputs
 
 -- of a command that did these things
-pub record IsCountedOf (wholes : List Whole) (old new : Counts) : Type 0 where
+pub record IsCountedOf (scratch : Scratch) (wholes : List Whole) (old new : Counts) : Type 0 where
   pub lists : Lists
   pub sums : Sums
   pub are : AreSums wholes lists.outputs sums
-  pub is : IsCountedBy lists sums old new
+  pub is : IsCountedBy scratch lists sums old new
 
 -- so much breaks a premise of that which came to these sums, with a judgement of each path
-abbrev pub AreFound : Lists → Sums → ℕ → Type 0
-AreFound lists sums count =
-    (arounds : List Around) × (length arounds ≡ length sums.paths) × (count ≡ length (breaches lists arounds sums))
+abbrev pub AreFound : Scratch → Lists → Sums → ℕ → Type 0
+AreFound scratch lists sums count =
+    (arounds : List Around) × AreAround scratch sums.paths arounds × (count ≡ length (breaches lists arounds sums))
 
 -- the trace of a command that began in this folder tells these things
 abbrev pub Tells : List ℕ → List ℕ → List Whole → Type 0
 Tells start trace wholes = (facts : List Fact) × (told start trace ≡ Some facts) × AreThings facts wholes
 
 -- of a command of which a trace tells these facts; one with a path that is no text does not count as looked at
-abbrev pub TakesTold : Option (List Fact) → Counts → Counts → Type 0
-TakesTold None old new = new ≡ old
-TakesTold (Some facts) old new = (new ≡ old) ⊎ ((wholes : List Whole) × AreThings facts wholes × IsCountedOf wholes old new)
+abbrev pub TakesTold : Scratch → Option (List Fact) → Counts → Counts → Type 0
+TakesTold scratch None old new = new ≡ old
+TakesTold scratch (Some facts) old new =
+    (new ≡ old) ⊎ ((wholes : List Whole) × AreThings facts wholes × IsCountedOf scratch wholes old new)
 
 -- Of a command that began in this folder and left this trace, if any. It counts as looked at only where the trace is understood.
-abbrev pub TakesIn : List ℕ → Option (List ℕ) → Counts → Counts → Type 0
-TakesIn start None old new = new ≡ old
-TakesIn start (Some trace) old new = TakesTold (told start trace) old new
+abbrev pub TakesIn : Scratch → List ℕ → Option (List ℕ) → Counts → Counts → Type 0
+TakesIn scratch start None old new = new ≡ old
+TakesIn scratch start (Some trace) old new = TakesTold scratch (told start trace) old new

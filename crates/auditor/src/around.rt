@@ -104,8 +104,16 @@ impl Names {
         }
     }
 
-    /// What the path is to the build, where it is known whether another command makes it, and one that is above.
-    pub fn around(&self, path: &str, made: bool, above: bool) -> Around {
+    /// Whether a build line names the path, or a record in force as an output.
+    pub fn knows(&self, path: &str) -> bool {
+        self.makers.get(path).is_some() || self.is_recorded(path)
+    }
+
+    /// What the path is to the build, where it is known whether another command makes it, and one that is above, and whether it is a scratch
+    /// file below a folder for these.
+    pub fn around(&self, path: &str, made: bool, above: bool, scratch: bool) -> Around
+        ensures { result.scratch ≡ scratch }
+    {
         Around {
             made,
             above,
@@ -113,6 +121,7 @@ impl Names {
             recorded: self.is_recorded(path),
             inside: self.is_inside(path),
             own: is_own(path),
+            scratch,
         }
     }
 }

@@ -9,16 +9,17 @@ use std::alloc::{AllocError, Global};
 use text::{Items, Path};
 use trace::Deed;
 
-/// Puts at the end that the working folder is one, and each path above another at which something was: of a call that only asks whether a
-/// path is there, a trace does not tell whether that is a folder.
+/// Puts at the end that the working folder is one, that for scratch files, of which the front is given, and each path above another at which
+/// something was: of a call that only asks whether a path is there, a trace does not tell whether that is a folder.
 pub fn push_folders(
     alloc: Global,
     folder: &str,
+    scratch: &str,
     wholes: &mut Items<Whole>,
 ) -> Result<(), AllocError>
     ensures { OnOk result (AddsFolders wholes.old wholes.new) }
 {
-    let folders = folders_in(alloc, folder, wholes.as_slice())?;
+    let folders = folders_in(alloc, folder, scratch, wholes.as_slice())?;
     push_all(alloc, &folders, wholes)
 }
 
@@ -38,10 +39,16 @@ fn push_all(alloc: Global, folders: &Paths, wholes: &mut Items<Whole>) -> Result
     Ok(())
 }
 
-/// The working folder, and all that is above it or above a path at which something was. Each is looked at once.
-fn folders_in(alloc: Global, folder: &str, wholes: &[Whole]) -> Result<Paths, AllocError> {
+/// The working folder and that for scratch files, and all that is above these or above a path at which something was. Each is looked at once.
+fn folders_in(
+    alloc: Global,
+    folder: &str,
+    scratch: &str,
+    wholes: &[Whole],
+) -> Result<Paths, AllocError> {
     let mut folders = Paths::new(alloc);
     push_above(alloc, folder, &mut folders)?;
+    push_above(alloc, scratch, &mut folders)?;
     folders.add(alloc, folder)?;
     for whole in wholes {
         if was_there(whole.deed) {

@@ -5,6 +5,7 @@ ghost use Rattle.std.specs.List.{AllZip};
 ghost use Rattle.auditor.specs.Things.{IsGiven, may_be_renamed};
 
 use crate::around::Names;
+use crate::scratch::Scratch;
 use audit::Whole;
 use indexmap::IndexMap;
 use std::alloc::{AllocError, Global};
@@ -16,11 +17,12 @@ use trace::Deed;
 pub fn by_given_names(
     alloc: Global,
     names: &Names,
+    scratch: &Scratch,
     wholes: Items<Whole>,
 ) -> Result<Items<Whole>, AllocError>
     ensures { IfOk result (AllZip IsGiven wholes) }
 {
-    let given = given_names(alloc, names, wholes.as_slice())?;
+    let given = given_names(alloc, names, scratch, wholes.as_slice())?;
     if given.is_empty() {
         return Ok(wholes);
     }
@@ -46,12 +48,13 @@ fn renamed_all(
 fn given_names(
     alloc: Global,
     names: &Names,
+    scratch: &Scratch,
     wholes: &[Whole],
 ) -> Result<IndexMap<String, String>, AllocError> {
     let mut given = IndexMap::new(alloc);
     for whole in wholes {
         if let Some(real) = &whole.real {
-            if *real != whole.path && names.counts(whole.path.as_str()) {
+            if *real != whole.path && scratch.counts_by_name(names, whole.path.as_str()) {
                 push_name(alloc, real.as_str(), whole.path.as_str(), &mut given)?;
             }
         }

@@ -11,6 +11,7 @@ mod later;
 mod listed;
 mod outside;
 mod project;
+mod scratch;
 mod spelled;
 mod tally;
 mod twins;

@@ -51,7 +51,7 @@ fn fill(
 }
 
 /// Takes in the depfile and the response file of an edge; whether its command may leave outputs as they were.
-fn push_sides(
+pub fn push_sides(
     alloc: Global,
     declared: Declared<'_>,
     edge: EdgeId,

@@ -1,9 +1,10 @@
 //! A project that is audited: what is declared and recorded, and what is told of the trace of each command.
 
-ghost use Rattle.std.specs.Prelude.{◌≡◌, IfOk, IfSome, OnOk, length, string_bytes};
+ghost use Rattle.std.specs.Prelude.{◌≡◌, IfOk, IfSome, OnOk, [], length, slice_get, string_bytes, unwrap_or};
 ghost use Rattle.std.specs.Option.{option_map};
 ghost use Rattle.trace.specs.Lines.{IsTold, told};
 ghost use Rattle.audit.specs.Seen.{sums_in};
+ghost use Rattle.auditor.specs.Scratch.{AreAround, IsFrontIn, is_scratch};
 ghost use Rattle.auditor.specs.Tally.{AreFound, AreSums, IsCountedBy, IsCountedOf, TakesIn, TakesTold, Tells};
 ghost use Rattle.auditor.specs.Things.{AreThings};
 
@@ -14,6 +15,7 @@ use crate::given::by_given_names;
 use crate::graphs::{is_command, outputs_of, text_of};
 use crate::later::Later;
 use crate::listed::{Declared, lists_of};
+use crate::scratch::Scratch;
 use crate::tally::Tally;
 use crate::twins::Twins;
 use audit::{Around, Breach, Lists, Use, Uses, Whole, breaches, connects, uses_of, wholes_of};
@@ -33,6 +35,7 @@ pub struct Auditor {
     deps: Option<DepsLog>,
     names: Names,
     twins: Twins,
+    scratch: Scratch,
 }
 
 impl Auditor {
@@ -51,7 +54,19 @@ impl Auditor {
             deps,
             names,
             twins: Twins::new(alloc),
+            scratch: Scratch::none(alloc),
         })
+    }
+
+    /// Takes in that scratch files stand below this folder, where it is below the working one; else nothing. It takes a time of the order of
+    /// the graph and of the deps log.
+    pub fn take_scratch(&mut self, folder: &str) -> Result<(), AllocError>
+        ensures { OnOk result (IsFrontIn (string_bytes self.old.names.folder) folder.now self.new.scratch.front) }
+    {
+        let mut scratch = Scratch::below(self.alloc, self.names.folder(), folder)?;
+        scratch.keep(self.alloc, self.declared())?;
+        self.scratch = scratch;
+        Ok(())
     }
 
     /// How many paths the build lines name.
@@ -92,7 +107,7 @@ impl Auditor {
         trace: Option<&[u8]>,
         tally: &mut Tally,
     ) -> Result<(), AllocError>
-        ensures { OnOk result (TakesIn (string_bytes self.now.names.folder) (option_map (λ trace. trace.now) trace.entry) tally.old.counts tally.new.counts) }
+        ensures { OnOk result (TakesIn self.now.scratch (string_bytes self.now.names.folder) (option_map (λ trace. trace.now) trace.entry) tally.old.counts tally.new.counts) }
     {
         let Some(edge) = EdgeId::at(job.saturating_sub(1)) else {
             return Ok(());
@@ -114,7 +129,7 @@ impl Auditor {
 
     /// Tells what breaks a premise of that which a trace tells of the command of the edge.
     fn take_trace(&self, edge: EdgeId, trace: &[u8], tally: &mut Tally) -> Result<(), AllocError>
-        ensures { OnOk result (TakesTold (told (string_bytes self.now.names.folder) trace.now) tally.old.counts tally.new.counts) }
+        ensures { OnOk result (TakesTold self.now.scratch (told (string_bytes self.now.names.folder) trace.now) tally.old.counts tally.new.counts) }
     {
         match self.wholes_told(trace)? {
             Some(wholes) => self.take_wholes(edge, wholes.as_slice(), tally),
@@ -146,8 +161,9 @@ impl Auditor {
         let Some(wholes) = wholes_of(self.alloc, facts)? else {
             return Ok(None);
         };
-        let mut wholes = by_given_names(self.alloc, &self.names, wholes)?;
-        push_folders(self.alloc, self.names.folder(), &mut wholes)?;
+        let mut wholes = by_given_names(self.alloc, &self.names, &self.scratch, wholes)?;
+        let scratch = self.scratch.front();
+        push_folders(self.alloc, self.names.folder(), scratch, &mut wholes)?;
         Ok(Some(wholes))
     }
 
@@ -158,7 +174,7 @@ impl Auditor {
         wholes: &[Whole],
         tally: &mut Tally,
     ) -> Result<(), AllocError>
-        ensures { OnOk result (IsCountedOf wholes.now tally.old.counts tally.new.counts) }
+        ensures { OnOk result (IsCountedOf self.now.scratch wholes.now tally.old.counts tally.new.counts) }
     {
         if connects(wholes) {
             self.tell_note(
@@ -178,7 +194,7 @@ impl Auditor {
         lists: &Lists,
         tally: &mut Tally,
     ) -> Result<(), AllocError>
-        ensures { OnOk result (IsCountedOf wholes.now tally.old.counts tally.new.counts) }
+        ensures { OnOk result (IsCountedOf self.now.scratch wholes.now tally.old.counts tally.new.counts) }
     {
         let uses = self.uses_in(wholes, &lists.outputs)?;
         self.take_uses(edge, lists, &uses, tally)
@@ -191,7 +207,7 @@ impl Auditor {
         uses: &Uses,
         tally: &mut Tally,
     ) -> Result<(), AllocError>
-        ensures { OnOk result (IsCountedBy lists.now (sums_in uses.now) tally.old.counts tally.new.counts) }
+        ensures { OnOk result (IsCountedBy self.now.scratch lists.now (sums_in uses.now) tally.old.counts tally.new.counts) }
     {
         let found = self.judge(edge, lists, uses, tally)?;
         let spelled = self.tell_spellings(edge, uses, tally)?;
@@ -211,13 +227,14 @@ impl Auditor {
         Ok(uses)
     }
 
-    /// By which path each of these counts: those that count by their names, and the others by those that the kernel has.
+    /// By which path each of these counts: those that count by their names, but for scratch files, and the others by those that the kernel has.
     fn reals_of(&self, wholes: &[Whole]) -> Result<Vec<bool>, AllocError>
         ensures { IfOk result (λ reals. length reals.items ≡ length wholes.now) }
     {
         let mut reals = Vec::with_capacity(self.alloc, wholes.len())?;
         for whole in wholes {
-            reals.push(!self.names.counts(whole.path.as_str()))?;
+            let path = whole.path.as_str();
+            reals.push(!self.scratch.counts_by_name(&self.names, path))?;
         }
         Ok(reals)
     }
@@ -230,7 +247,7 @@ impl Auditor {
         uses: &Uses,
         tally: &mut Tally,
     ) -> Result<usize, AllocError>
-        ensures found { IfOk result (AreFound lists.now (sums_in uses.now)) }
+        ensures found { IfOk result (AreFound self.now.scratch lists.now (sums_in uses.now)) }
         ensures counts { tally.new.counts ≡ tally.old.counts }
     {
         let found = self.found(edge, lists, uses)?;
@@ -257,7 +274,7 @@ impl Auditor {
 
     /// What breaks a premise.
     fn found(&self, edge: EdgeId, lists: &Lists, uses: &Uses) -> Result<Items<Breach>, AllocError>
-        ensures { IfOk result (λ found. AreFound lists.now (sums_in uses.now) (length found)) }
+        ensures { IfOk result (λ found. AreFound self.now.scratch lists.now (sums_in uses.now) (length found)) }
     {
         let arounds = self.arounds_of(edge, lists, uses)?;
         breaches(self.alloc, lists, arounds.as_slice(), uses)
@@ -270,17 +287,25 @@ impl Auditor {
         lists: &Lists,
         uses: &Uses,
     ) -> Result<Vec<Around>, AllocError>
-        ensures { IfOk result (λ arounds. length arounds.items ≡ length (sums_in uses.now).paths) }
+        ensures { IfOk result (λ arounds. AreAround self.now.scratch (sums_in uses.now).paths arounds.items) }
     {
         let is_above = self.above_of(edge, lists, uses)?;
         let mut arounds = Vec::with_capacity(self.alloc, uses.len())?;
         for place in 0..uses.len() {
-            let path = uses.path(place).unwrap_or("");
-            let maker = self.other_maker(edge, path);
-            let is_upper = is_listed(lists, path) || is_marked(is_above.as_slice(), maker);
-            arounds.push(self.names.around(path, maker.is_some(), is_upper))?;
+            arounds.push(self.around(edge, lists, is_above.as_slice(), path_at(uses, place)))?;
         }
         Ok(arounds)
+    }
+
+    /// What a path is to the build.
+    fn around(&self, edge: EdgeId, lists: &Lists, is_above: &[bool], path: &str) -> Around
+        ensures { result.scratch ≡ is_scratch self.now.scratch path.now }
+    {
+        let maker = self.other_maker(edge, path);
+        let is_upper = is_listed(lists, path) || is_marked(is_above, maker);
+        let is_scratch = self.scratch.holds(path);
+        self.names
+            .around(path, maker.is_some(), is_upper, is_scratch)
     }
 
     /// For each edge whether it is above this one; nothing where all paths that others make are inputs, as then nobody asks.
@@ -385,6 +410,16 @@ impl Auditor {
             Some(output) => text_of(&self.graph, *output),
             None => "",
         }
+    }
+}
+
+/// The path in this place.
+fn path_at(uses: &Uses, place: usize) -> &str
+    ensures { result.now ≡ unwrap_or (slice_get (sums_in uses.now).paths place) [] }
+{
+    match uses.path(place) {
+        Some(path) => path,
+        None => "",
     }
 }
 

@@ -7,9 +7,9 @@ use log_text::BuildLog;
 use paths::Manifest;
 use site::{Site, Texts};
 use std::alloc::{AllocError, Global};
-use std::fs;
 use std::io::Write;
 use std::os::unix::fs::MetadataExt;
+use std::{env, fs};
 use text::Bytes;
 
 /// What an audit compares traces with. The program's own files stand in the first folder; the second one is the working folder, from the
@@ -26,8 +26,28 @@ pub fn auditor_of<W: Write>(
     let deps = deps_log_in(alloc, host, own);
     let graph = graph_of(alloc, host, manifest, own)?;
     let mut auditor = Auditor::new(alloc, graph, folder, log, deps).ok()?;
+    take_scratch(rt, &mut auditor).ok()?;
     find_files(alloc, rt, &mut auditor).ok()?;
     Some(auditor)
+}
+
+/// Takes in the folder for scratch files that commands find in `TMPDIR`, links followed, if there is one.
+fn take_scratch(rt: &HostRuntime, auditor: &mut Auditor) -> Result<(), AllocError> {
+    let Ok(named) = env::var(rt, "TMPDIR") else {
+        return Ok(());
+    };
+    match fs::canonicalize(rt, named.as_str()) {
+        Ok(folder) => take_folder(rt, auditor, folder.as_str()),
+        Err(_) => Ok(()),
+    }
+}
+
+/// The same of what this path leads to.
+fn take_folder(rt: &HostRuntime, auditor: &mut Auditor, folder: &str) -> Result<(), AllocError> {
+    match fs::metadata(rt, folder) {
+        Ok(found) if found.is_dir() => auditor.take_scratch(folder),
+        _ => Ok(()),
+    }
 }
 
 /// The graph of a manifest, with what those dyndep files add that can be read.

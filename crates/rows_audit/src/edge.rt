@@ -104,5 +104,6 @@ fn around(path: &str, made: &Paths, above: &Paths) -> Around {
         recorded: false,
         inside: !path.as_bytes().starts_with(b"/"),
         own: false,
+        scratch: false,
     }
 }

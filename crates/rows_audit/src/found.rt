@@ -58,6 +58,7 @@ fn place_of(words: &str) -> Place {
             recorded: is_said(words, "recorded"),
             inside: is_said(words, "inside"),
             own: is_said(words, "own"),
+            scratch: is_said(words, "scratch"),
         },
     }
 }
