@@ -9,16 +9,15 @@ use Rattle.model.specs.Calls.{HasCause, KeepsWait, OnlyLooks}
 use Rattle.theory.specs.Seen.{Unrefused}
 use Rattle.theory.proofs.SiteCalls.{looks_none, looks_then, unrefused_call, unrefused_none, unrefused_then, cause_then}
 use Rattle.seen.specs.Asking.{Asks, WasAnswered}
-use Rattle.seen.proofs.Untold.{looks_untold}
 
 -- no call was made
-pub asks_none : {T : Type 0} (w : World) (x : T) → Asks w w (Ok x)
-asks_none w x = record { looks = looks_none false w; waits = refl; ok = inl refl; err = tt }
+pub asks_none : {T : Type 0} (tells : Bool) (w : World) (x : T) → Asks tells w w (Ok x)
+asks_none tells w x = record { looks = looks_none tells w; waits = refl; ok = inl refl; err = tt }
 
 -- one call was made
-pub asks_call : {T : Type 0} (tells : Bool) (a b : World) (r : Result T SiteFault) → OnlyLooks tells a b → HasCause a b r → KeepsWait a b → Asks a b r
-asks_call tells a b (Ok x) looks cause waits = record { looks = looks_untold tells a b looks; waits = waits; ok = inr (unrefused_call a b x cause); err = tt }
-asks_call tells a b (Err fault) looks cause waits = record { looks = looks_untold tells a b looks; waits = waits; ok = tt; err = cause }
+pub asks_call : {T : Type 0} (tells : Bool) (a b : World) (r : Result T SiteFault) → OnlyLooks tells a b → HasCause a b r → KeepsWait a b → Asks tells a b r
+asks_call tells a b (Ok x) looks cause waits = record { looks = looks; waits = waits; ok = inr (unrefused_call a b x cause); err = tt }
+asks_call tells a b (Err fault) looks cause waits = record { looks = looks; waits = waits; ok = tt; err = cause }
 
 answered_then : (a b c : World) → WasAnswered a b → WasAnswered b c → WasAnswered a c
 answered_then a b c (inl same) second = subst (λ (w : World). WasAnswered w c) same second
@@ -33,15 +32,15 @@ cause_behind a b c r (inr first) cause = cause_then a b c r first cause
 waits_then : (a b c : World) → KeepsWait a b → KeepsWait b c → KeepsWait a c
 waits_then a b c first second = second ∙ first
 
-pub asks_then : {T U : Type 0} (a b c : World) (x : T) (r : Result U SiteFault) → Asks a b (Ok x) → Asks b c r → Asks a c r
-asks_then a b c x (Ok y) first second = record {
-  looks = looks_then false a b c first.looks second.looks;
+pub asks_then : {T U : Type 0} (tells : Bool) (a b c : World) (x : T) (r : Result U SiteFault) → Asks tells a b (Ok x) → Asks tells b c r → Asks tells a c r
+asks_then tells a b c x (Ok y) first second = record {
+  looks = looks_then tells a b c first.looks second.looks;
   waits = waits_then a b c first.waits second.waits;
   ok = answered_then a b c first.ok second.ok;
   err = tt;
 }
-asks_then a b c x (Err fault) first second = record {
-  looks = looks_then false a b c first.looks second.looks;
+asks_then tells a b c x (Err fault) first second = record {
+  looks = looks_then tells a b c first.looks second.looks;
   waits = waits_then a b c first.waits second.waits;
   ok = tt;
   err = cause_behind a b c (Err fault) first.ok second.err;
@@ -62,9 +61,9 @@ lacks_memory {T} a b first = record {
 }
 
 -- no memory, where the site runs and no call was made
-pub asks_no_memory : {T : Type 0} (w : World) → w.stopped ≡ false → Asks {T = T} w w (Err Memory)
-asks_no_memory w runs = record { looks = looks_none false w; waits = refl; ok = tt; err = lacks_memory w w (unrefused_none w runs) }
+pub asks_no_memory : {T : Type 0} (tells : Bool) (w : World) → w.stopped ≡ false → Asks {T = T} tells w w (Err Memory)
+asks_no_memory tells w runs = record { looks = looks_none tells w; waits = refl; ok = tt; err = lacks_memory w w (unrefused_none w runs) }
 
 -- no memory, behind calls that were answered
-pub lacks_behind : {T U : Type 0} (a b : World) (x : T) → Asks a b (Ok x) → Unrefused a b → Asks {T = U} a b (Err Memory)
-lacks_behind a b x first answered = record { looks = first.looks; waits = first.waits; ok = tt; err = lacks_memory a b answered }
+pub lacks_behind : {T U : Type 0} (tells : Bool) (a b : World) (x : T) → Asks tells a b (Ok x) → Unrefused a b → Asks {T = U} tells a b (Err Memory)
+lacks_behind tells a b x first answered = record { looks = first.looks; waits = first.waits; ok = tt; err = lacks_memory a b answered }

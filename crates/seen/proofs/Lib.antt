@@ -1,7 +1,10 @@
+pub mod Since
+pub mod Told
+pub mod Seeing
+pub mod Making
 pub mod Answered
-pub mod Untold
 pub mod Faith
-pub mod Sets
+pub mod Already
 pub mod SmallOne
 pub mod Growing
 pub mod Putting

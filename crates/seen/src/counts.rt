@@ -1,0 +1,161 @@
+//! By what files count in a build.
+
+ghost use Rattle.std.specs.Prelude.{◌≡◌};
+
+use crate::answer::{Looked, already, noted_in, placed_by, stamp_told};
+use crate::judging::{Judged, Past, judge};
+use crate::makers::Makers;
+use crate::measure::Measure;
+use crate::own::Own;
+use crate::starts::note_start;
+use paths::Paths;
+use log_text::Records;
+use seen_log::{Last, Log};
+use std::alloc::{AllocError, Global};
+
+/// By what files count: what is known when a build begins, and which commands were started since.
+#[derive(Drop)]
+pub struct Counts {
+    /// What was noted of each path.
+    pub notes: Log,
+    /// What commands make, by the build file.
+    pub makers: Makers,
+    /// The program's own files.
+    pub own: Own,
+    /// What somebody else wrote before the build counts under this number at least.
+    pub number: u64,
+    /// What commands have made or are about to make, by the records of this build.
+    pub made: Paths,
+    /// Under which stamp the command of each edge was started.
+    pub starts: Vec<Option<u64>>,
+    /// The first of these stamps.
+    pub first_start: Option<u64>,
+}
+
+impl Counts {
+    ghost use Rattle.std.specs.Prelude.{◌≡◌, IfOk};
+    ghost use Rattle.indexmap.specs.IndexMap.{get_by_text};
+    ghost use Rattle.model.specs.Graph.{has};
+    ghost use Rattle.seen.specs.Answered.{counted_by};
+    ghost use Rattle.seen.specs.Beginning.{started_by};
+    ghost use Rattle.seen.specs.Entering.{IsUnbegun};
+    ghost use Rattle.seen.specs.Looking.{KnowsSame, looked_at, looked_there};
+    ghost use Rattle.seen.specs.Starts.{noted_start};
+
+    /// Where nothing is known. This takes no memory.
+    pub fn none(alloc: Global) -> Counts
+        ensures { IsUnbegun result }
+    {
+        Counts {
+            notes: Log::new(alloc),
+            makers: Makers::new(alloc),
+            own: Own::none(alloc),
+            number: 0,
+            made: Paths::new(alloc),
+            starts: Vec::new(alloc),
+            first_start: None,
+        }
+    }
+
+    /// How what was found at the path counts.
+    pub fn look_at(&mut self, path: &str, found: Option<Measure>) -> Result<Looked, AllocError>
+        ensures looked { IfOk result (λ looked. looked ≡ looked_at self.old path.now found) }
+        ensures same { KnowsSame self.old self.new }
+    {
+        if self.own.has(path) {
+            return Ok(Looked::own(found));
+        }
+        self.look_there(path, found)
+    }
+
+    /// The same, of a path that is none of the program's own. Of what is as noted nothing else is asked: so a path is looked up once, and no
+    /// output is where nothing changed.
+    fn look_there(&mut self, path: &str, found: Option<Measure>) -> Result<Looked, AllocError>
+        ensures looked { IfOk result (λ looked. looked ≡ looked_there self.old path.now found) }
+        ensures same { KnowsSame self.old self.new }
+    {
+        let last = self.notes.last(path);
+        match already(noted_in(last), found) {
+            Some(how) => Ok(Looked {
+                counts: how.counts,
+                found,
+                last,
+                how,
+            }),
+            None => self.look_further(path, last, found),
+        }
+    }
+
+    /// The same, where that does not tell it.
+    fn look_further(
+        &mut self,
+        path: &str,
+        last: Option<Last>,
+        found: Option<Measure>,
+    ) -> Result<Looked, AllocError>
+        requires { last ≡ get_by_text self.old.notes.last path.now }
+        ensures looked { IfOk result (λ looked. looked ≡ looked_there self.old path.now found) }
+        ensures same { KnowsSame self.old self.new }
+    {
+        let maker = self.makers.maker(path)?;
+        let past = Past {
+            noted: noted_in(last),
+            is_output: maker.is_some(),
+            since: self.first_start,
+        };
+        let how = judge(past, self.number, placed_by(self.is_made(path), found));
+        let counts = self.counted(how, maker, found)?;
+        Ok(Looked {
+            counts,
+            found,
+            last,
+            how,
+        })
+    }
+
+    /// The stamp that counts for what was found, which is judged so, and which this edge makes.
+    fn counted(
+        &self,
+        how: Judged,
+        maker: Option<usize>,
+        found: Option<Measure>,
+    ) -> Result<Option<u64>, AllocError>
+        ensures { IfOk result (λ counts. counts ≡ counted_by how (started_by self.now.starts.items maker) found) }
+    {
+        match found {
+            Some(Measure { stamp, .. }) => stamp_told(how.counts, self.started(maker), stamp),
+            None => Ok(None),
+        }
+    }
+
+    /// Under which stamp the command of this edge was started.
+    fn started(&self, maker: Option<usize>) -> Option<u64>
+        ensures { result ≡ started_by self.now.starts.items maker }
+    {
+        match maker {
+            Some(job) => self.starts.get(job).copied().flatten(),
+            None => None,
+        }
+    }
+
+    /// Whether a command of this build has made the path, or is about to.
+    pub fn is_made(&self, path: &str) -> bool
+        ensures { result ≡ has self.now.made path.now }
+    {
+        self.made.number_of(path).is_some()
+    }
+
+    /// The command of this edge was started under this stamp, if there is one.
+    pub fn start(&mut self, job: usize, start: Option<u64>)
+        ensures starts { self.new.starts.items ≡ noted_start self.old.starts.items job start }
+        ensures notes { self.new.notes ≡ self.old.notes }
+        ensures makers { self.new.makers ≡ self.old.makers }
+        ensures own { self.new.own ≡ self.old.own }
+        ensures number { self.new.number ≡ self.old.number }
+    {
+        note_start(&mut self.starts, job, start);
+        if self.first_start.is_none() {
+            self.first_start = start;
+        }
+    }
+}
