@@ -69,9 +69,9 @@ pub already_there : (k : Counts) (p : List ℕ) (found : Option Measure) (last :
 already_there k p found last noted how last_is noted_is is =
     let counts = counted_so noted found how (started_by k.starts.items (maker_of k.makers p)) (sym is) in
     let so : how ≡ judged_there k p found =
-        counts_so noted (is_some (maker_of k.makers p)) k.first_start k.number (placed_by (has k.made p) found) how (placed_same noted (has k.made p) found ∙ sym is)
-        ∙ ap (λ (n : Option Noted). judged (record { noted = n; is_output = is_some (maker_of k.makers p); since = k.first_start }) k.number (placed_by (has k.made p) found))
-        (noted_is ∙ ap (option_map (λ it. it.noted)) last_is) in
+    counts_so noted (is_some (maker_of k.makers p)) k.first_start k.number (placed_by (has k.made p) found) how (placed_same noted (has k.made p) found ∙ sym is)
+    ∙ ap (λ (n : Option Noted). judged (record { noted = n; is_output = is_some (maker_of k.makers p); since = k.first_start }) k.number (placed_by (has k.made p) found))
+    (noted_is ∙ ap (option_map (λ it. it.noted)) last_is) in
     (λ i. looked (counts i) last how)
     ∙ ((λ i. looked (counted_by (so i) (started_by k.starts.items (maker_of k.makers p)) found) (last_is i) (so i)))
   where

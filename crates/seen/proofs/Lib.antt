@@ -2,6 +2,7 @@ pub mod Since
 pub mod Told
 pub mod Seeing
 pub mod Making
+pub mod Starting
 pub mod Answered
 pub mod Faith
 pub mod Already

@@ -1,12 +1,14 @@
 -- Which edge makes a path, and which paths are in a table.
-use Rattle.std.proofs.Common.{◌≡◌, ◌<◌, ℕ, zero, suc, Bool, true, false, ◌||◌, if◌then◌else◌, List, [], ◌∷◌, ◌++◌, Option, Some, None, is_some, slice_get, bytes_eq, string_bytes, nat_lt, refl, sym, ap, subst, ◌∙◌}
+use Rattle.std.proofs.Common.{◌≡◌, inl, inr, String, ◌<◌, ℕ, zero, suc, Bool, true, false, ◌||◌, if◌then◌else◌, List, [], ◌∷◌, ◌++◌, Option, Some, None, is_some, slice_get, bytes_eq, string_bytes, nat_lt, refl, sym, ap, subst, ◌∙◌}
 use Rattle.std.specs.Prelude.{MatchOption}
 use Rattle.std.specs.Option.{option_or}
 use Rattle.std.proofs.lemmas.Bool.{cases_Bool, cond-true, cond-false, false≢true, ltb-true, eqb-true, eq-eqb}
 use Rattle.std.proofs.lemmas.Slice.Eq.{bytes_eq-Decides}
 use Rattle.model.specs.Graph.{has}
+use Rattle.std.specs.Map.{lookup}
+use Rattle.seen.specs.declared.makers.Makers.{Makers}
 use Rattle.seen.specs.declared.makers.Output.{Output}
-use Rattle.seen.specs.Makers.{are_below, is_job, made_in, maker_in}
+use Rattle.seen.specs.Makers.{are_below, is_job, made_in, maker_in, maker_of}
 
 -- ---- a table of paths
 
@@ -53,6 +55,73 @@ moved rest listed o p was now is_listed is_now =
 -- nothing is listed any more
 pub in_table : (listed : List Output) (p : List ℕ) (table before : Option ℕ) → option_or (maker_in listed p) table ≡ before → listed ≡ [] → table ≡ before
 in_table listed p table before is none = sym (ap (λ (l : List Output). option_or (maker_in l p) table) none) ∙ is
+
+-- ---- what an edge makes
+
+has_here : (p : List ℕ) (ps : List (List ℕ)) (q : List ℕ) → bytes_eq q p ≡ true → has (q ∷ ps) p ≡ true
+has_here p ps q is = ap (λ (b : Bool). b || has ps p) is
+
+has_there : (p : List ℕ) (ps : List (List ℕ)) (q : List ℕ) → bytes_eq q p ≡ false → has (q ∷ ps) p ≡ has ps p
+has_there p ps q is = ap (λ (b : Bool). b || has ps p) is
+
+module _ (all : List Output) (job : ℕ) (p : List ℕ) where
+  -- of a path that another edge makes, or none, nothing is made
+  made_not : (os : List Output) → is_job job (maker_in all p) ≡ false → has (made_in all os job) p ≡ false
+  made_not [] no = refl
+  made_not (o ∷ os) no = by (is_job job (maker_in all (string_bytes o.text))) refl
+    where
+      apart : is_job job (maker_in all (string_bytes o.text)) ≡ true → bytes_eq (string_bytes o.text) p ≡ true → ⊥
+      apart yes same =
+          let one : string_bytes o.text ≡ p = (bytes_eq-Decides (string_bytes o.text) p).0 same in
+          false≢true (sym no ∙ (ap (λ (q : List ℕ). is_job job (maker_in all q)) (sym one) ∙ yes))
+
+      there : (b : Bool) → bytes_eq (string_bytes o.text) p ≡ b → is_job job (maker_in all (string_bytes o.text)) ≡ true → has (string_bytes o.text ∷ made_in all os job) p ≡ false
+      there true same yes = absurd (apart yes same)
+      there false other yes = has_there p (made_in all os job) (string_bytes o.text) other ∙ made_not os no
+
+      by : (b : Bool) → is_job job (maker_in all (string_bytes o.text)) ≡ b → has (made_in all (o ∷ os) job) p ≡ false
+      by true yes = ap (λ (it : Bool). has (if it then string_bytes o.text ∷ made_in all os job else made_in all os job) p) yes ∙ there (bytes_eq (string_bytes o.text) p) refl yes
+      by false none = ap (λ (it : Bool). has (if it then string_bytes o.text ∷ made_in all os job else made_in all os job) p) none ∙ made_not os no
+
+  -- and of one that this edge makes, it is
+  made_yes : (os : List Output) (found : ℕ) → maker_in os p ≡ Some found → is_job job (maker_in all p) ≡ true → has (made_in all os job) p ≡ true
+  made_yes [] found is yes = absurd (none is)
+    where
+      none : None ≡ Some found → ⊥
+      none e = cc
+  made_yes (o ∷ os) found is yes = by (bytes_eq (string_bytes o.text) p) refl is
+    where
+      by : (b : Bool) → bytes_eq (string_bytes o.text) p ≡ b → (if b then Some o.job else maker_in os p) ≡ Some found → has (made_in all (o ∷ os) job) p ≡ true
+      by true same so =
+          let one : string_bytes o.text ≡ p = (bytes_eq-Decides (string_bytes o.text) p).0 same in
+          let makes : is_job job (maker_in all (string_bytes o.text)) ≡ true = ap (λ (q : List ℕ). is_job job (maker_in all q)) one ∙ yes in
+          ap (λ (it : Bool). has (if it then string_bytes o.text ∷ made_in all os job else made_in all os job) p) makes ∙ has_here p (made_in all os job) (string_bytes o.text) same
+      by false other so = later (is_job job (maker_in all (string_bytes o.text))) refl (made_yes os found so yes)
+        where
+          later : (b : Bool) → is_job job (maker_in all (string_bytes o.text)) ≡ b → has (made_in all os job) p ≡ true → has (made_in all (o ∷ os) job) p ≡ true
+          later true makes rest =
+              ap (λ (it : Bool). has (if it then string_bytes o.text ∷ made_in all os job else made_in all os job) p) makes ∙ (has_there p (made_in all os job) (string_bytes o.text) other ∙ rest)
+          later false makes rest = ap (λ (it : Bool). has (if it then string_bytes o.text ∷ made_in all os job else made_in all os job) p) makes ∙ rest
+
+some_job : (job : ℕ) (maker : Option ℕ) → is_job job maker ≡ true → (found : ℕ) × (maker ≡ Some found)
+some_job job None yes = absurd (false≢true yes)
+some_job job (Some found) yes = (found, refl)
+
+made_has : (all : List Output) (job : ℕ) (p : List ℕ) → has (made_in all all job) p ≡ is_job job (maker_in all p)
+made_has all job p = elim (cases_Bool (is_job job (maker_in all p))) [
+  | inl yes ↦ (let found = some_job job (maker_in all p) yes in made_yes all job p all found.0 found.1 yes ∙ sym yes)
+  | inr no ↦ made_not all job p all no ∙ sym no
+]
+
+-- so it is where all is listed
+or_none : (m : Option ℕ) → option_or m None ≡ m
+or_none None = refl
+or_none (Some job) = refl
+
+pub made_of : (makers : Makers) → makers.table.entries ≡ [] → (job : ℕ) (p : List ℕ) → has (made_in makers.listed.items makers.listed.items job) p ≡ is_job job (maker_of makers p)
+made_of makers none job p =
+    made_has makers.listed.items job p
+    ∙ ap (is_job job) (sym (ap (λ (es : List (String _ × ℕ)). option_or (maker_in makers.listed.items p) (lookup (λ k. bytes_eq p (string_bytes k)) es)) none ∙ or_none (maker_in makers.listed.items p)))
 
 -- ---- edges
 

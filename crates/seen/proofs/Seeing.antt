@@ -101,14 +101,19 @@ module _ (k : Counts) (p : List ℕ) where
 
     pub may_be_told : t.hidden p ≡ bytes_eq k.own.seen p → MayWrite k p → IsTold t p
     may_be_told hidden (apart, inl own) = (hidden ∙ apart, λ file. (file.stamp, counted file ∙ own_alike file own))
-    may_be_told hidden (apart, inr none) = (hidden ∙ apart, λ file. elim (cases_Bool (is_own k.own p)) [
-      | inl own ↦ (file.stamp, counted file ∙ own_alike file own)
-      | inr other ↦ (
-          let made : is_some (maker_of k.makers p) ≡ false = ap (λ (m : Option ℕ). is_some m) none in
-          let so = source_counts (past_of k.notes k.makers None p).noted None k.number file in
-          (so.0, counted file ∙ (cond-false (is_own k.own p) (Some file.stamp) (judged (past_of k.notes k.makers None p) k.number (Some (measure_of file))).counts other
-          ∙ (ap (λ (b : Bool). (judged (record { noted = (past_of k.notes k.makers None p).noted; is_output = b; since = None }) k.number (Some (measure_of file))).counts) made ∙ so.1))))
-    ])
+    may_be_told hidden (apart, inr none) = (
+      hidden ∙ apart,
+      λ file. elim (cases_Bool (is_own k.own p)) [
+        | inl own ↦ (file.stamp, counted file ∙ own_alike file own)
+        | inr other ↦ (
+            let made : is_some (maker_of k.makers p) ≡ false = ap (λ (m : Option ℕ). is_some m) none in
+            let so = source_counts (past_of k.notes k.makers None p).noted None k.number file in (
+              so.0,
+              counted file ∙ (cond-false (is_own k.own p) (Some file.stamp) (judged (past_of k.notes k.makers None p) k.number (Some (measure_of file))).counts other
+                  ∙ (ap (λ (b : Bool). (judged (record { noted = (past_of k.notes k.makers None p).noted; is_output = b; since = None }) k.number (Some (measure_of file))).counts) made ∙ so.1)),
+            ))
+      ],
+    )
 
     pub own_is_plain : t.hidden p ≡ bytes_eq k.own.seen p → bytes_eq k.own.seen p ≡ false → is_own k.own p ≡ true → IsPlain t p
     own_is_plain hidden apart own = (hidden ∙ apart, λ file. counted file ∙ own_alike file own)

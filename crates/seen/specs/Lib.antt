@@ -14,3 +14,4 @@ pub mod Between
 pub mod Noting
 pub mod First
 pub mod Small
+pub mod Going

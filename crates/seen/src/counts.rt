@@ -8,8 +8,8 @@ use crate::makers::Makers;
 use crate::measure::Measure;
 use crate::own::Own;
 use crate::starts::note_start;
-use paths::Paths;
 use log_text::Records;
+use paths::Paths;
 use seen_log::{Last, Log};
 use std::alloc::{AllocError, Global};
 

@@ -92,11 +92,13 @@ impl Known {
         )
     }
 
-    /// A line that notes this of the path.
+    /// A line that notes this of the path, or none where memory is refused.
     fn push(&mut self, path: &str, noted: Noted) -> Result<(), AllocError>
         ensures { OnOk result (Notes path.now noted self.old.lines.items self.new.lines.items) }
     {
-        note_line(&mut self.lines, path, noted)
+        let mut line = Vec::new(self.alloc);
+        note_line(&mut line, path, noted)?;
+        self.lines.extend_from_slice(line.as_slice())
     }
 
     /// What the record with this place notes was asked for in this build.

@@ -11,14 +11,14 @@ ghost use Rattle.seen.specs.Entering.{IsUnbegun};
 use crate::beginning::Beginning;
 use crate::known::Known;
 use crate::lines::{Told, told_by};
-use crate::measure::Measured;
 use crate::makers::Makers;
+use crate::measure::Measured;
 use crate::names::{is_build_log, is_log};
 use crate::notes::{Entry, read_by};
 use crate::retold::Retold;
 use log_text::{Field, fields};
-use paths::Manifest;
 use model::{Act, Event, Finished};
+use paths::Manifest;
 use site::{Site, SiteFault, Texts};
 use std::alloc::Global;
 use std::mem::forget;
@@ -105,12 +105,7 @@ impl<S: Measured, B: Beginning> Seen<S, B> {
         ensures { Asks S.tells (S.world self.old.retold.site) (S.world self.new.retold.site) result }
     {
         let makers = self.next.take().unwrap_or(Makers::new(self.alloc));
-        let Entry { counts, base, .. } = read_by(
-            self.alloc,
-            &mut self.retold.site,
-            makers,
-            log,
-        )?;
+        let Entry { counts, base, .. } = read_by(self.alloc, &mut self.retold.site, makers, log)?;
         self.retold.begin(counts);
         self.known = Known::new(self.alloc);
         self.base = base;
