@@ -5,7 +5,7 @@ use Rattle.std.proofs.lemmas.Bool.{false≢true}
 use Rattle.model.specs.declared.fault.SiteFault.{SiteFault}
 use Rattle.model.specs.declared.fault.SiteFault.TheVariants.{Device, Stopped, Memory}
 use Rattle.model.specs.World.{World}
-use Rattle.model.specs.Calls.{HasCause, KeepsWait, OnlyLooks}
+use Rattle.model.specs.Calls.{HasCause, KeepsWait, OnlyLooks, is_stop}
 use Rattle.theory.specs.Seen.{Unrefused}
 use Rattle.theory.proofs.SiteCalls.{looks_none, looks_then, unrefused_call, unrefused_none, unrefused_then, cause_then}
 use Rattle.seen.specs.Asking.{Asks, WasAnswered}
@@ -67,3 +67,33 @@ asks_no_memory tells w runs = record { looks = looks_none tells w; waits = refl;
 -- no memory, behind calls that were answered
 pub lacks_behind : {T U : Type 0} (tells : Bool) (a b : World) (x : T) → Asks tells a b (Ok x) → Unrefused a b → Asks {T = U} tells a b (Err Memory)
 lacks_behind tells a b x first answered = record { looks = first.looks; waits = first.waits; ok = tt; err = lacks_memory a b answered }
+
+err_same : {T U : Type 0} (f f' : SiteFault) → Err {T} f ≡ Err f' → Err {U} f ≡ Err f'
+err_same f f' is = ap Err (by is)
+  where
+    by : Err f ≡ Err f' → f ≡ f'
+    by e = cc
+
+-- a fault is one of any call
+pub cause_of : {T U : Type 0} (a b : World) (fault : SiteFault) → HasCause {T = T} a b (Err fault) → HasCause {T = U} a b (Err fault)
+cause_of {T} {U} a b fault cause = record {
+  grows = cause.grows;
+  device = λ is. cause.device (err_same fault Device is);
+  others = λ other. cause.others (λ is. other (err_same fault Device is));
+  stopped = by fault cause.stopped;
+  after_stop = λ stopped. (err_same fault Stopped (cause.after_stop stopped).0, (cause.after_stop stopped).1);
+  earlier = cause.earlier;
+}
+  where
+    by : (f : SiteFault) → b.stopped ≡ is_stop (Err {T} f) → b.stopped ≡ is_stop (Err {U} f)
+    by Device is = is
+    by Stopped is = is
+    by Memory is = is
+
+-- that of a call that gave it
+pub fault_in : {T : Type 0} (a b : World) (r : Result T SiteFault) (fault : SiteFault) → r ≡ Err fault → HasCause a b r → HasCause {T = Unit {0}} a b (Err fault)
+fault_in {T} a b r fault is cause = cause_of a b fault (subst (λ (it : Result T SiteFault). HasCause a b it) is cause)
+
+-- there was no memory, where the call was answered
+pub no_memory_in : {T : Type 0} (a b : World) (r : Result T SiteFault) (v : T) → r ≡ Ok v → HasCause a b r → HasCause {T = Unit {0}} a b (Err Memory)
+no_memory_in {T} a b r v is cause = lacks_memory a b (unrefused_call a b v (subst (λ (it : Result T SiteFault). HasCause a b it) is cause))

@@ -1,6 +1,7 @@
 pub mod Since
 pub mod Told
 pub mod Seeing
+pub mod Looks
 pub mod Making
 pub mod Starting
 pub mod Answered

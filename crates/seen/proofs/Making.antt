@@ -2,7 +2,7 @@
 use Rattle.std.proofs.Common.{◌≡◌, inl, inr, String, ◌<◌, ℕ, zero, suc, Bool, true, false, ◌||◌, if◌then◌else◌, List, [], ◌∷◌, ◌++◌, Option, Some, None, is_some, slice_get, bytes_eq, string_bytes, nat_lt, refl, sym, ap, subst, ◌∙◌}
 use Rattle.std.specs.Prelude.{MatchOption}
 use Rattle.std.specs.Option.{option_or}
-use Rattle.std.proofs.lemmas.Bool.{cases_Bool, cond-true, cond-false, false≢true, ltb-true, eqb-true, eq-eqb}
+use Rattle.std.proofs.lemmas.Bool.{cases_Bool, cond-true, cond-false, false≢true, ltb-true, lt-ltb}
 use Rattle.std.proofs.lemmas.Slice.Eq.{bytes_eq-Decides}
 use Rattle.model.specs.Graph.{has}
 use Rattle.std.specs.Map.{lookup}
@@ -125,31 +125,36 @@ made_of makers none job p =
 
 -- ---- edges
 
-pub below_more : (jobs : ℕ) (os : List Output) (o : Output) → are_below jobs os ≡ true → o.job < jobs → are_below jobs (os ++ o ∷ []) ≡ true
-below_more jobs [] o all here = cond-true (nat_lt o.job jobs) true false (ltb-true o.job jobs here)
-below_more jobs (x ∷ os) o all here = by (nat_lt x.job jobs) all
-  where
-    by : (b : Bool) → (if b then are_below jobs os else false) ≡ true → (if b then are_below jobs (os ++ o ∷ []) else false) ≡ true
-    by true rest = below_more jobs os o rest here
-    by false rest = absurd (false≢true rest)
+if_below : (b : Bool) (rest more : Bool) → (rest ≡ true → more ≡ true) → (if b then rest else false) ≡ true → (if b then more else false) ≡ true
+if_below true rest more follows is = follows is
+if_below false rest more follows is = absurd (false≢true is)
 
-lt_true : (a b : ℕ) → nat_lt a b ≡ true → a < b
-lt_true a b is = ltb-true a b is
+pub below_more : (jobs : ℕ) (os : List Output) (o : Output) → are_below jobs os ≡ true → o.job < jobs → are_below jobs (os ++ o ∷ []) ≡ true
+below_more jobs [] o all here = cond-true (nat_lt o.job jobs) true false (lt-ltb o.job jobs here)
+below_more jobs (x ∷ os) o all here = if_below (nat_lt x.job jobs) (are_below jobs os) (are_below jobs (os ++ o ∷ [])) (λ rest. below_more jobs os o rest here) all
+
+below_rest : (b rest : Bool) → (if b then rest else false) ≡ true → (b ≡ true) × (rest ≡ true)
+below_rest true rest is = (refl, is)
+below_rest false rest is = absurd (false≢true is)
+
+some_is : {a b : ℕ} → Some a ≡ Some b → a ≡ b
+some_is e = cc
+
+here_or : (b : Bool) (o jobs job : ℕ) (rest : Option ℕ) → o < jobs → (rest ≡ Some job → job < jobs) → (if b then Some o else rest) ≡ Some job → job < jobs
+here_or true o jobs job rest low follows is = subst (λ (j : ℕ). j < jobs) (some_is is) low
+here_or false o jobs job rest low follows is = follows is
 
 pub are_jobs : (jobs : ℕ) (os : List Output) (p : List ℕ) (job : ℕ) → are_below jobs os ≡ true → maker_in os p ≡ Some job → job < jobs
 are_jobs jobs [] p job all is = absurd (none is)
   where
     none : None ≡ Some job → ⊥
     none e = cc
-are_jobs jobs (o ∷ os) p job all is = by (nat_lt o.job jobs) refl all
-  where
-    some : Some o.job ≡ Some job → o.job ≡ job
-    some e = cc
+are_jobs jobs (o ∷ os) p job all is =
+    let parts = below_rest (nat_lt o.job jobs) (are_below jobs os) all in
+    here_or (bytes_eq (string_bytes o.text) p) o.job jobs job (maker_in os p) (ltb-true o.job jobs parts.0) (λ rest. are_jobs jobs os p job parts.1 rest) is
 
-    here : (b : Bool) → o.job < jobs → (if b then Some o.job else maker_in os p) ≡ Some job → are_below jobs os ≡ true → job < jobs
-    here true low e rest = subst (λ (j : ℕ). j < jobs) (some e) low
-    here false low e rest = are_jobs jobs os p job rest e
-
-    by : (b : Bool) → nat_lt o.job jobs ≡ b → (if b then are_below jobs os else false) ≡ true → job < jobs
-    by true low rest = here (bytes_eq (string_bytes o.text) p) (lt_true o.job jobs low) is rest
-    by false low rest = absurd (false≢true rest)
+-- so they are in a table without entries
+pub jobs_of_listed : (makers : Makers) → makers.table.entries ≡ [] → are_below makers.jobs makers.listed.items ≡ true → (p : List ℕ) (job : ℕ) → maker_of makers p ≡ Some job → job < makers.jobs
+jobs_of_listed makers none all p job is =
+    are_jobs makers.jobs makers.listed.items p job all
+    (sym (ap (λ (es : List (String _ × ℕ)). option_or (maker_in makers.listed.items p) (lookup (λ k. bytes_eq p (string_bytes k)) es)) none ∙ or_none (maker_in makers.listed.items p)) ∙ is)

@@ -1,6 +1,7 @@
 -- What is answered is what is told.
-use Rattle.std.proofs.Common.{◌≡◌, ◌⊎◌, inl, inr, ℕ, Bool, true, false, if◌then◌else◌, ◌&&◌, not, is_some, List, Option, Some, None, length, max, refl, sym, ◌∙◌, ap, subst}
+use Rattle.std.proofs.Common.{◌≡◌, ◌⊎◌, ◌<◌, inl, inr, ℕ, Bool, true, false, if◌then◌else◌, ◌&&◌, not, is_some, List, Option, Some, None, length, max, refl, sym, ◌∙◌, ap, subst}
 use Rattle.std.specs.Prelude.{IfOk, OnOk, Result, Ok, Err, bytes_eq}
+use Rattle.std.specs.Option.{option_map}
 use Rattle.std.proofs.lemmas.Bool.{cases_Bool, cond-true, cond-false}
 use Rattle.indexmap.specs.IndexMap.{get_by_text}
 use Rattle.model.specs.Graph.{has}
@@ -15,11 +16,13 @@ use Rattle.seen.specs.declared.counts.Counts.{Counts}
 use Rattle.seen.specs.declared.judging.Judged.{Judged}
 use Rattle.seen.specs.declared.judging.Past.{Past}
 use Rattle.seen.specs.declared.measure.Measure.{Measure}
+use Rattle.seen.specs.declared.own.Own.{Own}
 use Rattle.seen.specs.Answered.{counted_by, own_stamp, placed_by}
 use Rattle.seen.specs.Beginning.{counts_at, past_of, started_by}
 use Rattle.seen.specs.Judged.{is_as_noted, is_late, judged, judged_new, judged_same, turned, under as noted_under}
-use Rattle.seen.specs.Looking.{MayWrite, judged_there, looked_at, looked_own, looked_there}
-use Rattle.seen.specs.Makers.{maker_of}
+use Rattle.seen.specs.Looking.{KnowsSame, MayWrite, judged_there, looked_at, looked_own, looked_there}
+use Rattle.seen.specs.Begun.{Begun}
+use Rattle.seen.specs.Makers.{is_job, maker_of}
 use Rattle.seen.specs.Measured.{measure_of, measured_at}
 use Rattle.seen.specs.Own.{is_own}
 
@@ -117,3 +120,27 @@ module _ (k : Counts) (p : List ℕ) where
 
     pub own_is_plain : t.hidden p ≡ bytes_eq k.own.seen p → bytes_eq k.own.seen p ≡ false → is_own k.own p ≡ true → IsPlain t p
     own_is_plain hidden apart own = (hidden ∙ apart, λ file. counted file ∙ own_alike file own)
+
+-- ---- what is known in another place is known so still
+
+same_counts : (old new : Counts) → KnowsSame old new → (p : List ℕ) (file : File) → counts_at old.notes old.makers old.own old.number p file ≡ counts_at new.notes new.makers new.own new.number p file
+same_counts old new same p file =
+    λ i. if is_own (sym same.own i) p then Some file.stamp
+    else (judged (record { noted = option_map (λ last. last.noted) (get_by_text (sym same.notes i).last p); is_output = is_some (sym (same.makers p) i); since = None }) (sym same.number i) (Some (measure_of file))).counts
+
+module _ (b : Begun) (old new : Counts) (same : KnowsSame old new) where
+  pub counted_same : ((p : List ℕ) (file : File) → b.telling.counts p file ≡ counts_at old.notes old.makers old.own old.number p file)
+      → (p : List ℕ) (file : File) → b.telling.counts p file ≡ counts_at new.notes new.makers new.own new.number p file
+  counted_same is p file = is p file ∙ same_counts old new same p file
+
+  pub hidden_same : ((p : List ℕ) → b.telling.hidden p ≡ bytes_eq old.own.seen p) → (p : List ℕ) → b.telling.hidden p ≡ bytes_eq new.own.seen p
+  hidden_same is p = is p ∙ ap (λ (o : Own). bytes_eq o.seen p) (sym same.own)
+
+  pub makes_same : ((job : ℕ) (p : List ℕ) → has (b.telling.makes job) p ≡ is_job job (maker_of old.makers p)) → (job : ℕ) (p : List ℕ) → has (b.telling.makes job) p ≡ is_job job (maker_of new.makers p)
+  makes_same is job p = is job p ∙ ap (is_job job) (sym (same.makers p))
+
+  pub room_same : ((p : List ℕ) (job : ℕ) → maker_of old.makers p ≡ Some job → job < length old.starts.items) → (p : List ℕ) (job : ℕ) → maker_of new.makers p ≡ Some job → job < length new.starts.items
+  room_same is p job made = subst (λ (n : ℕ). job < n) (ap (λ starts. length starts.items) (sym same.starts)) (is p job (sym (same.makers p) ∙ made))
+
+  pub started_same : (p : List ℕ) → started_by old.starts.items (maker_of old.makers p) ≡ started_by new.starts.items (maker_of new.makers p)
+  started_same p = λ i. started_by (sym same.starts i).items (sym (same.makers p) i)

@@ -1,14 +1,16 @@
 -- What happened since a build began, and which commands were started in that.
-use Rattle.std.proofs.Common.{◌≡◌, ℕ, Bool, true, false, List, [], ◌∷◌, ◌++◌, refl, sym, ◌∙◌, ap, subst, append_assoc, append-nil}
-use Rattle.std.specs.Prelude.{IsTrue, drop, length}
-use Rattle.std.proofs.Math.Seq.{drop-append_seam}
+use Rattle.std.proofs.Common.{◌≡◌, ◌⊎◌, inl, inr, ℕ, Bool, true, false, Option, Some, None, Result, Ok, Err, List, [], ◌∷◌, ◌++◌, refl, sym, ◌∙◌, ap, subst, append_assoc, append-nil}
+use Rattle.std.specs.Prelude.{IsTrue, IfOk, OnErr, OnOk, drop, length}
+use Rattle.std.proofs.Math.Seq.{drop-append_seam, drop-length}
 use Rattle.model.specs.declared.act.Act.{Act}
 use Rattle.model.specs.declared.event.Event.TheVariants.{Start, Finish}
+use Rattle.model.specs.declared.event.Finished.{Finished}
 use Rattle.model.specs.declared.event.Moment.{Moment}
+use Rattle.model.specs.declared.fault.SiteFault.{SiteFault}
 use Rattle.model.specs.declared.event.Moment.TheVariants.{Wrote, Happened}
 use Rattle.model.specs.declared.event.Writer.TheVariants.{Program, Command, Someone}
 use Rattle.model.specs.World.{World}
-use Rattle.model.specs.Calls.{AllByOthers, Adds, Appends, Finishes, IsRestart, OnlyLooks, OthersWrote, Starts, Ticks, Writes}
+use Rattle.model.specs.Calls.{AllByOthers, Adds, Appends, AppendsOrNot, Finishes, IsRestart, OnlyLooks, OthersWrote, SpoilsOrNot, Starts, Ticks, TicksOrNot, Writes, WritesOrNot}
 use Rattle.model.specs.Graph.{has}
 use Rattle.seen_law.specs.Retold.{Telling, Started, begun, none_started, start_these, started_after}
 use Rattle.seen.specs.Begun.{Begun, GoesOn, since}
@@ -102,3 +104,89 @@ module _ (b : Begun) (x y : World) (so_far : x.history ≡ b.first ++ since b x)
   starts_follow job act does =
       let adds = does.history refl in
       record { so_far = goes_by b x y so_far _ adds.grows; is = started_around b x y so_far _ _ _ adds.earlier adds.later adds.grows adds.all_earlier adds.all_later }
+
+-- ---- where the site may not tell its files
+
+-- the history goes on, and no command was started
+pub record Stays (tells : Bool) (b : Begun) (x y : World) : Type 0 where
+  pub so_far : GoesOn tells b y
+  pub started : IsTrue tells → (p : List ℕ) → started_in b y p ≡ started_in b x p
+
+never : false ≡ true → ⊥
+never e = cc
+
+stays_by : (tells : Bool) (b : Begun) (x y : World) → (IsTrue tells → Follows b x y (started_in b x)) → Stays tells b x y
+stays_by tells b x y follows = record { so_far = λ is. (follows is).so_far; started = λ is p. ap (λ (s : Started). s p) (follows is).is }
+
+module _ (tells : Bool) (b : Begun) (x y : World) (so_far : GoesOn tells b x) where
+  by_tells : (does : Bool → Type 0) → (does true → x.history ≡ b.first ++ since b x → Follows b x y (started_in b x)) → does tells → Stays tells b x y
+  by_tells does law done = stays_by tells b x y (by tells so_far done)
+    where
+      by : (it : Bool) → GoesOn it b x → does it → IsTrue it → Follows b x y (started_in b x)
+      by false goes is told = absurd (never told)
+      by true goes is told = law is (goes refl)
+
+  pub looks_stay : OnlyLooks tells x y → Stays tells b x y
+  looks_stay = by_tells (λ it. OnlyLooks it x y) (λ does goes. looks_follow b x y goes does)
+
+  pub restarts_stay : IsRestart tells x y → Stays tells b x y
+  restarts_stay = by_tells (λ it. IsRestart it x y) (λ does goes. restarts_follow b x y goes does)
+
+  pub writes_stay : (p : List ℕ) (content : Option (List ℕ)) → Writes tells p content x y → Stays tells b x y
+  writes_stay p content = by_tells (λ it. Writes it p content x y) (λ does goes. writes_follow b x y goes p content does)
+
+  pub appends_stay : (p bytes : List ℕ) → Appends tells p bytes x y → Stays tells b x y
+  appends_stay p bytes = by_tells (λ it. Appends it p bytes x y) (λ does goes. appends_follow b x y goes p bytes does)
+
+  pub ticks_stay : (p : List ℕ) (stamp : ℕ) → Ticks tells p stamp x y → Stays tells b x y
+  ticks_stay p stamp = by_tells (λ it. Ticks it p stamp x y) (λ does goes. ticks_follow b x y goes p stamp does)
+
+  pub finishes_stay : (job : ℕ) (ok : Bool) → Finishes tells job ok x y → Stays tells b x y
+  finishes_stay job ok = by_tells (λ it. Finishes it job ok x y) (λ does goes. finishes_follow b x y goes job ok does)
+
+  -- ---- by what was answered
+
+  pub wrote : (p content : List ℕ) (r : Result (Unit {0}) SiteFault) → OnOk r (Writes tells p (Some content) x y) → OnErr r (SpoilsOrNot tells p x y) → Stays tells b x y
+  wrote p content (Ok v) ok err = writes_stay p (Some content) ok
+  wrote p content (Err fault) ok (inl looks) = looks_stay looks
+  wrote p content (Err fault) ok (inr does) = writes_stay p (Some does.0) does.1
+
+  pub replaced : (p : List ℕ) (content : Option (List ℕ)) (r : Result (Unit {0}) SiteFault) → OnOk r (Writes tells p content x y) → OnErr r (WritesOrNot tells p content x y) → Stays tells b x y
+  replaced p content (Ok v) ok err = writes_stay p content ok
+  replaced p content (Err fault) ok (inl looks) = looks_stay looks
+  replaced p content (Err fault) ok (inr does) = writes_stay p content does
+
+  pub appended : (p bytes : List ℕ) (r : Result (Unit {0}) SiteFault) → OnOk r (Appends tells p bytes x y) → OnErr r (AppendsOrNot tells p bytes x y) → Stays tells b x y
+  appended p bytes (Ok v) ok err = appends_stay p bytes ok
+  appended p bytes (Err fault) ok (inl looks) = looks_stay looks
+  appended p bytes (Err fault) ok (inr does) = appends_stay p does.0 does.3
+
+  pub ticked : (p : List ℕ) (r : Result ℕ SiteFault) → IfOk r (λ stamp. Ticks tells p stamp x y) → OnErr r (TicksOrNot tells p x y) → Stays tells b x y
+  ticked p (Ok stamp) ok err = ticks_stay p stamp ok
+  ticked p (Err fault) ok (inl looks) = looks_stay looks
+  ticked p (Err fault) ok (inr does) = ticks_stay p does.0 does.1
+
+  pub waited : (r : Result Finished SiteFault) → IfOk r (λ finished. Finishes tells finished.job finished.ok x y) → OnErr r (OnlyLooks tells x y) → Stays tells b x y
+  waited (Ok finished) ok err = finishes_stay finished.job finished.ok ok
+  waited (Err fault) ok err = looks_stay err
+
+  -- a start is noted under its stamp
+  pub starts_stay : (job : ℕ) (act : Act) → Starts tells job act x y → GoesOn tells b y × (IsTrue tells → (p : List ℕ) → started_in b y p ≡ begun (started_in b x p) (has (b.telling.makes job) p) x.ticked)
+  starts_stay job act done = by tells so_far done
+    where
+      by : (it : Bool) → GoesOn it b x → Starts it job act x y → GoesOn it b y × (IsTrue it → (p : List ℕ) → started_in b y p ≡ begun (started_in b x p) (has (b.telling.makes job) p) x.ticked)
+      by false goes is = (λ told. absurd (never told), λ told. absurd (never told))
+      by true goes is =
+          let follows = starts_follow b x y (goes refl) job act is in
+          (λ told. follows.so_far, λ told p. ap (λ (s : Started). s p) follows.is)
+
+-- ---- at the beginning
+
+nothing_since : (b : Begun) (x : World) → x.history ≡ b.first → since b x ≡ []
+nothing_since b x is = ap (drop (length b.first)) is ∙ drop-length b.first
+
+pub at_first : (b : Begun) (x : World) → x.history ≡ b.first → x.history ≡ b.first ++ since b x
+at_first b x is = is ∙ (sym (append-nil b.first) ∙ ap (λ (l : List Moment). b.first ++ l) (sym (nothing_since b x is)))
+
+pub none_since : (b : Begun) (x : World) → x.history ≡ b.first → (p : List ℕ) → started_in b x p ≡ None
+none_since b x is p = ap (λ (l : List Moment). started_after b.telling none_started l p) (nothing_since b x is)

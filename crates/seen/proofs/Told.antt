@@ -1,7 +1,8 @@
 -- Each call on the site below, as it is told.
 use Rattle.std.proofs.Common.{◌≡◌, ◌⊎◌, inl, inr, ℕ, Bool, true, false, List, [], ◌∷◌, ◌++◌, Option, Some, None, Result, Ok, Err, refl, sym, ◌∙◌, ap, subst}
-use Rattle.std.specs.Prelude.{IsTrue, IfOk, OnErr, OnOk, drop, length}
+use Rattle.std.specs.Prelude.{IsTrue, IfOk, OnErr, OnOk, bytes_eq, drop, length}
 use Rattle.std.proofs.Math.Seq.{drop-append_seam}
+use Rattle.std.proofs.lemmas.Slice.Eq.{bytes_eq-Decides}
 use Rattle.model.specs.declared.act.Act.{Act}
 use Rattle.model.specs.declared.event.Finished.{Finished}
 use Rattle.model.specs.declared.event.Moment.{Moment}
@@ -171,3 +172,20 @@ pub contents_on : (b : Begun) (x y : World) → x.history ≡ b.first ++ since b
     → LooksAt (λ history. content_of (file_at history p)) answer (told_world true b x) (told_world true b y)
 contents_on b x y so_far begins law looks p answer sees =
     gone b x y (LooksAt (λ history. content_of (file_at history p)) answer) ((law b.telling b.first b.before (since b x) x y (called b x y so_far begins) looks p).1 answer sees)
+
+-- ---- what is put behind or in the place of the notes
+
+pub own_bytes : (own path : List ℕ) → path ≡ own → bytes_eq own path ≡ true
+own_bytes own path is = (bytes_eq-Decides own path).1 (sym is)
+
+pub hidden_appended : (tells : Bool) (b : Begun) (x y : World) → GoesOn tells b x → (IsTrue tells → BeginsTold b) → LooksAreTold → (p bytes : List ℕ) → (IsTrue tells → b.telling.hidden p ≡ true)
+    → (r : Result (Unit {0}) SiteFault) → OnOk r (Appends tells p bytes x y) → OnErr r (AppendsOrNot tells p bytes x y) → OnlyLooks tells (told_world tells b x) (told_world tells b y)
+hidden_appended tells b x y so_far begins law p bytes is (Ok v) ok err = hidden_append tells b x y so_far begins law p bytes is ok
+hidden_appended tells b x y so_far begins law p bytes is (Err fault) ok (inl looks) = looks_on tells b x y so_far begins law looks
+hidden_appended tells b x y so_far begins law p bytes is (Err fault) ok (inr does) = hidden_append tells b x y so_far begins law p does.0 is does.3
+
+pub hidden_replaced : (tells : Bool) (b : Begun) (x y : World) → GoesOn tells b x → (IsTrue tells → BeginsTold b) → LooksAreTold → (p : List ℕ) (content : Option (List ℕ)) → (IsTrue tells → b.telling.hidden p ≡ true)
+    → (r : Result (Unit {0}) SiteFault) → OnOk r (Writes tells p content x y) → OnErr r (WritesOrNot tells p content x y) → OnlyLooks tells (told_world tells b x) (told_world tells b y)
+hidden_replaced tells b x y so_far begins law p content is (Ok v) ok err = hidden_write tells b x y so_far begins law p content is ok
+hidden_replaced tells b x y so_far begins law p content is (Err fault) ok (inl looks) = looks_on tells b x y so_far begins law looks
+hidden_replaced tells b x y so_far begins law p content is (Err fault) ok (inr does) = hidden_write tells b x y so_far begins law p content is does

@@ -7,6 +7,7 @@ pub mod Beginning
 pub mod Begun
 pub mod Starts
 pub mod Looking
+pub mod Reading
 pub mod Entering
 pub mod Asking
 pub mod Told

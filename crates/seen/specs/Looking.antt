@@ -1,5 +1,5 @@
 -- What is seen of a path in a build.
-use Rattle.std.specs.Prelude.{◌≡◌, ◌⊎◌, ℕ, Bool, true, false, if◌then◌else◌, List, Option, None, bytes_eq}
+use Rattle.std.specs.Prelude.{◌≡◌, ◌⊎◌, ℕ, Bool, true, false, if◌then◌else◌, List, Option, Some, None, bytes_eq}
 use Rattle.indexmap.specs.IndexMap.{get_by_text}
 use Rattle.model.specs.Graph.{has}
 use Rattle.seen.specs.declared.answer.Looked.{Looked}
@@ -11,6 +11,7 @@ use Rattle.seen.specs.Beginning.{past_of, started_by}
 use Rattle.seen.specs.Judged.{judged, plainly}
 use Rattle.seen.specs.Makers.{MakesSame, maker_of}
 use Rattle.seen.specs.Own.{is_own}
+use Rattle.seen.specs.Starts.{noted_start}
 
 -- how what is found at a path is judged that is none of the program's own
 abbrev pub judged_there : Counts → List ℕ → Option Measure → Judged
@@ -50,3 +51,11 @@ pub record KnowsSame (old new : Counts) : Type 0 where
 -- the path is not that of the notes, and it is one of the program's own or made by no command
 abbrev pub MayWrite : Counts → List ℕ → Type 0
 MayWrite k p = (bytes_eq k.own.seen p ≡ false) × ((is_own k.own p ≡ true) ⊎ (maker_of k.makers p ≡ None))
+
+-- this start of the edge is noted, and nothing else is new
+pub record NotesStart (job : ℕ) (start : Option ℕ) (old new : Counts) : Type 0 where
+  pub starts : new.starts.items ≡ noted_start old.starts.items job start
+  pub notes : new.notes ≡ old.notes
+  pub makers : new.makers ≡ old.makers
+  pub own : new.own ≡ old.own
+  pub number : new.number ≡ old.number

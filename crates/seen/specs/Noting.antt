@@ -1,6 +1,5 @@
 -- What is noted, and what is put behind the notes.
 use Rattle.std.specs.Prelude.{◌≡◌, ◌⊎◌, ℕ, Bool, true, false, List, [], ◌∷◌, ◌++◌, Option, Some, None, slice_get}
-use Rattle.std.specs.Option.{option_unwrap_or}
 use Rattle.model.specs.Graph.{has}
 use Rattle.model.specs.World.{World}
 use Rattle.model.specs.Calls.{Appends, Writes}
@@ -28,9 +27,13 @@ LinesOf kind None path found old new = new ≡ old
 LinesOf kind (Some number) path None old new = new ≡ old
 LinesOf kind (Some number) path (Some found) old new = LineOf kind number path found.stamp found.size old new
 
+abbrev pub marked : Option Bool → Bool
+marked None = false
+marked (Some it) = it
+
 -- the path of the record with this place was asked for
 abbrev pub is_marked : List Bool → ℕ → Bool
-is_marked asked place = option_unwrap_or (slice_get asked place) false
+is_marked asked place = marked (slice_get asked place)
 
 -- the path, of which this was noted before, was noted or asked for in this build
 abbrev pub settled_by : List Bool → List (List ℕ) → List ℕ → Option Last → Bool

@@ -1,5 +1,5 @@
 -- Under which stamps commands were started.
-use Rattle.std.specs.Prelude.{ℕ, ◌&&◌, ◌-◌, nat_lt, nat_le, Bool, true, false, if◌then◌else◌, is_none, List, Option, Some, None, length, set, slice_get}
+use Rattle.std.specs.Prelude.{ℕ, ◌&&◌, ◌-◌, nat_lt, Bool, true, false, if◌then◌else◌, is_none, List, Option, Some, None, length, set, slice_get}
 use Rattle.model.specs.declared.event.Event.{Event}
 use Rattle.model.specs.declared.event.Event.TheVariants.{Start, Finish}
 use Rattle.seen.specs.Beginning.{joined}
@@ -12,7 +12,7 @@ stamp_in (Some (Finish job ok)) = None
 
 -- that of the last of these events, where there are more than so many
 abbrev pub start_in : List Event → ℕ → Option ℕ
-start_in events before = if nat_le (length events) before then None else stamp_in (slice_get events (length events - 1))
+start_in events before = if nat_lt before (length events) then stamp_in (slice_get events (length events - 1)) else None
 
 -- the first start of each edge is kept
 abbrev pub noted_start : List (Option ℕ) → ℕ → Option ℕ → List (Option ℕ)

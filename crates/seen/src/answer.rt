@@ -6,11 +6,13 @@ ghost use Rattle.model.specs.Graph.{has};
 ghost use Rattle.seen_law.specs.Retold.{late, stamp_told};
 ghost use Rattle.seen.specs.Answered.{own_stamp, placed_by};
 ghost use Rattle.seen.specs.Judged.{already, plainly};
+ghost use Rattle.seen.specs.Reading.{content_counted, measure_in};
 
 use crate::judging::{Judged, is_as_noted, is_turned, plainly};
 use crate::measure::Measure;
 use seen_log::{Last, Noted, counts_of};
 use std::alloc::AllocError;
+use text::Bytes;
 
 /// What was seen of a path.
 #[derive(Clone, Copy)]
@@ -94,6 +96,29 @@ fn late(start: u64, stamp: u64) -> Result<u64, AllocError>
         return Ok(stamp);
     }
     start.checked_add(1).ok_or(AllocError)
+}
+
+/// The measure of what was read.
+pub fn measure_in(found: &Option<(Bytes, Measure)>) -> Option<Measure>
+    ensures { result ≡ measure_in found.now }
+{
+    match found {
+        Some((_, measure)) => Some(*measure),
+        None => None,
+    }
+}
+
+/// What was read, where it counts.
+pub fn content_counted(counts: Option<u64>, found: Option<(Bytes, Measure)>) -> Option<Bytes>
+    ensures { result ≡ content_counted counts found }
+{
+    let Some((content, _)) = found else {
+        return None;
+    };
+    match counts {
+        Some(_) => Some(content),
+        None => None,
+    }
 }
 
 /// What is noted by the last record of a path.

@@ -33,14 +33,13 @@ pub struct Counts {
 }
 
 impl Counts {
-    ghost use Rattle.std.specs.Prelude.{◌≡◌, IfOk};
+    ghost use Rattle.std.specs.Prelude.{◌≡◌, false, IfOk};
     ghost use Rattle.indexmap.specs.IndexMap.{get_by_text};
     ghost use Rattle.model.specs.Graph.{has};
     ghost use Rattle.seen.specs.Answered.{counted_by};
     ghost use Rattle.seen.specs.Beginning.{started_by};
     ghost use Rattle.seen.specs.Entering.{IsUnbegun};
-    ghost use Rattle.seen.specs.Looking.{KnowsSame, looked_at, looked_there};
-    ghost use Rattle.seen.specs.Starts.{noted_start};
+    ghost use Rattle.seen.specs.Looking.{KnowsSame, MayWrite, NotesStart, looked_at, looked_by, looked_there};
 
     /// Where nothing is known. This takes no memory.
     pub fn none(alloc: Global) -> Counts
@@ -57,8 +56,25 @@ impl Counts {
         }
     }
 
+    /// How what was found at the path counts, once a build has begun; before, it counts as it is.
+    pub fn look_by(
+        &mut self,
+        is_begun: bool,
+        path: &str,
+        found: Option<Measure>,
+    ) -> Result<Looked, AllocError>
+        ensures looked { IfOk result (λ looked. looked ≡ looked_by is_begun self.old path.now found) }
+        ensures same { KnowsSame self.old self.new }
+    {
+        if is_begun {
+            self.look_at(path, found)
+        } else {
+            Ok(Looked::own(found))
+        }
+    }
+
     /// How what was found at the path counts.
-    pub fn look_at(&mut self, path: &str, found: Option<Measure>) -> Result<Looked, AllocError>
+    fn look_at(&mut self, path: &str, found: Option<Measure>) -> Result<Looked, AllocError>
         ensures looked { IfOk result (λ looked. looked ≡ looked_at self.old path.now found) }
         ensures same { KnowsSame self.old self.new }
     {
@@ -145,13 +161,26 @@ impl Counts {
         self.made.number_of(path).is_some()
     }
 
+    /// Whether the path is that of the notes, or a command makes it, or there was no memory to tell it; but none other of the program's own.
+    pub fn is_barred(&mut self, path: &str) -> bool
+        ensures may { result ≡ false → MayWrite self.old path.now }
+        ensures same { KnowsSame self.old self.new }
+    {
+        if self.own.is_seen(path) {
+            return true;
+        }
+        if self.own.has(path) {
+            return false;
+        }
+        match self.makers.maker(path) {
+            Ok(None) => false,
+            Ok(Some(_)) | Err(_) => true,
+        }
+    }
+
     /// The command of this edge was started under this stamp, if there is one.
     pub fn start(&mut self, job: usize, start: Option<u64>)
-        ensures starts { self.new.starts.items ≡ noted_start self.old.starts.items job start }
-        ensures notes { self.new.notes ≡ self.old.notes }
-        ensures makers { self.new.makers ≡ self.old.makers }
-        ensures own { self.new.own ≡ self.old.own }
-        ensures number { self.new.number ≡ self.old.number }
+        ensures { NotesStart job start self.old self.new }
     {
         note_start(&mut self.starts, job, start);
         if self.first_start.is_none() {

@@ -143,7 +143,10 @@ impl Known {
     fn is_marked(&self, place: usize) -> bool
         ensures { result ≡ is_marked self.now.asked.items place }
     {
-        self.asked.get(place).copied().unwrap_or(false)
+        match self.asked.get(place) {
+            Some(it) => *it,
+            None => false,
+        }
     }
 
     /// The command that makes this output, of which this was noted before, has ended well; it was started under this stamp, and this was found

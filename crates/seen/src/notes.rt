@@ -1,6 +1,6 @@
 //! The file of the notes, as a build finds it.
 
-ghost use Rattle.std.specs.Prelude.{◌≡◌, [], false, IfOk};
+ghost use Rattle.std.specs.Prelude.{◌≡◌, [], false, None, IfOk, replicate};
 ghost use Rattle.model.specs.Calls.{KeepsWait, OnlyLooks};
 ghost use Rattle.seen.specs.Asking.{Asks};
 ghost use Rattle.seen.specs.Entering.{IsUnbegun};
@@ -75,11 +75,9 @@ pub fn read_by<S: Measured>(
     makers: Makers,
     log: &str,
 ) -> Result<Entry, SiteFault>
-    requires running { (S.world site.old).stopped ≡ false }
-    requires jobs { AreJobs makers }
-    requires table { makers.table.entries ≡ [] }
+    requires { (S.world site.old).stopped ≡ false }
     ensures asks { Asks S.tells (S.world site.old) (S.world site.new) result }
-    ensures unbegun { IfOk result (λ entry. IsUnbegun entry.counts) }
+    ensures unbegun { AreJobs makers → makers.table.entries ≡ [] → IfOk result (λ entry. IsUnbegun entry.counts) }
 {
     let own = Own::beside(alloc, log)?;
     let start = last_start(site, &own)?;
@@ -106,17 +104,15 @@ fn entry_of(
     start: u64,
     content: Option<&Bytes>,
 ) -> Result<Entry, AllocError>
-    requires jobs { AreJobs makers }
-    requires table { makers.table.entries ≡ [] }
-    ensures { IfOk result (λ entry. IsUnbegun entry.counts) }
+    ensures { AreJobs makers → makers.table.entries ≡ [] → IfOk result (λ entry. IsUnbegun entry.counts) }
 {
     let text = match content {
         Some(bytes) => bytes.as_slice(),
         None => &[],
     };
+    let starts = no_starts(alloc, makers.jobs)?;
     let (notes, tail) = Log::parse(alloc, text)?;
     let base = base_of(alloc, text, &notes, tail)?;
-    let starts = vec![in alloc; None; makers.jobs]?;
     let number = next_number(start, notes.greatest());
     Ok(Entry {
         counts: Counts {
@@ -131,6 +127,14 @@ fn entry_of(
         base,
         lost: false,
     })
+}
+
+/// A place for each of so many edges, of which none was started.
+fn no_starts(alloc: Global, jobs: usize) -> Result<Vec<Option<u64>>, AllocError>
+    ensures { IfOk result (λ starts. starts.items ≡ replicate jobs None) }
+{
+    let starts = vec![in alloc; None; jobs]?;
+    Ok(starts)
 }
 
 /// The text that takes the place of a file of this text, which tells this and ends so, if one is to.

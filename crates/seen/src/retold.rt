@@ -8,10 +8,12 @@ ghost use Rattle.seen.specs.Beginning.{counts_at, started_by};
 ghost use Rattle.seen.specs.Begun.{BeginsTold, GoesOn, since, told_world};
 ghost use Rattle.seen.specs.Makers.{is_job, maker_of};
 
-use crate::answer::Looked;
+use crate::answer::{Looked, content_counted, measure_in};
 use crate::beginning::Beginning;
 use crate::counts::Counts;
+use crate::makers::Makers;
 use crate::measure::{Measure, Measured};
+use crate::notes::{Entry, read_by};
 use crate::starts::started_since;
 use model::{Act, Event, Finished};
 use seen_law::{answers_are_told, events_are_told, looks_are_told, writes_are_told};
@@ -51,12 +53,14 @@ pub struct Retold<S: Measured, B: Beginning> {
 impl<S: Measured, B: Beginning> Retold<S, B> {
     ghost use Rattle.std.specs.Prelude.{◌≡◌, false, true, IfOk, IsTrue, OnOk, Some};
     ghost use Rattle.model.specs.Calls.{Appends, HasCause, KeepsWait, OnlyLooks, Sees, Writes};
-    ghost use Rattle.model.specs.World.{file_at, stamp_of};
-    ghost use Rattle.seen.specs.Asking.{Refuses};
+    ghost use Rattle.model.specs.World.{content_of, file_at, stamp_of};
+    ghost use Rattle.seen_law.specs.Laws.{IsPlain, IsTold};
+    ghost use Rattle.seen.specs.Asking.{Asks, Refuses};
     ghost use Rattle.seen.specs.Beginning.{telling_of};
     ghost use Rattle.seen.specs.Begun.{BeginsTold};
     ghost use Rattle.seen.specs.Entering.{IsUnbegun};
-    ghost use Rattle.seen.specs.Looking.{KnowsSame, MayWrite, looked_by};
+    ghost use Rattle.seen.specs.Looking.{KnowsSame, looked_by};
+    ghost use Rattle.seen.specs.Own.{is_own};
 
     /// The site over this one, for one build, by what is known when it begins.
     pub fn over(site: S, known: Counts) -> Retold<S, B>
@@ -89,6 +93,15 @@ impl<S: Measured, B: Beginning> Retold<S, B> {
             is_begun: false,
             of: PhantomData,
         }
+    }
+
+    /// What is known when a build begins, where commands make this.
+    pub fn enter(&mut self, alloc: Global, makers: Makers, log: &str) -> Result<Entry, SiteFault>
+        requires { (S.world self.old.site).stopped ≡ false }
+        ensures asks { Asks S.tells (S.world self.old.site) (S.world self.new.site) result }
+        ensures one { self.new.is_for_one ≡ self.old.is_for_one }
+    {
+        read_by(alloc, &mut self.site, makers, log)
     }
 
     /// A build begins, and this is known.
@@ -144,10 +157,7 @@ impl<S: Measured, B: Beginning> Retold<S, B> {
         looks_are_told();
         answers_are_told();
         let found = self.site.measure(path)?;
-        if !self.is_begun {
-            return Ok(Looked::own(found));
-        }
-        Ok(self.known.look_at(path, found)?)
+        Ok(self.known.look_by(self.is_begun, path, found)?)
     }
 
     /// Measures what is at the path.
@@ -212,24 +222,60 @@ impl<S: Measured, B: Beginning> Retold<S, B> {
         }
     }
 
-    /// Whether the program may write the path: it is neither that of the notes nor made by a command. Where there was no memory to tell it, it
-    /// may not.
-    fn may_write(&mut self, path: &str) -> bool
+    /// What one of the program's own files holds.
+    fn read_own(&mut self, path: &str) -> Result<Option<Bytes>, SiteFault>
+        requires { is_own self.old.known.own path.now ≡ true }
+        ensures looks { OnlyLooks S.tells (told_world S.tells B.begun (S.world self.old.site)) (told_world S.tells B.begun (S.world self.new.site)) }
+        ensures cause { HasCause (told_world S.tells B.begun (S.world self.old.site)) (told_world S.tells B.begun (S.world self.new.site)) result }
+        ensures waits { KeepsWait (told_world S.tells B.begun (S.world self.old.site)) (told_world S.tells B.begun (S.world self.new.site)) }
+        ensures content { IsTrue S.tells → IfOk result (λ content. Sees (λ history. content_of (file_at history path.now)) content (told_world S.tells B.begun (S.world self.old.site)).history (told_world S.tells B.begun (S.world self.new.site)).history) }
+        ensures one { self.new.is_for_one ≡ self.old.is_for_one }
+    {
+        looks_are_told();
+        answers_are_told();
+        self.site.read(path)
+    }
+
+    /// What any other file holds, where it counts.
+    fn read_counted(&mut self, path: &str) -> Result<Option<Bytes>, SiteFault>
+        ensures looks { OnlyLooks S.tells (told_world S.tells B.begun (S.world self.old.site)) (told_world S.tells B.begun (S.world self.new.site)) }
+        ensures cause { HasCause (told_world S.tells B.begun (S.world self.old.site)) (told_world S.tells B.begun (S.world self.new.site)) result }
+        ensures waits { KeepsWait (told_world S.tells B.begun (S.world self.old.site)) (told_world S.tells B.begun (S.world self.new.site)) }
+        ensures content { IsTrue S.tells → IfOk result (λ content. Sees (λ history. content_of (file_at history path.now)) content (told_world S.tells B.begun (S.world self.old.site)).history (told_world S.tells B.begun (S.world self.new.site)).history) }
+        ensures one { self.new.is_for_one ≡ self.old.is_for_one }
+    {
+        looks_are_told();
+        answers_are_told();
+        let found = self.site.read_measured(path)?;
+        let looked = self.known.look_by(self.is_begun, path, measure_in(&found))?;
+        Ok(content_counted(looked.counts, found))
+    }
+
+    /// Whether the program may not write the path: that is the one of the notes, or a command makes it, or there was no memory to tell it.
+    fn is_barred(&mut self, path: &str) -> bool
+        ensures told { IsTrue S.tells → result ≡ false → IsTold B.begun.telling path.now }
         ensures same { KnowsSame self.old.known self.new.known }
         ensures site { self.new.site ≡ self.old.site }
-        ensures may { result ≡ true → self.old.is_begun ≡ true → MayWrite self.old.known path.now }
         ensures one { self.new.is_for_one ≡ self.old.is_for_one }
     {
         if !self.is_begun {
-            return true;
-        }
-        if self.known.own.is_seen(path) {
             return false;
         }
-        if self.known.own.has(path) {
-            return true;
-        }
-        matches!(self.known.makers.maker(path), Ok(None))
+        self.known.is_barred(path)
+    }
+
+    /// Whether the path is that of the notes, once a build has begun.
+    fn is_kept_from_it(&self, path: &str) -> bool
+        ensures { IsTrue S.tells → result ≡ false → B.begun.telling.hidden path.now ≡ false }
+    {
+        self.is_begun && self.known.own.is_seen(path)
+    }
+
+    /// Whether the path is none of which the own stamp counts always: it is that of the notes, or none of the program's own.
+    fn may_count_otherwise(&self, path: &str) -> bool
+        ensures { IsTrue S.tells → result ≡ false → IsPlain B.begun.telling path.now }
+    {
+        self.is_begun && (self.known.own.is_seen(path) || !self.known.own.has(path))
     }
 }
 
@@ -239,19 +285,10 @@ impl<S: Measured, B: Beginning> Texts for Retold<S, B> {
     ghost world = { λ retold. told_world S.tells B.begun (S.world retold.site) };
 
     fn read(&mut self, path: &str) -> Result<Option<Bytes>, SiteFault> {
-        looks_are_told();
-        answers_are_told();
-        if !self.is_begun || self.known.own.has(path) {
-            return self.site.read(path);
-        }
-        let Some((content, found)) = self.site.read_measured(path)? else {
-            return Ok(None);
-        };
-        let looked = self.known.look_at(path, Some(found))?;
-        if looked.counts.is_some() {
-            Ok(Some(content))
+        if self.known.own.has(path) {
+            self.read_own(path)
         } else {
-            Ok(None)
+            self.read_counted(path)
         }
     }
 
@@ -271,7 +308,7 @@ impl<S: Measured, B: Beginning> Site for Retold<S, B> {
     fn tick(&mut self, path: &str) -> Result<u64, SiteFault> {
         writes_are_told();
         looks_are_told();
-        if self.is_begun && (self.known.own.is_seen(path) || !self.known.own.has(path)) {
+        if self.may_count_otherwise(path) {
             return Err(self.refuse(path));
         }
         self.site.tick(path)
@@ -280,7 +317,7 @@ impl<S: Measured, B: Beginning> Site for Retold<S, B> {
     fn append(&mut self, path: &str, bytes: &[u8]) -> Result<(), SiteFault> {
         writes_are_told();
         looks_are_told();
-        if !self.may_write(path) {
+        if self.is_barred(path) {
             return Err(self.refuse(path));
         }
         self.site.append(path, bytes)
@@ -289,7 +326,7 @@ impl<S: Measured, B: Beginning> Site for Retold<S, B> {
     fn replace(&mut self, path: &str, content: &[u8]) -> Result<(), SiteFault> {
         writes_are_told();
         looks_are_told();
-        if !self.may_write(path) {
+        if self.is_barred(path) {
             return Err(self.refuse(path));
         }
         self.site.replace(path, content)
@@ -298,7 +335,7 @@ impl<S: Measured, B: Beginning> Site for Retold<S, B> {
     fn write(&mut self, path: &str, content: &[u8]) -> Result<(), SiteFault> {
         writes_are_told();
         looks_are_told();
-        if !self.may_write(path) {
+        if self.is_barred(path) {
             return Err(self.refuse(path));
         }
         self.site.write(path, content)
@@ -307,7 +344,7 @@ impl<S: Measured, B: Beginning> Site for Retold<S, B> {
     fn remove(&mut self, path: &str) -> Result<(), SiteFault> {
         writes_are_told();
         looks_are_told();
-        if self.is_begun && self.known.own.is_seen(path) {
+        if self.is_kept_from_it(path) {
             return Err(self.refuse(path));
         }
         self.site.remove(path)

@@ -14,7 +14,7 @@ use crate::lines::{Told, told_by};
 use crate::makers::Makers;
 use crate::measure::Measured;
 use crate::names::{is_build_log, is_log};
-use crate::notes::{Entry, read_by};
+use crate::notes::Entry;
 use crate::retold::Retold;
 use log_text::{Field, fields};
 use model::{Act, Event, Finished};
@@ -105,7 +105,7 @@ impl<S: Measured, B: Beginning> Seen<S, B> {
         ensures { Asks S.tells (S.world self.old.retold.site) (S.world self.new.retold.site) result }
     {
         let makers = self.next.take().unwrap_or(Makers::new(self.alloc));
-        let Entry { counts, base, .. } = read_by(self.alloc, &mut self.retold.site, makers, log)?;
+        let Entry { counts, base, .. } = self.retold.enter(self.alloc, makers, log)?;
         self.retold.begin(counts);
         self.known = Known::new(self.alloc);
         self.base = base;

@@ -1,8 +1,6 @@
 //! Under which stamps commands were started.
 
-ghost use Rattle.std.specs.Prelude.{◌≡◌};
-ghost use Rattle.std.specs.Map.Iter.{deref};
-ghost use Rattle.std.specs.Option.{option_map};
+ghost use Rattle.std.specs.Prelude.{◌≡◌, ◌<◌, ◌-◌, Some, length, slice_get};
 ghost use Rattle.seen.specs.Starts.{noted_start, stamp_in, start_in};
 
 use model::Event;
@@ -11,19 +9,30 @@ use model::Event;
 pub fn started_since(events: &[Event], before: usize) -> Option<u64>
     ensures { result ≡ start_in events.now before }
 {
-    if events.len() <= before {
-        return None;
+    if before < events.len() {
+        return last_start(events);
     }
-    stamp_of(events.get(events.len() - 1))
+    None
+}
+
+/// The stamp of the last of these events, if it is a start.
+fn last_start(events: &[Event]) -> Option<u64>
+    requires { 0 < length events.now }
+    ensures { result ≡ stamp_in (slice_get events.now (length events.now - 1)) }
+{
+    match events.get(events.len() - 1) {
+        Some(event) => stamp_of(event),
+        None => None,
+    }
 }
 
 /// The stamp of this event, if it is a start.
-fn stamp_of(event: Option<&Event>) -> Option<u64>
-    ensures { result ≡ stamp_in (option_map deref event) }
+fn stamp_of(event: &Event) -> Option<u64>
+    ensures { result ≡ stamp_in (Some event.now) }
 {
     match event {
-        Some(Event::Start { stamp, .. }) => Some(*stamp),
-        Some(Event::Finish { .. }) | None => None,
+        Event::Start { stamp, .. } => Some(*stamp),
+        Event::Finish { .. } => None,
     }
 }
 

@@ -13,5 +13,5 @@ pub returns : goal.returns
 returns c = record {
   table = c.new-2.ensures.table;
   room = λ p job is. absurd (none_some (sym (c.new-2.ensures.none p) ∙ is));
-  none = λ maker. ap (λ (starts : List (Option ℕ)). started_by starts maker) c.new-4.ensures ∙ none_started maker;
+  none = λ maker. ap (λ (starts : List (Option ℕ)). started_by starts maker) c.new-4.ensures.items ∙ none_started maker;
 }
