@@ -1,27 +1,16 @@
 -- What counts, by what is noted.
-use Rattle.std.proofs.Common.{◌≡◌, ◌⊎◌, ◌≤◌, ℕ, Bool, true, false, inl, inr, List, Option, None, Some, if◌then◌else◌, length, refl, sym, ap, ◌∙◌, arith, max, not, ◌&&◌}
-use Rattle.std.specs.Option.{option_map}
+use Rattle.std.proofs.Common.{◌≡◌, ◌⊎◌, ◌≤◌, ℕ, Bool, true, false, inl, inr, List, Option, None, Some, if◌then◌else◌, length, refl, sym, ap, ◌∙◌, arith, max, ◌&&◌}
 use Rattle.std.proofs.lemmas.Bool.{false≢true}
 use Rattle.model.specs.declared.event.Moment.{Moment}
-use Rattle.model.specs.Graph.{has}
 use Rattle.model.specs.World.{File, file_at, content_of, next_stamp, view_of}
 use Rattle.model.specs.Records.{LogFormat, Made, OwnFiles}
-use Rattle.seen_log.specs.declared.note.Last.{Last}
 use Rattle.seen_log.specs.declared.note.Noted.{Noted}
-use Rattle.log_text.specs.Keeping.{OfKept, at_number}
-use Rattle.seen_log.specs.declared.note.Note.{Note}
-use Rattle.seen_log.specs.Keeping.{Keeps, IsLast}
-use Rattle.seen_log.specs.Log.{counts_of, noted_in_force, noteds}
+use Rattle.seen_log.specs.Log.{counts_of}
 use Rattle.seen_law.specs.Retold.{Telling, told_file, under, stamp_told}
 use Rattle.seen_law.specs.Meanwhile.{counted_at, recorded_at, CountRightly}
 use Rattle.seen.specs.Between.{counting, AreSeen, NotesTell, CountsEither, NumberIsLater}
 use Rattle.seen.specs.declared.judging.Judged.{Judged}
-use Rattle.seen.specs.declared.judging.Past.{Past}
-use Rattle.seen.specs.declared.known.Known.{Known}
-use Rattle.seen.specs.declared.measure.Measure.{Measure}
-use Rattle.seen.specs.Counting.{IsJudgedIn, IsNotedOf, IsPlaceOf, past_of}
-use Rattle.seen.specs.Outputs.{holds_output}
-use Rattle.seen.specs.Judged.{already, is_as_noted, is_turned, judged, judged_new, judged_noted, judged_same, plainly, turned, under as noted_under}
+use Rattle.seen.specs.Judged.{is_as_noted, is_turned, judged, judged_new, judged_noted, judged_same, plainly, turned, under as noted_under}
 
 some_same : {a b : ℕ} → Some a ≡ Some b → b ≡ a
 some_same e = cc
@@ -69,57 +58,6 @@ number_is_later_law start greatest a b = (omega (arith, a, b), omega (arith, a, 
 pub own_counts : (is_output : Bool) (stamp placed : ℕ) → (judged_new is_output None stamp placed).counts ≡ Some stamp
 own_counts true stamp placed = refl
 own_counts false stamp placed = refl
-
--- what is as noted counts as before, whatever else is known
-by_known : (as_noted over is_output : Bool) (c : ℕ) (how : Judged) → (if as_noted && not over then Some (plainly (Some c)) else None) ≡ Some how → (is_made : Bool) (a b : Judged)
-    → how ≡ (if is_made then (if as_noted then plainly (Some c) else a) else (if as_noted then (if is_output && over then plainly None else plainly (Some c)) else b))
-by_known true false is_output c how is true a b = sym (some_is is)
-by_known true false true c how is false a b = sym (some_is is)
-by_known true false false c how is false a b = sym (some_is is)
-by_known true true is_output c how is is_made a b = absurd (none_some is)
-by_known false over is_output c how is is_made a b = absurd (none_some is)
-
-pub already_counts : (noted : Option Noted) (is_output is_made : Bool) (since : Option ℕ) (number : ℕ) (found : Option Measure) (how : Judged) → already noted found ≡ Some how
-    → how ≡ judged (record { noted = noted; is_output = is_output; is_made = is_made; since = since }) number found
-already_counts noted is_output is_made since number None how is = sym (some_is is)
-already_counts noted is_output is_made since number (Some found) how is = sized noted found.size is
-  where
-    sized : (known : Option Noted) (size : Option ℕ) → already known (Some (record { stamp = found.stamp; size = size; placed = found.placed })) ≡ Some how
-        → how ≡ judged (record { noted = known; is_output = is_output; is_made = is_made; since = since }) number (Some (record { stamp = found.stamp; size = size; placed = found.placed }))
-    sized known None so = sym (some_is so)
-    sized None (Some size) so = absurd (none_some so)
-    sized (Some n) (Some size) so = by_known (is_as_noted n found.stamp size) (is_turned n.kind) is_output (counts_of n) how so is_made (plainly (Some found.stamp))
-        (if is_output then plainly None else noted_under (max number found.placed) (turned n.kind))
-
-module _ (known : Known) (path : List ℕ) (since : Option ℕ) (found : Option Measure) (noted : Option Noted) (noted_is : IsNotedOf known path noted) where
-  -- what is as noted is judged so
-  pub judged_already : (how : Judged) → Some how ≡ already noted found → IsJudgedIn known path since found how
-  judged_already how so = λ all keeps.
-      already_counts noted (holds_output known.outputs path) (has known.made path) since known.number found how (sym so)
-      ∙ ap (λ (n : Option Noted). judged (past_of known n path since) known.number found) (noted_is all keeps)
-
-  -- and so is all else
-  pub judged_else : (past : Past) (number : ℕ) (result : Judged) → past ≡ past_of known noted path since → number ≡ known.number → result ≡ judged past number found → IsJudgedIn known path since found result
-  judged_else past number result past_is number_is is = λ all keeps.
-      is ∙ (ap (λ (n : ℕ). judged past n found) number_is
-      ∙ ap (λ (p : Past). judged p known.number found) (past_is ∙ ap (λ (n : Option Noted). past_of known n path since) (noted_is all keeps)))
-
-module _ (known : Known) (path : List ℕ) (last : Option Last) (last_is : OfKept Keeps known.notes (λ all. IsLast all path last)) where
-  -- what the last record of a path notes is in force
-  pub noted_last : (noted : Option Noted) → noted ≡ option_map (λ it. it.noted) last → IsNotedOf known path noted
-  noted_last noted is = λ all keeps. is ∙ by all last (last_is all keeps)
-    where
-      by : (all : List Note) (found : Option Last) → IsLast all path found → option_map (λ it. it.noted) found ≡ noted_in_force all path
-      by all None none = sym none
-      by all (Some it) told = sym told.0
-
-  -- and has its place
-  pub place_last : (place : Option ℕ) → place ≡ option_map (λ it. it.place) last → IsPlaceOf known path place
-  place_last place is = λ all keeps. ap (at_number (noteds all)) is ∙ by all last (last_is all keeps)
-    where
-      by : (all : List Note) (found : Option Last) → IsLast all path found → at_number (noteds all) (option_map (λ it. it.place) found) ≡ noted_in_force all path
-      by all None none = sym none
-      by all (Some it) told = told.1 ∙ sym told.0
 
 -- ---- the beginning of the next build
 
@@ -171,10 +109,10 @@ module _ (format : LogFormat) (own : OwnFiles) (noted : List ℕ → Option Note
 
     module _ (p : List ℕ) (file : File) (c : Counted p file) where
       judged_as : (known : Option Noted) → noted p ≡ known
-          → (judged (record { noted = known; is_output = is_output p; is_made = false; since = None }) number
+          → (judged (record { noted = known; is_output = is_output p; since = None }) number
           (Some (record { stamp = c.found.stamp; size = Some (length c.found.content); placed = placed p c.found }))).counts ≡ Some file.stamp
       judged_as known is =
-          ap (λ (k : Option Noted). (judged (record { noted = k; is_output = is_output p; is_made = false; since = None }) number
+          ap (λ (k : Option Noted). (judged (record { noted = k; is_output = is_output p; since = None }) number
           (Some (record { stamp = c.found.stamp; size = Some (length c.found.content); placed = placed p c.found }))).counts) (sym is) ∙ c.counted
 
       files_so : (known : Option Noted) → noted p ≡ known → (file_at told p ≡ Some file) ⊎ (next_stamp told ≤ file.stamp)

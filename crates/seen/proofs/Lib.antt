@@ -1,7 +1,12 @@
+pub mod Since
+pub mod Told
+pub mod Seeing
+pub mod Looks
+pub mod Making
+pub mod Starting
 pub mod Answered
-pub mod Untold
 pub mod Faith
-pub mod Sets
+pub mod Already
 pub mod SmallOne
 pub mod Growing
 pub mod Putting

@@ -58,7 +58,7 @@ module _ (p : List ℕ) (no_source : bytes_eq source p ≡ false) (no_output : b
 
   counts_other : (file : File) → telling_then.counts p file ≡ Some file.stamp
   counts_other file =
-      ap (λ (k : Option Noted). (judged (record { noted = k; is_output = is_output_then p; is_made = false; since = None }) 9
+      ap (λ (k : Option Noted). (judged (record { noted = k; is_output = is_output_then p; since = None }) 9
       (Some (record { stamp = file.stamp; size = Some (length file.content); placed = file.stamp }))).counts) noted_other
       ∙ own_counts (is_output_then p) file.stamp file.stamp
 

@@ -1,5 +1,5 @@
--- What calls that are made besides leave of the site below.
-use Rattle.std.specs.Prelude.{◌≡◌, ◌⊎◌, false, Result, OnOk, OnErr}
+-- What calls that only look leave, one after another.
+use Rattle.std.specs.Prelude.{◌≡◌, ◌⊎◌, Bool, Result, Err, OnOk, OnErr}
 use Rattle.model.specs.declared.fault.SiteFault.{SiteFault}
 use Rattle.model.specs.World.{World}
 use Rattle.model.specs.Calls.{HasCause, KeepsWait, OnlyLooks}
@@ -9,9 +9,15 @@ use Rattle.theory.specs.Seen.{Unrefused}
 abbrev pub WasAnswered : World → World → Type 0
 WasAnswered old new = (new ≡ old) ⊎ Unrefused old new
 
--- No command was started or taken in. Where all is well, no call was made, or each was answered; a fault has its cause.
-pub record Asks {T : Type 0} (old new : World) (result : Result T SiteFault) : Type 0 where
-  pub looks : OnlyLooks false old new
+-- No command was started or taken in, and nothing was written. Where all is well, no call was made, or each was answered; a fault has its cause.
+pub record Asks {T : Type 0} (tells : Bool) (old new : World) (result : Result T SiteFault) : Type 0 where
+  pub looks : OnlyLooks tells old new
   pub waits : KeepsWait old new
   pub ok : OnOk result (WasAnswered old new)
   pub err : OnErr result (HasCause old new result)
+
+-- nothing was done, but for a look, and this fault is answered
+pub record Refuses (tells : Bool) (old new : World) (fault : SiteFault) : Type 0 where
+  pub looks : OnlyLooks tells old new
+  pub waits : KeepsWait old new
+  pub cause : HasCause {T = Unit {0}} old new (Err fault)

@@ -14,7 +14,7 @@ use Rattle.seen.specs.Judged.{is_as_noted, judged, judged_noted, next_number}
 -- when a file was put at its path.
 abbrev pub counting : (noted : List ℕ → Option Noted) → (is_output : List ℕ → Bool) → (number : ℕ) → (placed : List ℕ → File → ℕ) → Counting
 counting noted is_output number placed p file =
-    (judged (record { noted = noted p; is_output = is_output p; is_made = false; since = None }) number
+    (judged (record { noted = noted p; is_output = is_output p; since = None }) number
     (Some (record { stamp = file.stamp; size = Some (length file.content); placed = placed p file }))).counts
 
 -- The notes are true of the end of a build, at which `last` stood there and `told` was told: what stands at a noted path holds what was told,

@@ -48,13 +48,13 @@ judged_noted noted is_output number stamp size placed =
     if is_as_noted noted stamp size then judged_same noted is_output
     else (if is_output then plainly None else under (max number placed) (turned noted.kind))
 
--- a command that was started before has read it, while somebody may have put it there
+-- commands of this build were started before it was put there
 abbrev pub is_late : (since : Option ℕ) → (placed : ℕ) → Bool
 is_late None placed = false
 is_late (Some start) placed = nat_lt start placed
 
--- what was never noted has its own stamp, and is noted so. A source that was put there after the start of a command that has read it counts as
--- written then.
+-- what was never noted has its own stamp, and is noted so. A source that was put there after the first start in this build counts as written
+-- then.
 abbrev pub judged_new : (is_output : Bool) → (since : Option ℕ) → (stamp placed : ℕ) → Judged
 judged_new is_output since stamp placed =
     if is_late since placed && not is_output then under placed Source
@@ -65,16 +65,10 @@ abbrev pub judged_file : Option Noted → Past → (number stamp size placed : �
 judged_file None past number stamp size placed = judged_new past.is_output past.since stamp placed
 judged_file (Some noted) past number stamp size placed = judged_noted noted past.is_output number stamp size placed
 
--- what the command of this build has made counts by what is noted of it, and else under its own stamp: it is noted when that has ended
-abbrev pub judged_made : Option Noted → (stamp size : ℕ) → Judged
-judged_made None stamp size = plainly (Some stamp)
-judged_made (Some noted) stamp size = if is_as_noted noted stamp size then plainly (Some (counts_of noted)) else plainly (Some stamp)
-
 -- a folder has its own stamp, and is never noted
 abbrev pub judged_sized : Past → (number stamp placed : ℕ) → Option ℕ → Judged
 judged_sized past number stamp placed None = plainly (Some stamp)
-judged_sized past number stamp placed (Some size) =
-    if past.is_made then judged_made past.noted stamp size else judged_file past.noted past number stamp size placed
+judged_sized past number stamp placed (Some size) = judged_file past.noted past number stamp size placed
 
 -- how what is found at a path of this past counts, in a build of this number
 abbrev pub judged : Past → (number : ℕ) → Option Measure → Judged

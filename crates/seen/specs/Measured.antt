@@ -1,17 +1,17 @@
--- What stands at a path, as a site measures it.
+-- What stands at a path, as a site measures it that tells its files.
 use Rattle.std.specs.Prelude.{ℕ, List, Option, Some, None, length}
 use Rattle.model.specs.World.{File}
 use Rattle.seen.specs.declared.measure.Measure.{Measure}
 
--- a stamp and a length; nothing for the length of a folder, which is no file of the model
-abbrev pub Told : Type 0
-Told = Option (ℕ × Option ℕ)
+-- it was put there when it was written
+abbrev pub measure_of : File → Measure
+measure_of file = record { stamp = file.stamp; size = Some (length file.content); placed = file.stamp }
 
-abbrev pub told_at : Option File → Told
-told_at None = None
-told_at (Some file) = Some (file.stamp, Some (length file.content))
+abbrev pub measured_at : Option File → Option Measure
+measured_at None = None
+measured_at (Some file) = Some (measure_of file)
 
--- the same of what was measured
-abbrev pub measured : Option Measure → Told
-measured None = None
-measured (Some found) = Some (found.stamp, found.size)
+-- what it holds, and that
+abbrev pub read_at : Option File → Option (List ℕ × Measure)
+read_at None = None
+read_at (Some file) = Some (file.content, measure_of file)

@@ -1,18 +1,14 @@
 -- What is noted, and what is put behind the notes.
-use Rattle.std.specs.Prelude.{◌≡◌, ◌⊎◌, ℕ, nat_le, Bool, true, false, List, [], ◌∷◌, ◌++◌, Option, Some, None}
-use Rattle.log_text.specs.Keeping.{OfKept}
+use Rattle.std.specs.Prelude.{◌≡◌, ◌⊎◌, ℕ, Bool, true, false, List, [], ◌∷◌, ◌++◌, Option, Some, None, slice_get}
+use Rattle.model.specs.Graph.{has}
 use Rattle.model.specs.World.{World}
 use Rattle.model.specs.Calls.{Appends, Writes}
 use Rattle.seen_log.specs.declared.note.Kind.{Kind}
-use Rattle.seen_log.specs.declared.note.Kind.TheVariants.{Made}
-use Rattle.seen_log.specs.Keeping.{Keeps}
-use Rattle.seen_log.specs.Log.{Notes, noted_in_force}
+use Rattle.seen_log.specs.declared.note.Last.{Last}
+use Rattle.seen_log.specs.Log.{Notes}
 use Rattle.seen.specs.declared.judging.Judged.{Judged}
 use Rattle.seen.specs.declared.known.Known.{Known}
 use Rattle.seen.specs.declared.measure.Measure.{Measure}
-use Rattle.seen.specs.declared.notes.Notes.{Notes as NotesFile}
-use Rattle.seen.specs.Counting.{IsPlaceOf, past_of}
-use Rattle.seen.specs.Judged.{judged, left_of}
 
 -- ---- the lines of what is to be noted
 
@@ -31,26 +27,26 @@ LinesOf kind None path found old new = new ≡ old
 LinesOf kind (Some number) path None old new = new ≡ old
 LinesOf kind (Some number) path (Some found) old new = LineOf kind number path found.stamp found.size old new
 
--- the record with this place was noted in this build, which began where there were so many
-abbrev pub is_fresh : (first : ℕ) → Option ℕ → Bool
-is_fresh first None = false
-is_fresh first (Some place) = nat_le first place
+abbrev pub marked : Option Bool → Bool
+marked None = false
+marked (Some it) = it
 
--- what was noted in this build is not noted again
-abbrev pub UnlessFresh : Bool → Judged → List ℕ → Option Measure → List ℕ → List ℕ → Type 0
-UnlessFresh true how path found old new = new ≡ old
-UnlessFresh false how path found old new = LinesOf how.kind how.number path found old new
+-- the path of the record with this place was asked for
+abbrev pub is_marked : List Bool → ℕ → Bool
+is_marked asked place = marked (slice_get asked place)
 
--- what was found first in this build at the path is noted as it is judged, by whichever records are kept
-abbrev pub AreNotedOnce : Known → List ℕ → Option ℕ → Option Measure → List ℕ → List ℕ → Type 0
-AreNotedOnce known path since found old new =
-    (place : Option ℕ) × IsPlaceOf known path place
-    × OfKept Keeps known.notes (λ all. UnlessFresh (is_fresh known.first place) (judged (past_of known (noted_in_force all path) path since) known.number found) path found old new)
+-- the path, of which this was noted before, was noted or asked for in this build
+abbrev pub settled_by : List Bool → List (List ℕ) → List ℕ → Option Last → Bool
+settled_by asked fresh path None = has fresh path
+settled_by asked fresh path (Some last) = is_marked asked last.place
 
--- what a command left is noted
-abbrev pub IsLeftNoted : Known → List ℕ → ℕ → Option Measure → List ℕ → List ℕ → Type 0
-IsLeftNoted known output start found old new =
-    OfKept Keeps known.notes (λ all. LinesOf Made (left_of (noted_in_force all output) start found) output found old new)
+abbrev pub is_settled : Known → List ℕ → Option Last → Bool
+is_settled known path last = settled_by known.asked.items known.fresh path last
+
+-- what was asked for in this build is not noted again
+abbrev pub UnlessSettled : Bool → Judged → List ℕ → Option Measure → List ℕ → List ℕ → Type 0
+UnlessSettled true how path found old new = new ≡ old
+UnlessSettled false how path found old new = LinesOf how.kind how.number path found old new
 
 -- ---- the file of the notes
 
@@ -65,10 +61,5 @@ pub record PutsBehind (tells : Bool) (path lines : List ℕ) (old new : World) :
   pub puts : Appends tells path lines between new
 
 -- so were these lines; where there are none nothing was done
-abbrev pub PutsSome : Bool → List ℕ → List ℕ → World → World → Type 0
-PutsSome tells path lines old new = ((lines ≡ []) × (new ≡ old)) ⊎ PutsBehind tells path lines old new
-
--- so they were where a build began
-abbrev pub PutsLines : Bool → Option NotesFile → List ℕ → World → World → Type 0
-PutsLines tells None lines old new = new ≡ old
-PutsLines tells (Some notes) lines old new = PutsSome tells notes.path lines old new
+abbrev pub PutsLines : Bool → List ℕ → List ℕ → World → World → Type 0
+PutsLines tells path lines old new = ((lines ≡ []) × (new ≡ old)) ⊎ PutsBehind tells path lines old new

@@ -1,7 +1,7 @@
 //! How what is found at a path counts.
 
 ghost use Rattle.std.specs.Prelude.{◌≡◌};
-ghost use Rattle.seen.specs.Judged.{is_as_noted, is_late, is_turned, judged, judged_made, judged_new, judged_noted, judged_same, left_number, left_since, next_number, plainly, turned, under, whole_seconds};
+ghost use Rattle.seen.specs.Judged.{is_as_noted, is_late, is_turned, judged, judged_new, judged_noted, judged_same, left_number, left_since, next_number, plainly, turned, under, whole_seconds};
 
 use crate::measure::Measure;
 use seen_log::{Kind, Noted, counts_of};
@@ -16,9 +16,7 @@ pub struct Past {
     pub noted: Option<Noted>,
     /// A command makes it.
     pub is_output: bool,
-    /// That command was started in this build.
-    pub is_made: bool,
-    /// The start of a command that has told that it read it, where it is asked for only since that.
+    /// The first start in this build, if there was one.
     pub since: Option<u64>,
 }
 
@@ -44,11 +42,11 @@ struct Stood {
 /// How what is found at a path of this past counts, in a build in which what somebody else wrote counts under this number at least.
 ///
 /// - A file that is as noted has the stamp that counted for it before. Of one that was never noted its own stamp counts, but where it was put
-///   there after a command was started that has read it: then that moment counts.
+///   there after the first start in this build: then that moment counts.
 /// - A source that is another than the noted one counts as written when it was put there, and later than all starts before the build.
 /// - What somebody else wrote where a command had made the path, at a time at which none did, counts as absent where one makes it again.
-/// - An output that is another than the noted one counts as absent, until its command was started: then its own stamp counts, and from its
-///   end on what is noted then ([`left_number`]).
+/// - An output that is another than the noted one counts as absent, until its command was started ([`told_stamp`]), and what it left is noted
+///   ([`left_number`]).
 /// - A folder has its own stamp, and is not noted.
 pub fn judge(past: Past, number: u64, found: Option<Measure>) -> Judged
     ensures { result ≡ judged past number found }
@@ -66,9 +64,6 @@ pub fn judge(past: Past, number: u64, found: Option<Measure>) -> Judged
     let Some(size) = size else {
         return plainly(Some(stamp));
     };
-    if past.is_made {
-        return judge_made(past.noted, stamp, size);
-    }
     let file = Stood {
         stamp,
         size,
@@ -77,22 +72,6 @@ pub fn judge(past: Past, number: u64, found: Option<Measure>) -> Judged
     match past.noted {
         None => judge_new(past.is_output, past.since, file),
         Some(noted) => judge_noted(noted, past.is_output, number, file),
-    }
-}
-
-/// How a file counts whose command was started in this build.
-fn judge_made(noted: Option<Noted>, stamp: u64, size: u64) -> Judged
-    ensures { result ≡ judged_made noted stamp size }
-{
-    match noted {
-        None => plainly(Some(stamp)),
-        Some(noted) => {
-            if is_as_noted(noted, stamp, size) {
-                plainly(Some(counts_of(noted)))
-            } else {
-                plainly(Some(stamp))
-            }
-        }
     }
 }
 

@@ -1,7 +1,10 @@
 //! What follows for the records of builds. These functions do nothing: their contracts are the laws.
 
 ghost use Rattle.seen.specs.Between.{CountsEither, NotesTell, NumberIsLater};
+ghost use Rattle.seen.specs.Going.{LooksGoOn};
 ghost use Rattle.seen.specs.Small.{NotesAreMet};
+
+use seen_law::looks_are_told;
 
 /// Where the notes are true of the end of a build, what they make of what others did since is what the next one wants to begin with faithful
 /// records (`seen_law::next_begins`).
@@ -23,3 +26,10 @@ pub fn counts_either()
 pub fn number_is_later()
     ensures { NumberIsLater }
 {}
+
+/// Where the site below is only looked at, its history goes on, no command was started, and what is told was only looked at, too.
+pub fn looks_go_on()
+    ensures { LooksGoOn }
+{
+    looks_are_told();
+}

@@ -6,18 +6,29 @@
 //! behind another log. So a program that is ended between two writes has noted too little, never too much: something runs once more.
 #![tactic(auto)]
 
+mod answer;
+mod beginning;
+mod counts;
 mod judging;
 mod known;
 mod laws;
 mod lines;
+mod makers;
 mod measure;
 mod names;
 mod notes;
-mod outputs;
+mod own;
+mod retold;
 mod seen;
+mod starts;
 
+pub use answer::Looked;
+pub use beginning::Beginning;
+pub use counts::Counts;
 pub use judging::{Judged, Past, judge, next_number};
 pub use known::Known;
-pub use laws::{counts_either, notes_are_met, notes_tell, number_is_later};
+pub use laws::{counts_either, looks_go_on, notes_are_met, notes_tell, number_is_later};
 pub use measure::{Measure, Measured};
+pub use notes::{Entry, enter};
+pub use retold::Retold;
 pub use seen::Seen;

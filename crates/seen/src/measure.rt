@@ -3,9 +3,10 @@
 ghost use Rattle.std.specs.Prelude.{IsTrue, IfOk};
 ghost use Rattle.model.specs.World.{file_at};
 ghost use Rattle.model.specs.Calls.{HasCause, KeepsWait, OnlyLooks, Sees};
-ghost use Rattle.seen.specs.Measured.{measured, told_at};
+ghost use Rattle.seen.specs.Measured.{measured_at, read_at};
 
 use site::{Site, SiteFault};
+use text::Bytes;
 
 /// What stands at a path.
 #[derive(Clone, Copy, Debug, PartialEq, Eq)]
@@ -20,13 +21,20 @@ pub struct Measure {
 
 /// A site that tells how long a file is.
 pub trait Measured: Site {
-    /// The stamp and the length of the file at the path, and when it was put there, in one look, or nothing where there is no file. No clause
-    /// says that the last is right: the model of files has stamps alone.
+    /// The stamp and the length of the file at the path, and when it was put there, in one look, or nothing where there is no file. A site
+    /// that tells its files has no folders, and puts a file there when it writes it.
     fn measure(&mut self, path: &str) -> Result<Option<Measure>, SiteFault>
         ensures looks { OnlyLooks Self.tells (Self.world self.old) (Self.world self.new) }
         ensures cause { HasCause (Self.world self.old) (Self.world self.new) result }
         ensures waits { KeepsWait (Self.world self.old) (Self.world self.new) }
-        ensures measure { IsTrue Self.tells → IfOk result (λ found. Sees (λ history. told_at (file_at history path.now)) (measured found) (Self.world self.old).history (Self.world self.new).history) };
+        ensures measure { IsTrue Self.tells → IfOk result (λ found. Sees (λ history. measured_at (file_at history path.now)) found (Self.world self.old).history (Self.world self.new).history) };
+
+    /// What the file at the path holds, and its measure, in one look, or nothing where there is no file.
+    fn read_measured(&mut self, path: &str) -> Result<Option<(Bytes, Measure)>, SiteFault>
+        ensures looks { OnlyLooks Self.tells (Self.world self.old) (Self.world self.new) }
+        ensures cause { HasCause (Self.world self.old) (Self.world self.new) result }
+        ensures waits { KeepsWait (Self.world self.old) (Self.world self.new) }
+        ensures content { IsTrue Self.tells → IfOk result (λ found. Sees (λ history. read_at (file_at history path.now)) found (Self.world self.old).history (Self.world self.new).history) };
 
     /// What time it is, in the numbers of stamps; 0 where that is not known. No clause says that it is right: a clock is not told.
     fn now(&self) -> u64;

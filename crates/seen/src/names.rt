@@ -3,10 +3,10 @@
 use std::alloc::{AllocError, Global};
 
 /// The last part of the path of a build log.
-const LOG: &str = ".nj_log";
+pub const LOG: &str = ".nj_log";
 
 /// The last part of the path of a deps log.
-const DEPS_LOG: &str = ".nj_deps";
+pub const DEPS_LOG: &str = ".nj_deps";
 
 /// The last part of the path of the file that a tick touches.
 pub const TICK: &str = ".nj_tick";

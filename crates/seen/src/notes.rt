@@ -1,85 +1,140 @@
-//! The file of what was seen.
+//! The file of the notes, as a build finds it.
 
-ghost use Rattle.std.specs.Prelude.{◌≡◌, false, OnOk};
-ghost use Rattle.model.specs.Calls.{HasCause, KeepsWait, OnlyLooks};
+ghost use Rattle.std.specs.Prelude.{◌≡◌, [], false, None, IfOk, replicate};
+ghost use Rattle.model.specs.Calls.{KeepsWait, OnlyLooks};
 ghost use Rattle.seen.specs.Asking.{Asks};
-ghost use Rattle.seen.specs.Noting.{PutsLines};
+ghost use Rattle.seen.specs.Entering.{IsUnbegun};
+ghost use Rattle.seen.specs.Makers.{AreJobs};
 
+use crate::counts::Counts;
+use crate::judging::next_number;
+use crate::makers::Makers;
+use crate::measure::Measured;
+use crate::own::Own;
 use log_text::{Records, Tail};
+use paths::{Manifest, Paths};
 use seen_log::Log;
-use site::{Site, SiteFault};
+use site::SiteFault;
 use std::alloc::{AllocError, Global};
-use text::{Bytes, Path};
+use text::Bytes;
 
-/// The file of what was seen, behind which lines are put.
+/// What a build begins with.
 #[derive(Drop)]
-pub struct Notes {
-    path: Path,
-    /// The text that takes the place of what the file holds before a line is put behind it, where one is to: the file is absent, empty, torn,
-    /// damaged or of version 1, or it wants compaction.
-    base: Option<Vec<u8>>,
+pub struct Entry {
+    pub counts: Counts,
+    /// The text that takes the place of what the file of the notes holds before a line is put behind it, where one is to: the file is absent,
+    /// empty, torn, damaged or of version 1, or it wants compaction.
+    pub base: Option<Vec<u8>>,
+    /// Whether it could not be read, so that the build cannot begin.
+    pub lost: bool,
 }
 
-impl Notes {
-    ghost use Rattle.seen.specs.Noting.{PutsBehind};
-
-    /// The file at the path, which holds this, and what it tells.
-    pub fn of(
-        alloc: Global,
-        path: Path,
-        content: Option<&Bytes>,
-    ) -> Result<(Notes, Log), AllocError> {
-        let text = match content {
-            Some(bytes) => bytes.as_slice(),
-            None => &[],
-        };
-        let (log, tail) = Log::parse(alloc, text)?;
-        let base = base_of(alloc, text, &log, tail)?;
-        Ok((Notes { path, base }, log))
-    }
-
-    /// Puts the lines behind the file. Where it fails, a beginning of them may stand there.
-    #[tactic(auto, using(crate::proofs::Putting::puts_at_once, crate::proofs::Putting::puts_anew))]
-    pub fn write<S: Site>(&mut self, site: &mut S, lines: &[u8]) -> Result<(), SiteFault>
-        ensures looks { OnlyLooks false (S.world site.old) (S.world site.new) }
-        ensures cause { HasCause (S.world site.old) (S.world site.new) result }
-        ensures waits { KeepsWait (S.world site.old) (S.world site.new) }
-        ensures puts { OnOk result (PutsBehind S.tells self.old.path lines.now (S.world site.old) (S.world site.new)) }
-    {
-        let Some(base) = &self.base else {
-            return site.append(self.path.as_str(), lines);
-        };
-        site.replace(self.path.as_str(), base.as_slice())?;
-        self.base = None;
-        site.append(self.path.as_str(), lines)
-    }
-}
-
-impl Notes {
-    ghost use Rattle.seen.specs.Noting.{PutsSome};
-
-    /// Puts the lines behind the file, if there are some.
-    fn put<S: Site>(&mut self, site: &mut S, lines: &[u8]) -> Result<(), SiteFault>
-        ensures asks { Asks (S.world site.old) (S.world site.new) result }
-        ensures puts { OnOk result (PutsSome S.tells self.old.path lines.now (S.world site.old) (S.world site.new)) }
-    {
-        if lines.is_empty() {
-            return Ok(());
-        }
-        self.write(site, lines)?;
-        Ok(())
-    }
-}
-
-/// Puts the lines behind the notes, if there are some, and a build began.
-pub fn put<S: Site>(site: &mut S, notes: &mut Option<Notes>, lines: &[u8]) -> Result<(), SiteFault>
-    ensures asks { Asks (S.world site.old) (S.world site.new) result }
-    ensures puts { OnOk result (PutsLines S.tells notes.old lines.now (S.world site.old) (S.world site.new)) }
+/// What is known when a build begins whose build log is at this path, by the notes beside it and by the build file.
+pub fn enter<S: Measured>(alloc: Global, site: &mut S, manifest: &Manifest, log: &str) -> Entry
+    requires { (S.world site.old).stopped ≡ false }
+    ensures looks { OnlyLooks S.tells (S.world site.old) (S.world site.new) }
+    ensures waits { KeepsWait (S.world site.old) (S.world site.new) }
+    ensures unbegun { IsUnbegun result.counts }
 {
-    match notes {
-        Some(notes) => notes.put(site, lines),
-        None => Ok(()),
+    match read_entry(alloc, site, manifest, log) {
+        Ok(entry) => entry,
+        Err(_) => lost_entry(alloc),
     }
+}
+
+/// Where it could not be read.
+fn lost_entry(alloc: Global) -> Entry
+    ensures { IsUnbegun result.counts }
+{
+    Entry {
+        counts: Counts::none(alloc),
+        base: None,
+        lost: true,
+    }
+}
+
+/// The same, or why it could not be read.
+pub fn read_entry<S: Measured>(
+    alloc: Global,
+    site: &mut S,
+    manifest: &Manifest,
+    log: &str,
+) -> Result<Entry, SiteFault>
+    requires { (S.world site.old).stopped ≡ false }
+    ensures asks { Asks S.tells (S.world site.old) (S.world site.new) result }
+    ensures unbegun { IfOk result (λ entry. IsUnbegun entry.counts) }
+{
+    let makers = Makers::of(alloc, manifest)?;
+    read_by(alloc, site, makers, log)
+}
+
+/// The same, where commands make this.
+pub fn read_by<S: Measured>(
+    alloc: Global,
+    site: &mut S,
+    makers: Makers,
+    log: &str,
+) -> Result<Entry, SiteFault>
+    requires { (S.world site.old).stopped ≡ false }
+    ensures asks { Asks S.tells (S.world site.old) (S.world site.new) result }
+    ensures unbegun { AreJobs makers → makers.table.entries ≡ [] → IfOk result (λ entry. IsUnbegun entry.counts) }
+{
+    let own = Own::beside(alloc, log)?;
+    let start = last_start(site, &own)?;
+    let content = site.read(own.seen.as_str())?;
+    Ok(entry_of(alloc, makers, own, start, content.as_ref())?)
+}
+
+/// The stamp of the last start, by the file of ticks; what time it is where there is no such file.
+fn last_start<S: Measured>(site: &mut S, own: &Own) -> Result<u64, SiteFault>
+    requires { (S.world site.old).stopped ≡ false }
+    ensures { Asks S.tells (S.world site.old) (S.world site.new) result }
+{
+    match site.stat(own.tick.as_str())? {
+        Some(stamp) => Ok(stamp),
+        None => Ok(site.now()),
+    }
+}
+
+/// What is known where the file of the notes holds this, behind a start of this stamp.
+fn entry_of(
+    alloc: Global,
+    makers: Makers,
+    own: Own,
+    start: u64,
+    content: Option<&Bytes>,
+) -> Result<Entry, AllocError>
+    ensures { AreJobs makers → makers.table.entries ≡ [] → IfOk result (λ entry. IsUnbegun entry.counts) }
+{
+    let text = match content {
+        Some(bytes) => bytes.as_slice(),
+        None => &[],
+    };
+    let starts = no_starts(alloc, makers.jobs)?;
+    let (notes, tail) = Log::parse(alloc, text)?;
+    let base = base_of(alloc, text, &notes, tail)?;
+    let number = next_number(start, notes.greatest());
+    Ok(Entry {
+        counts: Counts {
+            notes,
+            makers,
+            own,
+            number,
+            made: Paths::new(alloc),
+            starts,
+            first_start: None,
+        },
+        base,
+        lost: false,
+    })
+}
+
+/// A place for each of so many edges, of which none was started.
+fn no_starts(alloc: Global, jobs: usize) -> Result<Vec<Option<u64>>, AllocError>
+    ensures { IfOk result (λ starts. starts.items ≡ replicate jobs None) }
+{
+    let starts = vec![in alloc; None; jobs]?;
+    Ok(starts)
 }
 
 /// The text that takes the place of a file of this text, which tells this and ends so, if one is to.

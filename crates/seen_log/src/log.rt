@@ -120,6 +120,7 @@ impl Records for Log {
 }
 
 impl Log {
+    ghost use Rattle.indexmap.specs.IndexMap.{get_by_text};
     ghost use Rattle.seen_log.specs.Keeping.{Keeps, IsLast, entry_note};
 
     /// What the text of a log tells, and how it ends. A damaged one tells nothing.
@@ -168,7 +169,8 @@ impl Log {
 
     /// What is in force for a path, and the place of its record among all. It takes no memory.
     pub fn last(&self, path: &str) -> Option<Last>
-        ensures { OfKept Keeps self.now (λ all. IsLast all path.now result) }
+        ensures kept { OfKept Keeps self.now (λ all. IsLast all path.now result) }
+        ensures is { result ≡ get_by_text self.now.last path.now }
     {
         self.last.get(path).copied()
     }

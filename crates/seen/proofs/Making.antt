@@ -1,0 +1,160 @@
+-- Which edge makes a path, and which paths are in a table.
+use Rattle.std.proofs.Common.{◌≡◌, inl, inr, String, ◌<◌, ℕ, zero, suc, Bool, true, false, ◌||◌, if◌then◌else◌, List, [], ◌∷◌, ◌++◌, Option, Some, None, is_some, slice_get, bytes_eq, string_bytes, nat_lt, refl, sym, ap, subst, ◌∙◌}
+use Rattle.std.specs.Prelude.{MatchOption}
+use Rattle.std.specs.Option.{option_or}
+use Rattle.std.proofs.lemmas.Bool.{cases_Bool, cond-true, cond-false, false≢true, ltb-true, lt-ltb}
+use Rattle.std.proofs.lemmas.Slice.Eq.{bytes_eq-Decides}
+use Rattle.model.specs.Graph.{has}
+use Rattle.std.specs.Map.{lookup}
+use Rattle.seen.specs.declared.makers.Makers.{Makers}
+use Rattle.seen.specs.declared.makers.Output.{Output}
+use Rattle.seen.specs.Makers.{are_below, is_job, made_in, maker_in, maker_of}
+
+-- ---- a table of paths
+
+or_true : (a b : Bool) → b ≡ true → a || b ≡ true
+or_true true b e = refl
+or_true false b e = e
+
+in_has : (texts : List (List ℕ)) (n : ℕ) (p : List ℕ) → slice_get texts n ≡ Some p → has texts p ≡ true
+in_has [] n p e = cc
+in_has (t ∷ texts) zero p e =
+    let same : t ≡ p = cc in
+    ap (λ (b : Bool). b || has texts p) ((bytes_eq-Decides t p).1 same)
+in_has (t ∷ texts) (suc n) p e = or_true (bytes_eq t p) (has texts p) (in_has texts n p e)
+
+pub found_is : (texts : List (List ℕ)) (p : List ℕ) (found : Option ℕ) → MatchOption found (has texts p ≡ false) (λ n. slice_get texts n ≡ Some p) → is_some found ≡ has texts p
+found_is texts p None is = sym is
+found_is texts p (Some n) is = sym (in_has texts n p is)
+
+-- ---- what is listed goes into the table
+
+or_same : (a later : Option ℕ) (here : Bool) (job : ℕ) → option_or (option_or a (if here then Some job else None)) later ≡ option_or a (if here then Some job else later)
+or_same (Some x) later here job = refl
+or_same None later true job = refl
+or_same None later false job = refl
+
+if_or : (here : Bool) (job : ℕ) (rest later : Option ℕ) → option_or (if here then Some job else rest) later ≡ (if here then Some job else option_or rest later)
+if_or true job rest later = refl
+if_or false job rest later = refl
+
+maker_last : (os : List Output) (o : Output) (p : List ℕ) → maker_in (os ++ o ∷ []) p ≡ option_or (maker_in os p) (if bytes_eq (string_bytes o.text) p then Some o.job else None)
+maker_last [] o p = refl
+maker_last (x ∷ os) o p =
+    ap (λ (rest : Option ℕ). if bytes_eq (string_bytes x.text) p then Some x.job else rest) (maker_last os o p)
+    ∙ sym (if_or (bytes_eq (string_bytes x.text) p) x.job (maker_in os p) (if bytes_eq (string_bytes o.text) p then Some o.job else None))
+
+-- the last one is found in the table as it was in the list
+pub moved : (rest listed : List Output) (o : Output) (p : List ℕ) (was now : Option ℕ) → listed ≡ rest ++ o ∷ [] → now ≡ (if bytes_eq (string_bytes o.text) p then Some o.job else was)
+    → option_or (maker_in rest p) now ≡ option_or (maker_in listed p) was
+moved rest listed o p was now is_listed is_now =
+    ap (λ (it : Option ℕ). option_or (maker_in rest p) it) is_now
+    ∙ sym (ap (λ (m : Option ℕ). option_or m was) (ap (λ (l : List Output). maker_in l p) is_listed ∙ maker_last rest o p)
+    ∙ or_same (maker_in rest p) was (bytes_eq (string_bytes o.text) p) o.job)
+
+-- nothing is listed any more
+pub in_table : (listed : List Output) (p : List ℕ) (table before : Option ℕ) → option_or (maker_in listed p) table ≡ before → listed ≡ [] → table ≡ before
+in_table listed p table before is none = sym (ap (λ (l : List Output). option_or (maker_in l p) table) none) ∙ is
+
+-- ---- what an edge makes
+
+has_here : (p : List ℕ) (ps : List (List ℕ)) (q : List ℕ) → bytes_eq q p ≡ true → has (q ∷ ps) p ≡ true
+has_here p ps q is = ap (λ (b : Bool). b || has ps p) is
+
+has_there : (p : List ℕ) (ps : List (List ℕ)) (q : List ℕ) → bytes_eq q p ≡ false → has (q ∷ ps) p ≡ has ps p
+has_there p ps q is = ap (λ (b : Bool). b || has ps p) is
+
+module _ (all : List Output) (job : ℕ) (p : List ℕ) where
+  -- of a path that another edge makes, or none, nothing is made
+  made_not : (os : List Output) → is_job job (maker_in all p) ≡ false → has (made_in all os job) p ≡ false
+  made_not [] no = refl
+  made_not (o ∷ os) no = by (is_job job (maker_in all (string_bytes o.text))) refl
+    where
+      apart : is_job job (maker_in all (string_bytes o.text)) ≡ true → bytes_eq (string_bytes o.text) p ≡ true → ⊥
+      apart yes same =
+          let one : string_bytes o.text ≡ p = (bytes_eq-Decides (string_bytes o.text) p).0 same in
+          false≢true (sym no ∙ (ap (λ (q : List ℕ). is_job job (maker_in all q)) (sym one) ∙ yes))
+
+      there : (b : Bool) → bytes_eq (string_bytes o.text) p ≡ b → is_job job (maker_in all (string_bytes o.text)) ≡ true → has (string_bytes o.text ∷ made_in all os job) p ≡ false
+      there true same yes = absurd (apart yes same)
+      there false other yes = has_there p (made_in all os job) (string_bytes o.text) other ∙ made_not os no
+
+      by : (b : Bool) → is_job job (maker_in all (string_bytes o.text)) ≡ b → has (made_in all (o ∷ os) job) p ≡ false
+      by true yes = ap (λ (it : Bool). has (if it then string_bytes o.text ∷ made_in all os job else made_in all os job) p) yes ∙ there (bytes_eq (string_bytes o.text) p) refl yes
+      by false none = ap (λ (it : Bool). has (if it then string_bytes o.text ∷ made_in all os job else made_in all os job) p) none ∙ made_not os no
+
+  -- and of one that this edge makes, it is
+  made_yes : (os : List Output) (found : ℕ) → maker_in os p ≡ Some found → is_job job (maker_in all p) ≡ true → has (made_in all os job) p ≡ true
+  made_yes [] found is yes = absurd (none is)
+    where
+      none : None ≡ Some found → ⊥
+      none e = cc
+  made_yes (o ∷ os) found is yes = by (bytes_eq (string_bytes o.text) p) refl is
+    where
+      by : (b : Bool) → bytes_eq (string_bytes o.text) p ≡ b → (if b then Some o.job else maker_in os p) ≡ Some found → has (made_in all (o ∷ os) job) p ≡ true
+      by true same so =
+          let one : string_bytes o.text ≡ p = (bytes_eq-Decides (string_bytes o.text) p).0 same in
+          let makes : is_job job (maker_in all (string_bytes o.text)) ≡ true = ap (λ (q : List ℕ). is_job job (maker_in all q)) one ∙ yes in
+          ap (λ (it : Bool). has (if it then string_bytes o.text ∷ made_in all os job else made_in all os job) p) makes ∙ has_here p (made_in all os job) (string_bytes o.text) same
+      by false other so = later (is_job job (maker_in all (string_bytes o.text))) refl (made_yes os found so yes)
+        where
+          later : (b : Bool) → is_job job (maker_in all (string_bytes o.text)) ≡ b → has (made_in all os job) p ≡ true → has (made_in all (o ∷ os) job) p ≡ true
+          later true makes rest =
+              ap (λ (it : Bool). has (if it then string_bytes o.text ∷ made_in all os job else made_in all os job) p) makes ∙ (has_there p (made_in all os job) (string_bytes o.text) other ∙ rest)
+          later false makes rest = ap (λ (it : Bool). has (if it then string_bytes o.text ∷ made_in all os job else made_in all os job) p) makes ∙ rest
+
+some_job : (job : ℕ) (maker : Option ℕ) → is_job job maker ≡ true → (found : ℕ) × (maker ≡ Some found)
+some_job job None yes = absurd (false≢true yes)
+some_job job (Some found) yes = (found, refl)
+
+made_has : (all : List Output) (job : ℕ) (p : List ℕ) → has (made_in all all job) p ≡ is_job job (maker_in all p)
+made_has all job p = elim (cases_Bool (is_job job (maker_in all p))) [
+  | inl yes ↦ (let found = some_job job (maker_in all p) yes in made_yes all job p all found.0 found.1 yes ∙ sym yes)
+  | inr no ↦ made_not all job p all no ∙ sym no
+]
+
+-- so it is where all is listed
+or_none : (m : Option ℕ) → option_or m None ≡ m
+or_none None = refl
+or_none (Some job) = refl
+
+pub made_of : (makers : Makers) → makers.table.entries ≡ [] → (job : ℕ) (p : List ℕ) → has (made_in makers.listed.items makers.listed.items job) p ≡ is_job job (maker_of makers p)
+made_of makers none job p =
+    made_has makers.listed.items job p
+    ∙ ap (is_job job) (sym (ap (λ (es : List (String _ × ℕ)). option_or (maker_in makers.listed.items p) (lookup (λ k. bytes_eq p (string_bytes k)) es)) none ∙ or_none (maker_in makers.listed.items p)))
+
+-- ---- edges
+
+if_below : (b : Bool) (rest more : Bool) → (rest ≡ true → more ≡ true) → (if b then rest else false) ≡ true → (if b then more else false) ≡ true
+if_below true rest more follows is = follows is
+if_below false rest more follows is = absurd (false≢true is)
+
+pub below_more : (jobs : ℕ) (os : List Output) (o : Output) → are_below jobs os ≡ true → o.job < jobs → are_below jobs (os ++ o ∷ []) ≡ true
+below_more jobs [] o all here = cond-true (nat_lt o.job jobs) true false (lt-ltb o.job jobs here)
+below_more jobs (x ∷ os) o all here = if_below (nat_lt x.job jobs) (are_below jobs os) (are_below jobs (os ++ o ∷ [])) (λ rest. below_more jobs os o rest here) all
+
+below_rest : (b rest : Bool) → (if b then rest else false) ≡ true → (b ≡ true) × (rest ≡ true)
+below_rest true rest is = (refl, is)
+below_rest false rest is = absurd (false≢true is)
+
+some_is : {a b : ℕ} → Some a ≡ Some b → a ≡ b
+some_is e = cc
+
+here_or : (b : Bool) (o jobs job : ℕ) (rest : Option ℕ) → o < jobs → (rest ≡ Some job → job < jobs) → (if b then Some o else rest) ≡ Some job → job < jobs
+here_or true o jobs job rest low follows is = subst (λ (j : ℕ). j < jobs) (some_is is) low
+here_or false o jobs job rest low follows is = follows is
+
+pub are_jobs : (jobs : ℕ) (os : List Output) (p : List ℕ) (job : ℕ) → are_below jobs os ≡ true → maker_in os p ≡ Some job → job < jobs
+are_jobs jobs [] p job all is = absurd (none is)
+  where
+    none : None ≡ Some job → ⊥
+    none e = cc
+are_jobs jobs (o ∷ os) p job all is =
+    let parts = below_rest (nat_lt o.job jobs) (are_below jobs os) all in
+    here_or (bytes_eq (string_bytes o.text) p) o.job jobs job (maker_in os p) (ltb-true o.job jobs parts.0) (λ rest. are_jobs jobs os p job parts.1 rest) is
+
+-- so they are in a table without entries
+pub jobs_of_listed : (makers : Makers) → makers.table.entries ≡ [] → are_below makers.jobs makers.listed.items ≡ true → (p : List ℕ) (job : ℕ) → maker_of makers p ≡ Some job → job < makers.jobs
+jobs_of_listed makers none all p job is =
+    are_jobs makers.jobs makers.listed.items p job all
+    (sym (ap (λ (es : List (String _ × ℕ)). option_or (maker_in makers.listed.items p) (lookup (λ k. bytes_eq p (string_bytes k)) es)) none ∙ or_none (maker_in makers.listed.items p)) ∙ is)

@@ -1,0 +1,24 @@
+use Rattle.std.proofs.Common.{◌∙◌}
+use Rattle.seen.proofs.Since.{appended}
+use Rattle.seen.proofs.Told.{hidden_appended, own_bytes}
+use Rattle.seen.proofs.retold.Retold.put_behind.Goals as goal
+
+-- nothing else is known
+pub invariant_of-self : goal.invariant_of-self
+invariant_of-self g c =
+    let stays = appended g.S.Texts.tells g.B.Beginning.begun (g.S.Texts.world c.args.self.now.site) (g.S.Texts.world c.append.new.self) c.args.self.now.so_far c.as_str.result.now c.args.lines.now c.append.result c.append.ensures.appends c.append.ensures.err in
+    record {
+      one = c.args.self.now.one;
+      begun = c.args.self.now.begun;
+      counted = c.args.self.now.counted;
+      hidden = c.args.self.now.hidden;
+      makes = c.args.self.now.makes;
+      room = c.args.self.now.room;
+      begins = c.args.self.now.begins;
+      so_far = stays.so_far;
+      started = λ is p. stays.started is p ∙ c.args.self.now.started is p;
+    }
+
+pub returns-clause-looks : goal.returns-clause-looks
+returns-clause-looks g c = hidden_appended g.S.Texts.tells g.B.Beginning.begun (g.S.Texts.world c.args.self.now.site) (g.S.Texts.world c.append.new.self) c.args.self.now.so_far c.args.self.now.begins c.looks_are_told.ensures c.as_str.result.now c.args.lines.now (λ is. c.args.self.now.hidden is c.as_str.result.now ∙ own_bytes c.args.self.now.known.own.seen c.as_str.result.now c.as_str.ensures.value)
+    c.append.result c.append.ensures.appends c.append.ensures.err

@@ -1,0 +1,34 @@
+use Rattle.std.proofs.Common.{Some, ap, subst, sym, ◌∙◌}
+use Rattle.std.specs.Prelude.{OnErr, OnOk}
+use Rattle.model.specs.Calls.{Appends, AppendsOrNot}
+use Rattle.model.specs.World.{World}
+use Rattle.seen.specs.Begun.{told_world}
+use Rattle.seen.proofs.Since.{appended}
+use Rattle.seen.proofs.Told.{err_on, ok_on, appends_on, appends_or_not_on}
+use Rattle.seen.proofs.retold.RetoldSite.append.Goals as goal
+
+-- nothing else is known
+pub invariant_of-self : goal.invariant_of-self
+invariant_of-self g c =
+    let stays = appended g.S.Texts.tells g.B.Beginning.begun (g.S.Texts.world c.is_barred.new.self.site) (g.S.Texts.world c.append.new.self) c.is_barred.new.self.so_far c.args.path.now c.args.bytes.now c.append.result c.append.ensures.appends c.append.ensures.err in
+    record {
+      one = c.is_barred.new.self.one;
+      begun = c.is_barred.new.self.begun;
+      counted = c.is_barred.new.self.counted;
+      hidden = c.is_barred.new.self.hidden;
+      makes = c.is_barred.new.self.makes;
+      room = c.is_barred.new.self.room;
+      begins = c.is_barred.new.self.begins;
+      so_far = stays.so_far;
+      started = λ is p. stays.started is p ∙ c.is_barred.new.self.started is p;
+    }
+
+pub returns-clause-appends : goal.returns-clause-appends
+returns-clause-appends g c =
+    subst (λ (w : World). OnOk c.append.result (Appends g.S.Texts.tells c.args.path.now c.args.bytes.now (told_world g.S.Texts.tells g.B.Beginning.begun w) (told_world g.S.Texts.tells g.B.Beginning.begun (g.S.Texts.world c.append.new.self)))) (ap g.S.Texts.world c.is_barred.ensures.site)
+    (ok_on c.append.result (appends_on g.S.Texts.tells g.B.Beginning.begun (g.S.Texts.world c.is_barred.new.self.site) (g.S.Texts.world c.append.new.self) c.is_barred.new.self.so_far c.is_barred.new.self.begins c.writes_are_told.ensures c.args.path.now c.args.bytes.now (λ tells. c.is_barred.ensures.told tells c.if-is_barred.false)) c.append.ensures.appends)
+
+pub returns-clause-err : goal.returns-clause-err
+returns-clause-err g c =
+    subst (λ (w : World). OnErr c.append.result (AppendsOrNot g.S.Texts.tells c.args.path.now c.args.bytes.now (told_world g.S.Texts.tells g.B.Beginning.begun w) (told_world g.S.Texts.tells g.B.Beginning.begun (g.S.Texts.world c.append.new.self)))) (ap g.S.Texts.world c.is_barred.ensures.site)
+    (err_on c.append.result (appends_or_not_on g.S.Texts.tells g.B.Beginning.begun (g.S.Texts.world c.is_barred.new.self.site) (g.S.Texts.world c.append.new.self) c.is_barred.new.self.so_far c.is_barred.new.self.begins c.writes_are_told.ensures c.looks_are_told.ensures c.args.path.now c.args.bytes.now (λ tells. c.is_barred.ensures.told tells c.if-is_barred.false)) c.append.ensures.err)
