@@ -47,6 +47,26 @@ loop-edge-preserved c =
           (λ build is for. (rw place at c.in_ok-action.ensures.edge) past said build of are is for) (c.loop-edge.invariant.7 past said builds of are all named),
     )
 
+pub loop-edge-preserved-in_ok-push : goal.loop-edge-preserved-in_ok-push
+loop-edge-preserved-in_ok-push c =
+    let scopes : AllByRecursion (IsInScope c.args.scopes.now) (c.in-Some.edge ∷ into_iter_items c.next.new.self) = rw c.in-Some.ensures.steps.0 at c.loop-edge.invariant.4 in
+    let left : length c.loop-edge.actions + length (c.in-Some.edge ∷ into_iter_items c.next.new.self) ≡ length c.args.lines.now = rw c.in-Some.ensures.steps.0 at c.loop-edge.invariant.5 in
+    let low : length c.loop-edge.actions < length c.args.lines.now = omega arith in
+    let grows = c.in_ok-action.ensures.grows in
+    let place : c.at_below-place.result ≡ length c.loop-edge.actions = c.at_below-place.ensures ∙ c.len-in-loop-edge.ensures in
+    let count : length c.push.new.self ≡ length c.loop-edge.actions + 1 = ap length c.in_ok-push.ensures.ok ∙ length-append c.loop-edge.actions (c.in_ok-action.field-0 ∷ []) in (
+      tt,
+      tt,
+      longer_on _ _ _ c.loop-edge.invariant.2 grows,
+      within_all _ _ _ grows c.loop-edge.invariant.3,
+      scopes.1,
+      (omega (arith, count, left)),
+      dyndeps_more _ _ c.loop-edge.actions _ c.in_ok-action.field-0 (longer_length _ _ grows) c.in_ok-push.ensures.ok c.in_ok-action.ensures.dyndep c.loop-edge.invariant.6,
+      λ past said builds of are all named. goes_next past said builds _ _ c.in-Some.edge _ c.args.lines.now (length c.loop-edge.actions) low c.in-Some.ensures.steps.0 _ _ _ _ _ grows
+          (edges_more _ _ c.args.lines.now c.loop-edge.actions _ c.in_ok-action.field-0 grows c.loop-edge.invariant.3 c.loop-edge.invariant.6 low c.in_ok-push.ensures.ok) count
+          (λ build is for. (rw place at c.in_ok-action.ensures.edge) past said build of are is for) (c.loop-edge.invariant.7 past said builds of are all named),
+    )
+
 pub marks_at-of_scope-requires-clause-within : goal.marks_at-of_scope-requires-clause-within
 marks_at-of_scope-requires-clause-within c =
     let scopes : AllByRecursion (IsInScope c.args.scopes.now) (c.in-Some.edge ∷ into_iter_items c.next.new.self) = rw c.in-Some.ensures.steps.0 at c.loop-edge.invariant.4 in
