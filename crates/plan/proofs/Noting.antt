@@ -6,7 +6,8 @@ use Rattle.std.proofs.lemmas.Bool.{or_left, or_right, eq-eqb}
 use Rattle.model.specs.Graph.{has_number}
 use Rattle.plan.specs.Flags.{has}
 use Rattle.graph.specs.Held.{times, StandOnce}
-use Rattle.plan.specs.Changed.{AreFlagged}
+use Rattle.plan.specs.declared.step.Changed.{Changed}
+use Rattle.plan.specs.Changed.{AreFlagged, AreNoted}
 
 -- the flags once each is noted for its path
 abbrev pub noted : List Bool → List ℕ → List Bool → List Bool
@@ -82,3 +83,9 @@ pub listed_at : (paths : List ℕ) (k : ℕ) → k < length paths → has_number
 listed_at [] k lt = absurd (omega (arith, lt))
 listed_at (p ∷ paths) zero lt = or_left (p == p) (has_number paths p) (eq-eqb p p refl)
 listed_at (p ∷ paths) (suc k) lt = or_right (p == get_or paths k 0) (has_number paths (get_or paths k 0)) (listed_at paths k (omega (arith, lt)))
+
+-- the same of equal lists
+pub noted_for : (old before after : List Bool) (paths outputs : List ℕ) (changed : Changed) (flags : List Bool) → before ≡ old → paths ≡ outputs → after ≡ flags → AreNoted before flags paths changed → AreNoted old after outputs changed
+noted_for old before after paths outputs changed flags same are is noted =
+    subst (λ (l : List Bool). AreNoted old l outputs changed) (sym {A = List Bool} is)
+    (subst (λ (l : List Bool). AreNoted l flags outputs changed) same (subst (λ (l : List ℕ). AreNoted before flags l changed) are noted))

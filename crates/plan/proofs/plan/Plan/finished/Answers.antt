@@ -12,6 +12,8 @@ use Rattle.plan.specs.Planned.{IsPlanned}
 use Rattle.plan.proofs.Stepping.{sets_same, waits_same, counted_next, ahead_sound, ahead_complete, over_same, IsHalf, half_of}
 use Rattle.plan.proofs.Passing.{half_after, pooled_after, loading_after, loading_next, settling_alone, settling}
 use Rattle.plan.proofs.Ending.{stood, within, tallied_well, tallied_failed, some_run, pooled_ended, half_well, half_failed}
+use Rattle.plan.specs.Changed.{IsForEach}
+use Rattle.plan.proofs.Noting.{noted_for}
 use Rattle.plan.proofs.plan.Plan.finished.Goals as goal
 
 pub invariant_of-self-clause-sets : goal.invariant_of-self-clause-sets
@@ -168,3 +170,18 @@ returns-else-ok-clause-planned c = λ task steps at lawful next.
       settled = half.settled;
       runs = half.runs;
     }
+
+pub note_changes-requires-clause-fits : goal.note_changes-requires-clause-fits
+note_changes-requires-clause-fits c = subst (λ (l : List ℕ). IsForEach c.args.changed l) (sym {A = List ℕ} c.outputs.ensures) c.requires.flags
+
+pub returns-then-ok-clause-flags : goal.returns-then-ok-clause-flags
+returns-then-ok-clause-flags c =
+    let plan = c.args.self.now in
+    let size : length c.note_changes.new.flags ≡ plan.changed.len = omega (arith, c.note_changes.ensures.length, ap (λ (l : List Bool). length l) c.deref_mut.ensures.value, plan.changed.ok.0) in
+    noted_for plan.changed.items c.deref_mut.result.now _ c.outputs.result.now _ c.args.changed c.note_changes.new.flags c.deref_mut.ensures.value c.outputs.ensures (ap (λ v. v.items) c.settle.ensures.rest.changed ∙ with_items_is plan.changed c.note_changes.new.flags size) c.note_changes.ensures.flags
+
+pub returns-else-ok-clause-flags : goal.returns-else-ok-clause-flags
+returns-else-ok-clause-flags c =
+    let plan = c.args.self.now in
+    let size : length c.note_changes.new.flags ≡ plan.changed.len = omega (arith, c.note_changes.ensures.length, ap (λ (l : List Bool). length l) c.deref_mut.ensures.value, plan.changed.ok.0) in
+    noted_for plan.changed.items c.deref_mut.result.now _ c.outputs.result.now _ c.args.changed c.note_changes.new.flags c.deref_mut.ensures.value c.outputs.ensures (with_items_is plan.changed c.note_changes.new.flags size) c.note_changes.ensures.flags
