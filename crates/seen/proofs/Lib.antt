@@ -5,6 +5,7 @@ pub mod Looks
 pub mod Making
 pub mod Starting
 pub mod Answered
+pub mod Asked
 pub mod Faith
 pub mod Already
 pub mod SmallOne

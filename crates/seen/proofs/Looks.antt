@@ -13,7 +13,7 @@ use Rattle.seen.specs.Beginning.{counts_at, started_by}
 use Rattle.seen.specs.Begun.{Begun, BeginsTold, GoesOn, since, told_world}
 use Rattle.seen.specs.Looking.{looked_at, looked_by, looked_own, looked_there}
 use Rattle.seen.specs.Makers.{maker_of}
-use Rattle.seen.specs.Measured.{measured_at, read_at}
+use Rattle.seen.specs.Measured.{measure_of, measured_at, read_at}
 use Rattle.seen.specs.Own.{is_own}
 use Rattle.seen.specs.Reading.{content_counted, measure_in}
 use Rattle.seen.proofs.Seeing.{content_own, looked_told}
@@ -63,21 +63,21 @@ module _ (b : Begun) (k : Counts) (x y : World) (p : List ℕ) (counted : (file 
   then_told file = ap (λ (s : Option ℕ). told_file b.telling.counts s p file) (sym started)
 
   counts_told : (begun : Bool) (l : Looked) (file : Option File) → begun ≡ true → l ≡ looked_by begun k p (measured_at file) → l.counts ≡ stamp_of (told_then b.telling (since b x) p file)
-  counts_told begun l file yes is =
-      ap (λ (it : Looked). it.counts) (is ∙ ap (λ (bb : Bool). looked_by bb k p (measured_at file)) yes)
+  counts_told begun l file begun_so is =
+      ap (λ (it : Looked). it.counts) (is ∙ ap (λ (bb : Bool). looked_by bb k p (measured_at file)) begun_so)
       ∙ (looked_told k p b.telling counted file ∙ ap stamp_of (then_told file))
 
   pub stamp_seen : (begun : Bool) (found : Option Measure) (l : Looked) → begun ≡ true → l ≡ looked_by begun k p found
       → Sees (λ history. measured_at (file_at history p)) found x.history y.history
       → Sees (λ history. stamp_of (told_then b.telling (since b x) p (file_at history p))) l.counts x.history y.history
-  stamp_seen begun found l yes is sees = record {
+  stamp_seen begun found l begun_so is sees = record {
     earlier = sees.earlier;
     later = sees.later;
     grows = sees.grows;
-    is = counts_told begun l (file_at (x.history ++ sees.earlier) p) yes (is ∙ ap (looked_by begun k p) sees.is);
+    is = counts_told begun l (file_at (x.history ++ sees.earlier) p) begun_so (is ∙ ap (looked_by begun k p) sees.is);
   }
 
-  by_counts : (counts : Option ℕ) (file : File) → content_counted counts (Some (file.content, _)) ≡ content_of (under counts file.content)
+  by_counts : (counts : Option ℕ) (file : File) → content_counted counts (Some (file.content, measure_of file)) ≡ content_of (under counts file.content)
   by_counts None file = refl
   by_counts (Some stamp) file = refl
 
@@ -101,14 +101,14 @@ module _ (b : Begun) (k : Counts) (x y : World) (p : List ℕ) (counted : (file 
   pub content_seen : (begun : Bool) (found : Option (List ℕ × Measure)) (l : Looked) → begun ≡ true → l ≡ looked_by begun k p (measure_in found)
       → Sees (λ history. read_at (file_at history p)) found x.history y.history
       → Sees (λ history. content_of (told_then b.telling (since b x) p (file_at history p))) (content_counted l.counts found) x.history y.history
-  content_seen begun found l yes is sees =
+  content_seen begun found l begun_so is sees =
       let file : Option File = file_at (x.history ++ sees.earlier) p in
       record {
         earlier = sees.earlier;
         later = sees.later;
         grows = sees.grows;
         is = ap (content_counted l.counts) sees.is
-            ∙ content_told l.counts file (counts_told begun l file yes (is ∙ ap (looked_by begun k p) (ap measure_in sees.is ∙ measured_read file)));
+            ∙ content_told l.counts file (counts_told begun l file begun_so (is ∙ ap (looked_by begun k p) (ap measure_in sees.is ∙ measured_read file)));
       }
 
   -- of one of the program's own files

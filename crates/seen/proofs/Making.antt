@@ -65,53 +65,67 @@ has_there : (p : List ℕ) (ps : List (List ℕ)) (q : List ℕ) → bytes_eq q 
 has_there p ps q is = ap (λ (b : Bool). b || has ps p) is
 
 module _ (all : List Output) (job : ℕ) (p : List ℕ) where
+  abbrev rest_with : (makes : Bool) → List ℕ → List (List ℕ) → List (List ℕ)
+  rest_with makes text rest = if makes then text ∷ rest else rest
+
+  apart : (text : List ℕ) → is_job job (maker_in all p) ≡ false → is_job job (maker_in all text) ≡ true → bytes_eq text p ≡ false
+  apart text none makes = by (bytes_eq text p) refl
+    where
+      by : (b : Bool) → bytes_eq text p ≡ b → bytes_eq text p ≡ false
+      by true same = absurd (false≢true (sym none ∙ (ap (λ (q : List ℕ). is_job job (maker_in all q)) (sym ((bytes_eq-Decides text p).0 same)) ∙ makes)))
+      by false other = other
+
+  not_with : (text : List ℕ) (rest : List (List ℕ)) → is_job job (maker_in all p) ≡ false → has rest p ≡ false → has (rest_with (is_job job (maker_in all text)) text rest) p ≡ false
+  not_with text rest none not_there = by (is_job job (maker_in all text)) refl
+    where
+      by : (b : Bool) → is_job job (maker_in all text) ≡ b → has (rest_with (is_job job (maker_in all text)) text rest) p ≡ false
+      by true makes = ap (λ (it : Bool). has (rest_with it text rest) p) makes ∙ (has_there p rest text (apart text none makes) ∙ not_there)
+      by false other = ap (λ (it : Bool). has (rest_with it text rest) p) other ∙ not_there
+
   -- of a path that another edge makes, or none, nothing is made
   made_not : (os : List Output) → is_job job (maker_in all p) ≡ false → has (made_in all os job) p ≡ false
-  made_not [] no = refl
-  made_not (o ∷ os) no = by (is_job job (maker_in all (string_bytes o.text))) refl
+  made_not [] none = refl
+  made_not (o ∷ os) none = not_with (string_bytes o.text) (made_in all os job) none (made_not os none)
+
+  -- what is there stays there
+  with_more : (text : List ℕ) (rest : List (List ℕ)) → has rest p ≡ true → has (rest_with (is_job job (maker_in all text)) text rest) p ≡ true
+  with_more text rest there = by (is_job job (maker_in all text)) (bytes_eq text p) refl refl
     where
-      apart : is_job job (maker_in all (string_bytes o.text)) ≡ true → bytes_eq (string_bytes o.text) p ≡ true → ⊥
-      apart yes same =
-          let one : string_bytes o.text ≡ p = (bytes_eq-Decides (string_bytes o.text) p).0 same in
-          false≢true (sym no ∙ (ap (λ (q : List ℕ). is_job job (maker_in all q)) (sym one) ∙ yes))
+      by : (b here : Bool) → is_job job (maker_in all text) ≡ b → bytes_eq text p ≡ here → has (rest_with (is_job job (maker_in all text)) text rest) p ≡ true
+      by true true makes same = ap (λ (it : Bool). has (rest_with it text rest) p) makes ∙ has_here p rest text same
+      by true false makes other = ap (λ (it : Bool). has (rest_with it text rest) p) makes ∙ (has_there p rest text other ∙ there)
+      by false here other is = ap (λ (it : Bool). has (rest_with it text rest) p) other ∙ there
 
-      there : (b : Bool) → bytes_eq (string_bytes o.text) p ≡ b → is_job job (maker_in all (string_bytes o.text)) ≡ true → has (string_bytes o.text ∷ made_in all os job) p ≡ false
-      there true same yes = absurd (apart yes same)
-      there false other yes = has_there p (made_in all os job) (string_bytes o.text) other ∙ made_not os no
+  -- this text is the path, which the edge makes
+  with_here : (text : List ℕ) (rest : List (List ℕ)) → bytes_eq text p ≡ true → is_job job (maker_in all p) ≡ true → has (rest_with (is_job job (maker_in all text)) text rest) p ≡ true
+  with_here text rest same makes =
+      let one : text ≡ p = (bytes_eq-Decides text p).0 same in
+      ap (λ (it : Bool). has (rest_with it text rest) p) (ap (λ (q : List ℕ). is_job job (maker_in all q)) one ∙ makes) ∙ has_here p rest text same
 
-      by : (b : Bool) → is_job job (maker_in all (string_bytes o.text)) ≡ b → has (made_in all (o ∷ os) job) p ≡ false
-      by true yes = ap (λ (it : Bool). has (if it then string_bytes o.text ∷ made_in all os job else made_in all os job) p) yes ∙ there (bytes_eq (string_bytes o.text) p) refl yes
-      by false none = ap (λ (it : Bool). has (if it then string_bytes o.text ∷ made_in all os job else made_in all os job) p) none ∙ made_not os no
+  found_in : (here : Bool) (text : List ℕ) (rest : List (List ℕ)) (o : ℕ) (later : Option ℕ) (found : ℕ) → bytes_eq text p ≡ here → (if here then Some o else later) ≡ Some found → is_job job (maker_in all p) ≡ true
+      → (later ≡ Some found → has rest p ≡ true) → has (rest_with (is_job job (maker_in all text)) text rest) p ≡ true
+  found_in true text rest o later found same is makes follows = with_here text rest same makes
+  found_in false text rest o later found other is makes follows = with_more text rest (follows is)
 
   -- and of one that this edge makes, it is
-  made_yes : (os : List Output) (found : ℕ) → maker_in os p ≡ Some found → is_job job (maker_in all p) ≡ true → has (made_in all os job) p ≡ true
-  made_yes [] found is yes = absurd (none is)
+  made_here : (os : List Output) (found : ℕ) → maker_in os p ≡ Some found → is_job job (maker_in all p) ≡ true → has (made_in all os job) p ≡ true
+  made_here [] found is makes = absurd (none is)
     where
       none : None ≡ Some found → ⊥
       none e = cc
-  made_yes (o ∷ os) found is yes = by (bytes_eq (string_bytes o.text) p) refl is
-    where
-      by : (b : Bool) → bytes_eq (string_bytes o.text) p ≡ b → (if b then Some o.job else maker_in os p) ≡ Some found → has (made_in all (o ∷ os) job) p ≡ true
-      by true same so =
-          let one : string_bytes o.text ≡ p = (bytes_eq-Decides (string_bytes o.text) p).0 same in
-          let makes : is_job job (maker_in all (string_bytes o.text)) ≡ true = ap (λ (q : List ℕ). is_job job (maker_in all q)) one ∙ yes in
-          ap (λ (it : Bool). has (if it then string_bytes o.text ∷ made_in all os job else made_in all os job) p) makes ∙ has_here p (made_in all os job) (string_bytes o.text) same
-      by false other so = later (is_job job (maker_in all (string_bytes o.text))) refl (made_yes os found so yes)
-        where
-          later : (b : Bool) → is_job job (maker_in all (string_bytes o.text)) ≡ b → has (made_in all os job) p ≡ true → has (made_in all (o ∷ os) job) p ≡ true
-          later true makes rest =
-              ap (λ (it : Bool). has (if it then string_bytes o.text ∷ made_in all os job else made_in all os job) p) makes ∙ (has_there p (made_in all os job) (string_bytes o.text) other ∙ rest)
-          later false makes rest = ap (λ (it : Bool). has (if it then string_bytes o.text ∷ made_in all os job else made_in all os job) p) makes ∙ rest
+  made_here (o ∷ os) found is makes =
+      found_in (bytes_eq (string_bytes o.text) p) (string_bytes o.text) (made_in all os job) o.job (maker_in os p) found refl is makes (λ so. made_here os found so makes)
 
 some_job : (job : ℕ) (maker : Option ℕ) → is_job job maker ≡ true → (found : ℕ) × (maker ≡ Some found)
-some_job job None yes = absurd (false≢true yes)
-some_job job (Some found) yes = (found, refl)
+some_job job None makes = absurd (false≢true makes)
+some_job job (Some found) makes = (found, refl)
 
 made_has : (all : List Output) (job : ℕ) (p : List ℕ) → has (made_in all all job) p ≡ is_job job (maker_in all p)
-made_has all job p = elim (cases_Bool (is_job job (maker_in all p))) [
-  | inl yes ↦ (let found = some_job job (maker_in all p) yes in made_yes all job p all found.0 found.1 yes ∙ sym yes)
-  | inr no ↦ made_not all job p all no ∙ sym no
-]
+made_has all job p = by (is_job job (maker_in all p)) refl
+  where
+    by : (b : Bool) → is_job job (maker_in all p) ≡ b → has (made_in all all job) p ≡ is_job job (maker_in all p)
+    by true makes = (let found = some_job job (maker_in all p) makes in made_here all job p all found.0 found.1 makes ∙ sym makes)
+    by false none = made_not all job p all none ∙ sym none
 
 -- so it is where all is listed
 or_none : (m : Option ℕ) → option_or m None ≡ m

@@ -1,6 +1,7 @@
 -- What calls that only look leave, one after another.
-use Rattle.std.specs.Prelude.{◌≡◌, ◌⊎◌, Bool, Result, Err, OnOk, OnErr}
+use Rattle.std.specs.Prelude.{◌≡◌, ◌⊎◌, Bool, Result, Ok, Err, OnOk, OnErr}
 use Rattle.model.specs.declared.fault.SiteFault.{SiteFault}
+use Rattle.model.specs.declared.fault.SiteFault.TheVariants.{Memory}
 use Rattle.model.specs.World.{World}
 use Rattle.model.specs.Calls.{HasCause, KeepsWait, OnlyLooks}
 use Rattle.theory.specs.Seen.{Unrefused}
@@ -21,3 +22,8 @@ pub record Refuses (tells : Bool) (old new : World) (fault : SiteFault) : Type 0
   pub looks : OnlyLooks tells old new
   pub waits : KeepsWait old new
   pub cause : HasCause {T = Unit {0}} old new (Err fault)
+
+-- the fault of a call; want of memory where it gave none
+abbrev pub fault_of : {T : Type 0} → Result T SiteFault → SiteFault
+fault_of (Ok value) = Memory
+fault_of (Err fault) = fault

@@ -25,6 +25,7 @@ pub struct Known {
 impl Known {
     ghost use Rattle.std.specs.Prelude.{◌≡◌, [], OnOk};
     ghost use Rattle.std.specs.Option.{option_map};
+    ghost use Rattle.model.specs.Graph.{has};
     ghost use Rattle.seen_log.specs.declared.note.Kind.TheVariants.{Made};
     ghost use Rattle.seen.specs.Noting.{Grows, LinesOf, UnlessSettled, is_marked, is_settled};
 
@@ -135,8 +136,15 @@ impl Known {
     {
         match last {
             Some(last) => self.is_marked(last.place),
-            None => self.fresh.number_of(path).is_some(),
+            None => self.is_fresh(path),
         }
+    }
+
+    /// Whether the path was noted in this build.
+    fn is_fresh(&self, path: &str) -> bool
+        ensures { result ≡ has self.now.fresh path.now }
+    {
+        self.fresh.number_of(path).is_some()
     }
 
     /// Whether what the record with this place notes was asked for.

@@ -61,6 +61,13 @@ impl Makers {
         })
     }
 
+    /// How many edges there are.
+    pub fn count(&self) -> usize
+        ensures { result ≡ self.now.jobs }
+    {
+        self.jobs
+    }
+
     /// Puts what is listed into the table.
     fn settle(&mut self) -> Result<(), AllocError>
         ensures same { MakesSame self.old self.new }

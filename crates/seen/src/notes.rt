@@ -16,7 +16,6 @@ use paths::{Manifest, Paths};
 use seen_log::Log;
 use site::SiteFault;
 use std::alloc::{AllocError, Global};
-use text::Bytes;
 
 /// What a build begins with.
 #[derive(Drop)]
@@ -82,7 +81,10 @@ pub fn read_by<S: Measured>(
     let own = Own::beside(alloc, log)?;
     let start = last_start(site, &own)?;
     let content = site.read(own.seen.as_str())?;
-    Ok(entry_of(alloc, makers, own, start, content.as_ref())?)
+    match content {
+        Some(content) => Ok(entry_of(alloc, makers, own, start, content.as_slice())?),
+        None => Ok(entry_of(alloc, makers, own, start, &[])?),
+    }
 }
 
 /// The stamp of the last start, by the file of ticks; what time it is where there is no such file.
@@ -96,21 +98,17 @@ fn last_start<S: Measured>(site: &mut S, own: &Own) -> Result<u64, SiteFault>
     }
 }
 
-/// What is known where the file of the notes holds this, behind a start of this stamp.
+/// What is known where the file of the notes holds this text, behind a start of this stamp.
 fn entry_of(
     alloc: Global,
     makers: Makers,
     own: Own,
     start: u64,
-    content: Option<&Bytes>,
+    text: &[u8],
 ) -> Result<Entry, AllocError>
     ensures { AreJobs makers → makers.table.entries ≡ [] → IfOk result (λ entry. IsUnbegun entry.counts) }
 {
-    let text = match content {
-        Some(bytes) => bytes.as_slice(),
-        None => &[],
-    };
-    let starts = no_starts(alloc, makers.jobs)?;
+    let starts = no_starts(alloc, makers.count())?;
     let (notes, tail) = Log::parse(alloc, text)?;
     let base = base_of(alloc, text, &notes, tail)?;
     let number = next_number(start, notes.greatest());

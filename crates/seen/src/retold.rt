@@ -7,6 +7,7 @@ ghost use Rattle.seen_law.specs.Retold.{none_started, started_after};
 ghost use Rattle.seen.specs.Beginning.{counts_at, started_by};
 ghost use Rattle.seen.specs.Begun.{BeginsTold, GoesOn, since, told_world};
 ghost use Rattle.seen.specs.Makers.{is_job, maker_of};
+ghost use Rattle.seen.specs.Asking.{fault_of};
 
 use crate::answer::{Looked, content_counted, measure_in};
 use crate::beginning::Beginning;
@@ -98,9 +99,10 @@ impl<S: Measured, B: Beginning> Retold<S, B> {
     /// What is known when a build begins, where commands make this.
     pub fn enter(&mut self, alloc: Global, makers: Makers, log: &str) -> Result<Entry, SiteFault>
         requires { (S.world self.old.site).stopped ≡ false }
-        ensures asks { Asks S.tells (S.world self.old.site) (S.world self.new.site) result }
+        ensures asks { Asks S.tells (told_world S.tells B.begun (S.world self.old.site)) (told_world S.tells B.begun (S.world self.new.site)) result }
         ensures one { self.new.is_for_one ≡ self.old.is_for_one }
     {
+        looks_are_told();
         read_by(alloc, &mut self.site, makers, log)
     }
 
@@ -205,21 +207,17 @@ impl<S: Measured, B: Beginning> Retold<S, B> {
         ensures one { self.new.is_for_one ≡ self.old.is_for_one }
     {
         looks_are_told();
-        match self.site.stat(path) {
-            Ok(_) => SiteFault::Memory,
-            Err(fault) => fault,
-        }
+        let seen = self.site.stat(path);
+        fault_of(seen)
     }
 
     /// Why the notes cannot be read.
     pub fn refuse_read(&mut self) -> SiteFault
-        ensures refused { Refuses S.tells (told_world S.tells B.begun (S.world self.old.site)) (told_world S.tells B.begun (S.world self.new.site)) result }
+        ensures { Refuses S.tells (told_world S.tells B.begun (S.world self.old.site)) (told_world S.tells B.begun (S.world self.new.site)) result }
     {
         looks_are_told();
-        match self.site.read(self.known.own.seen.as_str()) {
-            Ok(_) => SiteFault::Memory,
-            Err(fault) => fault,
-        }
+        let content = self.site.read(self.known.own.seen.as_str());
+        fault_of(content)
     }
 
     /// What one of the program's own files holds.
@@ -383,5 +381,15 @@ impl<S: Measured, B: Beginning> Site for Retold<S, B> {
 
     fn events(&self) -> &[Event] {
         self.site.events()
+    }
+}
+
+/// The fault of a call; want of memory where it gave none.
+fn fault_of<T: Drop>(call: Result<T, SiteFault>) -> SiteFault
+    ensures { result ≡ fault_of call }
+{
+    match call {
+        Ok(_) => SiteFault::Memory,
+        Err(fault) => fault,
     }
 }

@@ -50,7 +50,7 @@ pub struct Seen<S: Measured, B: Beginning> {
 
 impl<S: Measured, B: Beginning> Seen<S, B> {
     ghost use Rattle.seen.specs.First.{NotesFirst};
-    ghost use Rattle.seen.specs.Noting.{Grows, PutsLines};
+    ghost use Rattle.seen.specs.Noting.{Grows, MayReplace, PutsLines};
 
     /// The site over this one, for a build that begins with this. This takes no memory.
     pub fn over(alloc: Global, site: S, entry: Entry) -> Seen<S, B>
@@ -102,7 +102,7 @@ impl<S: Measured, B: Beginning> Seen<S, B> {
     fn begin(&mut self, log: &str) -> Result<(), SiteFault>
         requires running { (S.world self.old.retold.site).stopped ≡ false }
         requires many { self.old.retold.is_for_one ≡ false }
-        ensures { Asks S.tells (S.world self.old.retold.site) (S.world self.new.retold.site) result }
+        ensures { Asks S.tells (told_world S.tells B.begun (S.world self.old.retold.site)) (told_world S.tells B.begun (S.world self.new.retold.site)) result }
     {
         let makers = self.next.take().unwrap_or(Makers::new(self.alloc));
         let Entry { counts, base, .. } = self.retold.enter(self.alloc, makers, log)?;
@@ -123,9 +123,10 @@ impl<S: Measured, B: Beginning> Seen<S, B> {
     }
 
     /// Notes what is to be noted before these bytes go behind the file at this path, and puts the lines behind the notes.
+    #[tactic(auto, using(crate::proofs::Answered::asks_both, crate::proofs::Answered::asks_fault))]
     fn note_before(&mut self, path: &str, bytes: &[u8]) -> Result<(), SiteFault>
         ensures asks { Asks S.tells (told_world S.tells B.begun (S.world self.old.retold.site)) (told_world S.tells B.begun (S.world self.new.retold.site)) result }
-        ensures notes { OnOk result (NotesFirst S.tells self.old.retold.known.own.seen self.old.known.lines.items (S.world self.old.retold.site) (S.world self.new.retold.site)) }
+        ensures notes { OnOk result (NotesFirst S.tells B.begun self.old.retold.known.own.seen self.old.known.lines.items (S.world self.old.retold.site) (S.world self.new.retold.site)) }
         ensures left { OnOk result (self.new.known.lines.items ≡ []) }
     {
         self.ask_for(path, bytes)?;
@@ -134,8 +135,9 @@ impl<S: Measured, B: Beginning> Seen<S, B> {
     }
 
     /// Asks for what is to be noted before these bytes go behind the file at this path.
+    #[tactic(auto, using(crate::proofs::Answered::asks_none, crate::proofs::Answered::refused_asks, crate::proofs::Growing::grows_none, crate::proofs::Putting::ok_never))]
     fn ask_for(&mut self, path: &str, bytes: &[u8]) -> Result<(), SiteFault>
-        ensures asks { Asks S.tells (S.world self.old.retold.site) (S.world self.new.retold.site) result }
+        ensures asks { Asks S.tells (told_world S.tells B.begun (S.world self.old.retold.site)) (told_world S.tells B.begun (S.world self.new.retold.site)) result }
         ensures grows { OnOk result (Grows self.old.known.lines.items self.new.known.lines.items) }
         ensures own { self.new.retold.known.own ≡ self.old.retold.known.own }
     {
@@ -153,8 +155,9 @@ impl<S: Measured, B: Beginning> Seen<S, B> {
     }
 
     /// Notes what is to be noted before the record of these fields goes behind the file at this path.
+    #[tactic(auto, using(crate::proofs::Answered::asks_none, crate::proofs::Answered::refused_asks, crate::proofs::Growing::grows_none, crate::proofs::Putting::ok_never))]
     fn note_record(&mut self, path: &str, fields: &[Field<'_>]) -> Result<(), SiteFault>
-        ensures asks { Asks S.tells (S.world self.old.retold.site) (S.world self.new.retold.site) result }
+        ensures asks { Asks S.tells (told_world S.tells B.begun (S.world self.old.retold.site)) (told_world S.tells B.begun (S.world self.new.retold.site)) result }
         ensures grows { OnOk result (Grows self.old.known.lines.items self.new.known.lines.items) }
         ensures own { self.new.retold.known.own ≡ self.old.retold.known.own }
     {
@@ -167,8 +170,9 @@ impl<S: Measured, B: Beginning> Seen<S, B> {
     }
 
     /// The command that makes these outputs is about to start.
+    #[tactic(auto, using(crate::proofs::Answered::asks_none, crate::proofs::Answered::refused_asks, crate::proofs::Growing::grows_none, crate::proofs::Putting::ok_never))]
     fn note_start(&mut self, path: &str, outputs: &[Field<'_>]) -> Result<(), SiteFault>
-        ensures asks { Asks S.tells (S.world self.old.retold.site) (S.world self.new.retold.site) result }
+        ensures asks { Asks S.tells (told_world S.tells B.begun (S.world self.old.retold.site)) (told_world S.tells B.begun (S.world self.new.retold.site)) result }
         ensures known { self.new.known ≡ self.old.known }
         ensures own { self.new.retold.known.own ≡ self.old.retold.known.own }
     {
@@ -181,8 +185,9 @@ impl<S: Measured, B: Beginning> Seen<S, B> {
     }
 
     /// Asks for these outputs, of a command that was started under this stamp and has ended well, and notes them.
+    #[tactic(auto, using(crate::proofs::Answered::asks_none, crate::proofs::Answered::asks_more, crate::proofs::Answered::asks_fail, crate::proofs::Answered::asks_no_room, crate::proofs::Growing::grows_none, crate::proofs::Growing::grows_then))]
     fn ask_made(&mut self, start: u64, outputs: &[Field<'_>]) -> Result<(), SiteFault>
-        ensures asks { Asks S.tells (S.world self.old.retold.site) (S.world self.new.retold.site) result }
+        ensures asks { Asks S.tells (told_world S.tells B.begun (S.world self.old.retold.site)) (told_world S.tells B.begun (S.world self.new.retold.site)) result }
         ensures grows { OnOk result (Grows self.old.known.lines.items self.new.known.lines.items) }
         ensures own { self.new.retold.known.own ≡ self.old.retold.known.own }
     {
@@ -195,8 +200,9 @@ impl<S: Measured, B: Beginning> Seen<S, B> {
     }
 
     /// Asks for these paths, which a command told that it read, as far as that was not done in this build, and notes them.
+    #[tactic(auto, using(crate::proofs::Answered::asks_none, crate::proofs::Answered::asks_both, crate::proofs::Answered::asks_fault, crate::proofs::Growing::grows_none, crate::proofs::Growing::grows_then))]
     fn ask_read(&mut self, paths: &[Field<'_>]) -> Result<(), SiteFault>
-        ensures asks { Asks S.tells (S.world self.old.retold.site) (S.world self.new.retold.site) result }
+        ensures asks { Asks S.tells (told_world S.tells B.begun (S.world self.old.retold.site)) (told_world S.tells B.begun (S.world self.new.retold.site)) result }
         ensures grows { OnOk result (Grows self.old.known.lines.items self.new.known.lines.items) }
         ensures own { self.new.retold.known.own ≡ self.old.retold.known.own }
     {
@@ -206,8 +212,9 @@ impl<S: Measured, B: Beginning> Seen<S, B> {
         Ok(())
     }
 
+    #[tactic(auto, using(crate::proofs::Answered::asks_none, crate::proofs::Answered::asks_more, crate::proofs::Answered::asks_fail, crate::proofs::Answered::asks_no_room, crate::proofs::Growing::grows_none, crate::proofs::Growing::grows_then))]
     fn ask_once(&mut self, path: &str) -> Result<(), SiteFault>
-        ensures asks { Asks S.tells (S.world self.old.retold.site) (S.world self.new.retold.site) result }
+        ensures asks { Asks S.tells (told_world S.tells B.begun (S.world self.old.retold.site)) (told_world S.tells B.begun (S.world self.new.retold.site)) result }
         ensures grows { OnOk result (Grows self.old.known.lines.items self.new.known.lines.items) }
         ensures own { self.new.retold.known.own ≡ self.old.retold.known.own }
     {
@@ -220,7 +227,22 @@ impl<S: Measured, B: Beginning> Seen<S, B> {
         Ok(())
     }
 
+    /// Puts the text in the place of the notes that is to be there before a line is put behind them, if there is one.
+    #[tactic(auto, using(crate::proofs::Answered::asks_none, crate::proofs::Answered::asks_call, crate::proofs::Putting::may_not, crate::proofs::Putting::may_replace))]
+    fn put_base(&mut self) -> Result<(), SiteFault>
+        ensures asks { Asks S.tells (told_world S.tells B.begun (S.world self.old.retold.site)) (told_world S.tells B.begun (S.world self.new.retold.site)) result }
+        ensures before { OnOk result (MayReplace S.tells self.old.retold.known.own.seen (S.world self.old.retold.site) (S.world self.new.retold.site)) }
+        ensures known { self.new.known ≡ self.old.known }
+        ensures own { self.new.retold.known.own ≡ self.old.retold.known.own }
+    {
+        match &self.base {
+            Some(base) => self.retold.put_anew(base.as_slice()),
+            None => Ok(()),
+        }
+    }
+
     /// Puts the lines of what was noted behind the notes, if there are some.
+    #[tactic(auto, using(crate::proofs::Answered::asks_none, crate::proofs::Answered::asks_more, crate::proofs::Answered::asks_fail, crate::proofs::Answered::asks_fault, crate::proofs::Putting::puts_none, crate::proofs::Putting::puts_them))]
     fn put_lines(&mut self) -> Result<(), SiteFault>
         ensures asks { Asks S.tells (told_world S.tells B.begun (S.world self.old.retold.site)) (told_world S.tells B.begun (S.world self.new.retold.site)) result }
         ensures puts { OnOk result (PutsLines S.tells self.old.retold.known.own.seen self.old.known.lines.items (S.world self.old.retold.site) (S.world self.new.retold.site)) }
@@ -229,9 +251,7 @@ impl<S: Measured, B: Beginning> Seen<S, B> {
         if self.known.lines.is_empty() {
             return Ok(());
         }
-        if let Some(base) = &self.base {
-            self.retold.put_anew(base.as_slice())?;
-        }
+        self.put_base()?;
         self.base = None;
         self.retold.put_behind(self.known.lines.as_slice())?;
         self.known.let_go();
@@ -280,7 +300,7 @@ impl<S: Measured, B: Beginning> Site for Seen<S, B> {
         ensures waits { KeepsWait (told_world S.tells B.begun (S.world self.old.retold.site)) (told_world S.tells B.begun (S.world self.new.retold.site)) }
         ensures appends { OnOk result (Appends S.tells path.now bytes.now (told_world S.tells B.begun (S.world self.old.retold.site)) (told_world S.tells B.begun (S.world self.new.retold.site))) }
         ensures err { OnErr result (AppendsOrNot S.tells path.now bytes.now (told_world S.tells B.begun (S.world self.old.retold.site)) (told_world S.tells B.begun (S.world self.new.retold.site))) }
-        ensures noted { OnOk result (IsNotedFirst S.tells self.old.retold.known.own.seen self.old.known.lines.items path.now bytes.now (S.world self.old.retold.site) (S.world self.new.retold.site)) }
+        ensures noted { OnOk result (IsNotedFirst S.tells B.begun self.old.retold.known.own.seen self.old.known.lines.items path.now bytes.now (S.world self.old.retold.site) (S.world self.new.retold.site)) }
         ensures left { OnOk result (self.new.known.lines.items ≡ []) }
     {
         self.note_before(path, bytes)?;

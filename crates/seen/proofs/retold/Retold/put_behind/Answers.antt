@@ -20,5 +20,5 @@ invariant_of-self g c =
     }
 
 pub returns-clause-looks : goal.returns-clause-looks
-returns-clause-looks g c = hidden_appended g.S.Texts.tells g.B.Beginning.begun (g.S.Texts.world c.args.self.now.site) (g.S.Texts.world c.append.new.self) c.args.self.now.so_far c.args.self.now.begins c.looks_are_told.ensures c.as_str.result.now c.args.lines.now (λ is. c.args.self.now.hidden is c.as_str.result.now ∙ own_bytes c.args.self.now.known.own.seen c.as_str.result.now c.as_str.ensures.value)
+returns-clause-looks g c = hidden_appended g.S.Texts.tells g.B.Beginning.begun (g.S.Texts.world c.args.self.now.site) (g.S.Texts.world c.append.new.self) c.args.self.now.so_far c.args.self.now.begins c.looks_are_told.ensures c.as_str.result.now c.args.lines.now (λ is. c.args.self.now.hidden is c.as_str.result.now ∙ own_bytes c.args.self.now.known.own.seen c.as_str.result.now c.as_str.ensures)
     c.append.result c.append.ensures.appends c.append.ensures.err

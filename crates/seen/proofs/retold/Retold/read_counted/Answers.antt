@@ -2,7 +2,8 @@ use Rattle.std.proofs.Common.{◌∙◌, sym, ap, subst, Option}
 use Rattle.std.specs.Prelude.{List, ℕ}
 use Rattle.model.specs.Calls.{Sees}
 use Rattle.model.specs.World.{content_of, file_at}
-use Rattle.seen.specs.Begun.{told_world}
+use Rattle.seen.specs.Begun.{since}
+use Rattle.seen_law.specs.Laws.{told_then}
 use Rattle.seen.specs.Looking.{looked_by}
 use Rattle.seen.proofs.Seeing.{counted_same, hidden_same, makes_same, room_same, started_same}
 use Rattle.seen.proofs.Looks.{content_on, content_seen}

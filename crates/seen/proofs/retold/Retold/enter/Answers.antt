@@ -1,0 +1,23 @@
+use Rattle.std.proofs.Common.{◌∙◌}
+use Rattle.seen.proofs.Asked.{asks_on}
+use Rattle.seen.proofs.Since.{looks_stay}
+use Rattle.seen.proofs.retold.Retold.enter.Goals as goal
+
+-- nothing else is known
+pub invariant_of-self : goal.invariant_of-self
+invariant_of-self g c =
+    let stays = looks_stay g.S.Texts.tells g.B.Beginning.begun (g.S.Texts.world c.args.self.now.site) (g.S.Texts.world c.read_by.new.site) c.args.self.now.so_far c.read_by.ensures.asks.looks in
+    record {
+      one = c.args.self.now.one;
+      begun = c.args.self.now.begun;
+      counted = c.args.self.now.counted;
+      hidden = c.args.self.now.hidden;
+      makes = c.args.self.now.makes;
+      room = c.args.self.now.room;
+      begins = c.args.self.now.begins;
+      so_far = stays.so_far;
+      started = λ is p. stays.started is p ∙ c.args.self.now.started is p;
+    }
+
+pub returns-clause-asks : goal.returns-clause-asks
+returns-clause-asks g c = asks_on g.S.Texts.tells g.B.Beginning.begun (g.S.Texts.world c.args.self.now.site) (g.S.Texts.world c.read_by.new.site) c.args.self.now.so_far c.args.self.now.begins c.looks_are_told.ensures c.read_by.result c.read_by.ensures.asks

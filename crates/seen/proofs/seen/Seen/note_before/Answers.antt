@@ -1,0 +1,11 @@
+use Rattle.std.proofs.Common.{subst}
+use Rattle.seen.specs.declared.own.Own.{Own}
+use Rattle.seen.specs.Noting.{PutsLines}
+use Rattle.seen.proofs.Putting.{first_noted}
+use Rattle.seen.proofs.seen.Seen.note_before.Goals as goal
+
+pub returns-clause-notes : goal.returns-clause-notes
+returns-clause-notes g c =
+    first_noted g.S.Texts.tells g.B.Beginning.begun c.args.self.now.retold.known.own.seen c.args.self.now.known.lines.items c.ask_for.new.self.known.lines.items (g.S.Texts.world c.args.self.now.retold.site)
+    (g.S.Texts.world c.ask_for.new.self.retold.site) (g.S.Texts.world c.put_lines.new.self.retold.site) c.in_ok-ask_for.ensures.asks.looks c.in_ok-ask_for.ensures.grows
+    (subst (λ (o : Own). PutsLines g.S.Texts.tells o.seen c.ask_for.new.self.known.lines.items (g.S.Texts.world c.ask_for.new.self.retold.site) (g.S.Texts.world c.put_lines.new.self.retold.site)) c.in_ok-ask_for.ensures.own c.in_ok-put_lines.ensures.puts)
