@@ -3,6 +3,7 @@ use Rattle.std.specs.Prelude.{◌≡◌, ℕ, ◌≤◌, ◌<◌, ◌⊎◌, suc
 use Rattle.model.specs.declared.fault.SiteFault.{SiteFault}
 use Rattle.host.specs.declared.clock.Clock.{Clock}
 use Rattle.host.specs.declared.clock.Touches.{Touches}
+use Rattle.host.specs.declared.disk.Found.{Found}
 use Rattle.host.specs.declared.disk.Standing.{Standing}
 
 -- after a stamp was told
@@ -20,6 +21,12 @@ abbrev pub stamp_in : Result (Option Standing) SiteFault → Result (Option ℕ)
 stamp_in (Ok (Some standing)) = Ok (Some standing.stamp)
 stamp_in (Ok None) = Ok None
 stamp_in (Err fault) = Err fault
+
+-- and of one by which a file is read
+abbrev pub stamp_read : Result (Option Found) SiteFault → Result (Option ℕ) SiteFault
+stamp_read (Ok (Some found)) = Ok (Some found.standing.stamp)
+stamp_read (Ok None) = Ok None
+stamp_read (Err fault) = Err fault
 
 -- the start's stamp is that of the second touch, and it is noted that what is written from now on may get the same
 pub record IsNoted (touches : Touches) (start : ℕ) (after : Clock) : Type 0 where

@@ -56,6 +56,13 @@ pub struct Standing {
     pub placed: u64,
 }
 
+/// A file that was read: what it holds, and what stands there.
+#[derive(Drop)]
+pub struct Found {
+    pub content: Bytes,
+    pub standing: Standing,
+}
+
 /// A file that is kept open.
 #[derive(Drop)]
 struct Kept {
@@ -89,22 +96,45 @@ impl<'a> Disk<'a> {
     /// A build log, whose path ends in `.nj_log`, is locked before, together with other builds that read it or put records behind it, and
     /// is so from then on. It is waited for while another build replaces it, for ten seconds at most.
     pub fn read(&mut self, path: &str) -> io::Result<Option<Bytes>> {
-        let found = if is_log(path) {
-            self.logs.read(path)
-        } else {
-            self.content(path)
+        if is_log(path) {
+            return self.read_log(path);
+        }
+        match unless_absent(self.found(path))? {
+            Some(found) => Ok(Some(found.content)),
+            None => Ok(None),
+        }
+    }
+
+    /// The same, and what stands there, by one look at the file that is read. A log is looked at by its path, once it was read.
+    pub fn read_found(&mut self, path: &str) -> io::Result<Option<Found>> {
+        if !is_log(path) {
+            return unless_absent(self.found(path));
+        }
+        let Some(content) = self.read_log(path)? else {
+            return Ok(None);
         };
-        match unless_absent(found)? {
+        match self.measure(path)? {
+            Some(standing) => Ok(Some(Found { content, standing })),
+            None => Ok(None),
+        }
+    }
+
+    fn read_log(&mut self, path: &str) -> io::Result<Option<Bytes>> {
+        match unless_absent(self.logs.read(path))? {
             Some(content) => Ok(Some(Bytes::from_vec(content))),
             None => Ok(None),
         }
     }
 
-    /// What the file at the path holds.
-    fn content(&self, path: &str) -> io::Result<Vec<u8>> {
+    /// What the file at the path holds, and what stood there when it was opened.
+    fn found(&self, path: &str) -> io::Result<Found> {
         let file = File::open(self.rt, path)?;
-        let size = file.metadata()?.len();
-        content_of(self.alloc, &file, size)
+        let metadata = file.metadata()?;
+        let content = content_of(self.alloc, &file, metadata.len())?;
+        Ok(Found {
+            content: Bytes::from_vec(content),
+            standing: standing_of(&metadata),
+        })
     }
 
     /// The stamp of the file at the path, or nothing where there is no file, as at a path that no file can have. A depfile may
@@ -127,11 +157,7 @@ impl<'a> Disk<'a> {
             return Ok(None);
         }
         match unless_absent(found)? {
-            Some(metadata) => Ok(Some(Standing {
-                stamp: stamp_of(&metadata),
-                size: size_of(&metadata),
-                placed: nanos_of(metadata.ctime(), metadata.ctime_nsec()),
-            })),
+            Some(metadata) => Ok(Some(standing_of(&metadata))),
             None => Ok(None),
         }
     }
@@ -415,6 +441,14 @@ fn is_elsewhere(rt: &HostRuntime, path: &str, identity: Identity) -> bool {
 fn touch(file: &File) -> io::Result<u64> {
     file.write_all_at(b".", 0)?;
     Ok(stamp_of(&file.metadata()?))
+}
+
+fn standing_of(metadata: &Metadata) -> Standing {
+    Standing {
+        stamp: stamp_of(metadata),
+        size: size_of(metadata),
+        placed: nanos_of(metadata.ctime(), metadata.ctime_nsec()),
+    }
 }
 
 /// When a file was written last, in nanoseconds since 1970: 0 where that lies before, and the greatest number where it lies

@@ -3,13 +3,13 @@
 ghost use Rattle.std.specs.Prelude.{◌≡◌, ◌≤◌, ℕ, [], true, false, None, IfOk, IfSome, OnOk, OnErr, IsErr, IsOk, IsTrue, Ok};
 ghost use Rattle.model.specs.World.{file_at, runs, stamp_of};
 ghost use Rattle.model.specs.Calls.{HasCause, KeepsWait, NotesWait, OnlyLooks, Sees, Starts, StartsOrNot, Ticks, TicksOrNot};
-ghost use Rattle.host.specs.Clock.{IsStart, clock_after, stamp_in};
+ghost use Rattle.host.specs.Clock.{IsStart, clock_after, stamp_in, stamp_read};
 ghost use Rattle.host.specs.Process.{EndedSo};
 ghost use Rattle.host.specs.World.{world_of, fresh};
 ghost use Rattle.host.specs.declared.clock.Touches.{Touches};
 
 use crate::clock::Clock;
-use crate::disk::{Disk, Standing};
+use crate::disk::{Disk, Found, Standing};
 use crate::files::{Files, Made, Opened};
 use crate::jobs::Jobs;
 use crate::load::{LOAD, load_of};
@@ -336,6 +336,22 @@ impl<'a, W: Write> Host<'a, W> {
             self.clock.tell(standing.stamp);
         }
         Ok(found)
+    }
+
+    /// What the file at the path holds, and what stands there, in one look; or nothing where there is no file.
+    pub fn read_file(&mut self, path: &str) -> Result<Option<Found>, SiteFault>
+        ensures looks { OnlyLooks false (world_of self.old) (world_of self.new) }
+        ensures cause { HasCause (world_of self.old) (world_of self.new) result }
+        ensures waits { KeepsWait (world_of self.old) (world_of self.new) }
+        ensures clock { self.new.clock ≡ clock_after self.old.clock (stamp_read result) }
+    {
+        let found = self.disk.read_found(path);
+        let found = self.noted(path, found)?;
+        let Some(found) = found else {
+            return Ok(None);
+        };
+        self.clock.tell(found.standing.stamp);
+        Ok(Some(found))
     }
 
     /// What time it is, in nanoseconds since 1970; 0 where the clock does not tell it.

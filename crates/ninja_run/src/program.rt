@@ -1,6 +1,6 @@
 //! The run of the program.
 
-ghost use Rattle.std.specs.Prelude.{◌≤◌, IfOk};
+ghost use Rattle.std.specs.Prelude.{◌≡◌, ◌≤◌, false, IfOk};
 
 use crate::told::{self, Telling};
 use builder::{Options, Report};
@@ -17,6 +17,7 @@ use stand_in::{
 use status::Pattern;
 use std::alloc::{AllocError, Global};
 use std::io::Write;
+use std::marker::Brand;
 use std::mem::forget;
 use std::{env, io};
 use text::Text;
@@ -246,8 +247,10 @@ fn build_over<S: Place + Measured + Drop>(
     site: S,
     given: &Given<'_>,
     options: &Options,
-) -> (Ended, Option<Declared>, S) {
-    let mut seen = Seen::new(alloc, site);
+) -> (Ended, Option<Declared>, S)
+    requires { S.tells ≡ false }
+{
+    let mut seen: Seen<S, Brand> = Seen::new(alloc, site);
     let (ended, left) = build_there(alloc, &mut seen, given, options);
     (ended, left, seen.into_site())
 }
@@ -335,8 +338,10 @@ fn due_over<S: Place + Measured + Drop>(
     site: S,
     given: &Given<'_>,
     options: &Options,
-) -> (Result<Due, NoAnswer>, S) {
-    let mut seen = Seen::new(alloc, site);
+) -> (Result<Due, NoAnswer>, S)
+    requires { S.tells ≡ false }
+{
+    let mut seen: Seen<S, Brand> = Seen::new(alloc, site);
     let due = due_there(alloc, &mut seen, given, options);
     (due, seen.into_site())
 }

@@ -1,7 +1,6 @@
 -- Time that goes by before a build, and the build after it.
 use Rattle.std.proofs.Common.{◌≡◌, inr, ℕ, Bool, true, false, IsTrue, List, ◌++◌, Option, refl, sym, subst, ap, ◌∙◌, append_assoc, map}
 use Rattle.std.specs.Option.{option_map}
-use Rattle.std.proofs.lemmas.Bool.{false≢true}
 use Rattle.model.specs.declared.act.Act.{Act}
 use Rattle.model.specs.declared.event.Event.{Event}
 use Rattle.model.specs.declared.event.Moment.{Moment}
@@ -28,6 +27,7 @@ use Rattle.work.specs.declared.report.Report.{Report}
 use Rattle.builder.specs.Asked.{AreTargets}
 use Rattle.builder.specs.Build.{Builds, BuildsFor, IsBuild, WasRead, limits_of}
 use Rattle.work.specs.Loads.{ReadsDyndeps}
+use Rattle.seen.specs.Begun.{Begun, told_world}
 use Rattle.nj_run.specs.Options.{Options as Asked}
 use Rattle.nj_run.specs.Alone.{BuildsAlone, IsBuiltAlone, Passes, WasReadAlone, WasUnreadAlone}
 
@@ -76,14 +76,11 @@ any_own folder = record { build_log = file_in folder build_log_name; deps_log = 
 own_in : (folder : List ℕ) → IsOwnIn (any_own folder) folder
 own_in folder = record { build_log = refl; deps_log = refl; is_log = refl; is_deps = refl; tick = refl; new_log = refl; new_deps = refl; outputs = λ digits are. refl }
 
--- a site that does not tell its files
-pub passes_untold : (tells : Bool) (a b : World) → Passes tells a b → Passes false a b
-passes_untold tells a b passes = record {
-  looks = record { events = passes.looks.events; ticked = passes.looks.ticked; at_start = passes.looks.at_start; history = λ told. absurd (false≢true told) };
-  failures = passes.failures;
-  stopped = passes.stopped;
-  earlier = passes.earlier;
-}
+-- the same as the site over it is told
+pub passes_told : (tells : Bool) (b : Begun) (old new : World) → OnlyLooks tells (told_world tells b old) (told_world tells b new) → Passes tells old new
+    → Passes tells (told_world tells b old) (told_world tells b new)
+passes_told false b old new looks passes = passes
+passes_told true b old new looks passes = record { looks = looks; failures = passes.failures; stopped = passes.stopped; earlier = passes.earlier }
 
 -- it was read, and then time went by
 pub read_passes : (tells : Bool) (options : Options) (old entry read new : World) (reading : Reading) → Passes tells old entry → WasRead tells options entry read reading → Passes tells read new → Passes tells old new
@@ -158,15 +155,20 @@ pub builds_untold : (tells : Bool) (outcome : Act → View → Outcome) (asked :
     → ((later : World) × BuildsAlone tells outcome asked old later report) → (later : World) × BuildsAlone false outcome asked old later report
 builds_untold tells outcome asked old report is built = subst (λ (b : Bool). (later : World) × BuildsAlone b outcome asked old later report) is built
 
-pub builds_from : (outcome : Act → View → Outcome) (asked : Asked) (other old later : World) (report : Report) → other ≡ old
-    → BuildsAlone false outcome asked other later report → (later : World) × BuildsAlone false outcome asked old later report
-builds_from outcome asked other old later report is built = (later, subst (λ (w : World). BuildsAlone false outcome asked w later report) is built)
+pub builds_from : (tells : Bool) (b : Begun) (outcome : Act → View → Outcome) (asked : Asked) (other old later : World) (report : Report) → tells ≡ false → other ≡ old
+    → BuildsAlone tells outcome asked (told_world tells b other) later report → (later : World) × BuildsAlone false outcome asked old later report
+builds_from tells b outcome asked other old later report untold is built = (
+  later,
+  subst (λ (w : World). BuildsAlone false outcome asked w later report) is (subst (λ (t : Bool). BuildsAlone t outcome asked (told_world t b other) later report) untold built),
+)
 
 pub looks_later : (tells : Bool) (old : World) → tells ≡ false → ((later : World) × OnlyLooks tells old later) → (later : World) × OnlyLooks false old later
 looks_later tells old is looks = subst (λ (b : Bool). (later : World) × OnlyLooks b old later) is looks
 
-pub looks_from : (other old later : World) → other ≡ old → OnlyLooks false other later → (later : World) × OnlyLooks false old later
-looks_from other old later is looks = (later, subst (λ (w : World). OnlyLooks false w later) is looks)
+pub looks_from : (tells : Bool) (b : Begun) (other old later : World) → tells ≡ false → other ≡ old → OnlyLooks tells (told_world tells b other) later
+    → (later : World) × OnlyLooks false old later
+looks_from tells b other old later untold is looks =
+    (later, subst (λ (w : World). OnlyLooks false w later) is (subst (λ (t : Bool). OnlyLooks t (told_world t b other) later) untold looks))
 
-pub idle_at : (other old : World) → other ≡ old → IsIdle old.events → IsIdle other.events
-idle_at other old is idle = subst (λ (w : World). IsIdle w.events) (sym is) idle
+pub idle_at : (tells : Bool) (b : Begun) (other old : World) → tells ≡ false → other ≡ old → IsIdle old.events → IsIdle (told_world tells b other).events
+idle_at tells b other old untold is idle = subst (λ (t : Bool). IsIdle (told_world t b other).events) (sym untold) (subst (λ (w : World). IsIdle w.events) (sym is) idle)

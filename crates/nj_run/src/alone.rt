@@ -19,7 +19,7 @@ use graph::Graph;
 use host::Host;
 use log_text::has_format;
 use paths::Manifest;
-use seen::{Measured, Seen};
+use seen::{Beginning, Measured, Seen, looks_go_on};
 use site::Site;
 use std::alloc::Global;
 use std::io::Write;
@@ -75,20 +75,20 @@ impl<'a, W: Write> Alone for Host<'a, W> {
     }
 }
 
-impl<S: Alone + Measured> Alone for Seen<S> {
-    #[tactic(auto, using(crate::proofs::Passing::passes_untold))]
+impl<S: Alone + Measured, B: Beginning> Alone for Seen<S, B> {
     fn enter(&mut self) {
-        self.site.enter();
+        looks_go_on();
+        self.retold.site.enter();
     }
 
-    #[tactic(auto, using(crate::proofs::Passing::passes_untold))]
     fn has_waited(&mut self, folder: &str) -> bool {
-        self.site.has_waited(folder)
+        looks_go_on();
+        self.retold.site.has_waited(folder)
     }
 
     fn learn(&mut self, alloc: Global, manifest: &Manifest, verbose: bool) {
         self.know(manifest);
-        self.site.learn(alloc, manifest, verbose);
+        self.retold.site.learn(alloc, manifest, verbose);
     }
 }
 

@@ -25,6 +25,7 @@ use status::Pattern;
 use std::alloc::{AllocError, Global};
 use std::convert::AsStr;
 use std::io::Write;
+use std::marker::Brand;
 use std::mem::forget;
 use std::{env, io};
 use text::Text;
@@ -164,7 +165,7 @@ fn explain_over<S: Alone + Measured + Drop>(
     if environment.trusts_stamps {
         return explain_by_stamps(alloc, site, asked, environment.pattern);
     }
-    let mut seen = Seen::new(alloc, site);
+    let mut seen: Seen<S, Brand> = Seen::new(alloc, site);
     let explained = explain_on(alloc, &mut seen, asked, environment.pattern);
     (explained, seen.into_site())
 }
@@ -264,7 +265,7 @@ pub(crate) fn build_over<S: Alone + Measured + Drop>(
     if environment.trusts_stamps {
         return build_by_stamps(alloc, site, asked, environment.pattern, noted);
     }
-    let mut seen = Seen::new(alloc, site);
+    let mut seen: Seen<S, Brand> = Seen::new(alloc, site);
     let (report, left) = build_on(alloc, &mut seen, asked, environment.pattern, noted);
     (report, left, seen.into_site())
 }

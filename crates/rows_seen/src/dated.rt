@@ -362,6 +362,17 @@ impl<'a> Measured for Dated<'a> {
         Ok(found)
     }
 
+    fn read_measured(&mut self, path: &str) -> Result<Option<(Bytes, Measure)>, SiteFault> {
+        let placed = self.site.stat(path)?;
+        let found = self.measured(path, placed);
+        let content = self.site.read(path)?;
+        self.pause();
+        match (content, found) {
+            (Some(content), Some(found)) => Ok(Some((content, found))),
+            _ => Ok(None),
+        }
+    }
+
     fn now(&self) -> u64 {
         0
     }

@@ -10,6 +10,7 @@ use seen::Seen;
 use site::Site;
 use std::alloc::{AllocError, Global};
 use std::io;
+use std::marker::Brand;
 use text::Text;
 
 /// How often a history is edited and built.
@@ -78,32 +79,32 @@ impl<'a> Trial<'a> {
     fn try_next(&mut self) -> io::Result<()> {
         self.random = Random::new(self.seed);
         let site = Dated::new(self.alloc, self.source, self.seed.wrapping_mul(3));
-        let mut seen = Seen::new(self.alloc, site);
+        let mut seen: Seen<Dated<'a>, Brand> = Seen::new(self.alloc, site);
         let made = self.make(&mut seen);
         made
     }
 
-    fn make(&mut self, seen: &mut Seen<Dated<'a>>) -> io::Result<()> {
+    fn make(&mut self, seen: &mut Seen<Dated<'a>, Brand>) -> io::Result<()> {
         add(&mut self.counts.histories);
         let graph = self.random.part(self.source.graphs, '\n');
-        begin(&mut seen.site, edges_in(graph))?;
+        begin(&mut seen.retold.site, edges_in(graph))?;
         for _ in 0..ROUNDS {
             self.make_round(seen)?;
         }
-        seen.site.check()?;
-        self.counts.old = self.counts.old.saturating_add(seen.site.given());
+        seen.retold.site.check()?;
+        self.counts.old = self.counts.old.saturating_add(seen.retold.site.given());
         Ok(())
     }
 
-    fn make_round(&mut self, seen: &mut Seen<Dated<'a>>) -> io::Result<()> {
+    fn make_round(&mut self, seen: &mut Seen<Dated<'a>, Brand>) -> io::Result<()> {
         seen.restart();
-        self.change(&mut seen.site)?;
+        self.change(&mut seen.retold.site)?;
         self.ask()?;
         if self.random.one_in(2) {
             self.build_beside(seen)?;
         }
         seen.restart();
-        seen.site.bring_back()?;
+        seen.retold.site.bring_back()?;
         self.build_quietly(seen)?;
         self.build_again(seen)
     }
@@ -150,12 +151,12 @@ impl<'a> Trial<'a> {
     }
 
     /// A build in which something may go wrong, and beside which somebody may write.
-    fn build_beside(&mut self, seen: &mut Seen<Dated<'a>>) -> io::Result<()> {
+    fn build_beside(&mut self, seen: &mut Seen<Dated<'a>, Brand>) -> io::Result<()> {
         self.learn(seen);
-        seen.site.name_trouble(&mut self.random)?;
-        seen.site.come(self.seldom());
+        seen.retold.site.name_trouble(&mut self.random)?;
+        seen.retold.site.come(self.seldom());
         let report = self.build(seen);
-        seen.site.leave();
+        seen.retold.site.leave();
         add(&mut self.counts.beside);
         if started_by(&report).is_some() {
             add(&mut self.counts.succeeded);
@@ -174,17 +175,17 @@ impl<'a> Trial<'a> {
     }
 
     /// The outputs of the build file are known, before it is built.
-    fn learn(&self, seen: &mut Seen<Dated<'a>>) {
-        if let Ok(manifest) = read(self.alloc, &mut seen.site, "build.ninja") {
+    fn learn(&self, seen: &mut Seen<Dated<'a>, Brand>) {
+        if let Ok(manifest) = read(self.alloc, &mut seen.retold.site, "build.ninja") {
             seen.know(&manifest);
         }
     }
 
-    fn build(&self, seen: &mut Seen<Dated<'a>>) -> Report {
+    fn build(&self, seen: &mut Seen<Dated<'a>, Brand>) -> Report {
         if self.trusts {
             return built(
                 self.alloc,
-                &mut seen.site,
+                &mut seen.retold.site,
                 &self.options,
                 self.targets.as_slice(),
             );
@@ -193,7 +194,7 @@ impl<'a> Trial<'a> {
     }
 
     /// A build beside which nobody writes.
-    fn build_quietly(&mut self, seen: &mut Seen<Dated<'a>>) -> io::Result<()> {
+    fn build_quietly(&mut self, seen: &mut Seen<Dated<'a>, Brand>) -> io::Result<()> {
         self.learn(seen);
         let report = self.build(seen);
         let Some(started) = started_by(&report) else {
@@ -202,7 +203,7 @@ impl<'a> Trial<'a> {
         };
         add(&mut self.counts.quiet);
         self.counts.started = self.counts.started.saturating_add(started as u64);
-        if !self.is_clean(&mut seen.site)? {
+        if !self.is_clean(&mut seen.retold.site)? {
             add(&mut self.counts.stale);
             self.note_wrong("not as the clean build");
         }
@@ -225,7 +226,7 @@ impl<'a> Trial<'a> {
     }
 
     /// The same once more: nothing is to be done.
-    fn build_again(&mut self, seen: &mut Seen<Dated<'a>>) -> io::Result<()> {
+    fn build_again(&mut self, seen: &mut Seen<Dated<'a>, Brand>) -> io::Result<()> {
         self.learn(seen);
         let report = self.build(seen);
         let is_idle = match started_by(&report) {

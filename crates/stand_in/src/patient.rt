@@ -161,6 +161,10 @@ impl<'a, W: Write + Drop> Measured for Patient<'a, W> {
         self.site.measure(path)
     }
 
+    fn read_measured(&mut self, path: &str) -> Result<Option<(Bytes, Measure)>, SiteFault> {
+        self.site.read_measured(path)
+    }
+
     fn now(&self) -> u64 {
         self.site.now()
     }

@@ -6,7 +6,7 @@ ghost use Rattle.model.specs.Calls.{HasCause, KeepsWait, OnlyLooks};
 use host::Host;
 use model::{Act, SiteFault};
 use nj_run::Alone;
-use seen::{Measured, Seen};
+use seen::{Beginning, Measured, Seen, looks_go_on};
 use std::io::Write;
 
 /// A site in whose folder others may build too, and on which the program does between two builds what a user would do there.
@@ -36,13 +36,13 @@ impl<'a, W: Write> Place for Host<'a, W> {
     }
 }
 
-impl<S: Place + Measured> Place for Seen<S> {
-    #[tactic(auto, using(crate::proofs::Looking::looks_untold))]
+impl<S: Place + Measured, B: Beginning> Place for Seen<S, B> {
     fn run_generator(&mut self, act: &Act) -> Result<bool, SiteFault> {
-        self.site.run_generator(act)
+        looks_go_on();
+        self.retold.site.run_generator(act)
     }
 
     fn should_wait(&mut self, limit: f64) -> bool {
-        self.site.should_wait(limit)
+        self.retold.site.should_wait(limit)
     }
 }
