@@ -87,7 +87,8 @@ impl<'a> Trial<'a> {
     fn make(&mut self, seen: &mut Seen<Dated<'a>, Brand>) -> io::Result<()> {
         add(&mut self.counts.histories);
         let graph = self.random.part(self.source.graphs, '\n');
-        begin(&mut seen.retold.site, edges_in(graph))?;
+        let told = &mut seen.retold;
+        begin(&mut told.site, edges_in(graph))?;
         for _ in 0..ROUNDS {
             self.make_round(seen)?;
         }
@@ -98,13 +99,15 @@ impl<'a> Trial<'a> {
 
     fn make_round(&mut self, seen: &mut Seen<Dated<'a>, Brand>) -> io::Result<()> {
         seen.restart();
-        self.change(&mut seen.retold.site)?;
+        let told = &mut seen.retold;
+        self.change(&mut told.site)?;
         self.ask()?;
         if self.random.one_in(2) {
             self.build_beside(seen)?;
         }
         seen.restart();
-        seen.retold.site.bring_back()?;
+        let told = &mut seen.retold;
+        told.site.bring_back()?;
         self.build_quietly(seen)?;
         self.build_again(seen)
     }
@@ -153,10 +156,12 @@ impl<'a> Trial<'a> {
     /// A build in which something may go wrong, and beside which somebody may write.
     fn build_beside(&mut self, seen: &mut Seen<Dated<'a>, Brand>) -> io::Result<()> {
         self.learn(seen);
-        seen.retold.site.name_trouble(&mut self.random)?;
-        seen.retold.site.come(self.seldom());
+        let told = &mut seen.retold;
+        told.site.name_trouble(&mut self.random)?;
+        told.site.come(self.seldom());
         let report = self.build(seen);
-        seen.retold.site.leave();
+        let told = &mut seen.retold;
+        told.site.leave();
         add(&mut self.counts.beside);
         if started_by(&report).is_some() {
             add(&mut self.counts.succeeded);
@@ -176,16 +181,18 @@ impl<'a> Trial<'a> {
 
     /// The outputs of the build file are known, before it is built.
     fn learn(&self, seen: &mut Seen<Dated<'a>, Brand>) {
-        if let Ok(manifest) = read(self.alloc, &mut seen.retold.site, "build.ninja") {
+        let told = &mut seen.retold;
+        if let Ok(manifest) = read(self.alloc, &mut told.site, "build.ninja") {
             seen.know(&manifest);
         }
     }
 
     fn build(&self, seen: &mut Seen<Dated<'a>, Brand>) -> Report {
         if self.trusts {
+            let told = &mut seen.retold;
             return built(
                 self.alloc,
-                &mut seen.retold.site,
+                &mut told.site,
                 &self.options,
                 self.targets.as_slice(),
             );
@@ -203,7 +210,8 @@ impl<'a> Trial<'a> {
         };
         add(&mut self.counts.quiet);
         self.counts.started = self.counts.started.saturating_add(started as u64);
-        if !self.is_clean(&mut seen.retold.site)? {
+        let told = &mut seen.retold;
+        if !self.is_clean(&mut told.site)? {
             add(&mut self.counts.stale);
             self.note_wrong("not as the clean build");
         }
