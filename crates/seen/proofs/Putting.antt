@@ -39,7 +39,7 @@ first_noted tells b notes before lines old asked new looks grows puts = record {
 }
 
 pub noted_first : {T : Type 0} (tells : Bool) (b : Begun) (notes lines path bytes : List ℕ) (old noted new : World) (r : Result T SiteFault)
-    → NotesFirst tells b notes lines old noted → OnOk r (Appends tells path bytes noted new) → OnOk r (IsNotedFirst tells b notes lines path bytes old new)
+    → NotesFirst tells b notes lines old noted → OnOk r (Appends tells path bytes (told_world tells b noted) (told_world tells b new)) → OnOk r (IsNotedFirst tells b notes lines path bytes old new)
 noted_first tells b notes lines path bytes old noted new (Ok x) first appends = record { noted = noted; first = first; appends = appends }
 noted_first tells b notes lines path bytes old noted new (Err fault) first appends = tt
 

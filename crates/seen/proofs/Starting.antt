@@ -1,5 +1,5 @@
 -- Under which stamps commands were started.
-use Rattle.std.proofs.Common.{◌≡◌, ◌⊎◌, ◌<◌, ◌-◌, ◌++◌, append_assoc, inl, inr, Result, Ok, Err, bytes_eq, ℕ, zero, suc, ◌==◌, ◌&&◌, nat_lt, Bool, true, false, if◌then◌else◌, List, [], ◌∷◌, Option, Some, None, is_none, length, set, slice_get, refl, sym, ◌∙◌, ap, subst, arith}
+use Rattle.std.proofs.Common.{◌≡◌, ◌⊎◌, ◌<◌, ◌-◌, ◌++◌, append_assoc, inl, inr, Result, Ok, Err, bytes_eq, ℕ, zero, suc, ◌==◌, ◌&&◌, nat_lt, Bool, true, false, if◌then◌else◌, List, [], ◌∷◌, Option, Some, None, is_none, length, replicate, set, slice_get, refl, sym, ◌∙◌, ap, subst, arith}
 use Rattle.std.specs.Prelude.{IsTrue, OnErr, OnOk}
 use Rattle.std.proofs.lemmas.Bool.{le-ltb, cases_Bool, cond-true, cond-false, false≢true, eqb-true, eq-eqb, ltb-true, lt-ltb}
 use Rattle.model.specs.declared.act.Act.{Act}
@@ -198,3 +198,18 @@ module _ (tells : Bool) (b : Begun) (x y : World) (k k2 : Counts) (job : ℕ) (a
   room_kept is p j made =
       subst (λ (n : ℕ). j < n) (sym (noted_length k.starts.items job start) ∙ ap length (sym notes.starts))
       (room is p j (ap (λ (m : Makers). maker_of m p) (sym notes.makers) ∙ made))
+
+-- ---- at the beginning
+
+none_at : (n i : ℕ) → joined (slice_get (replicate n None) i) ≡ None
+none_at zero i = refl
+none_at (suc n) zero = refl
+none_at (suc n) (suc i) = none_at n i
+
+pub none_replicated : (n : ℕ) (maker : Option ℕ) → started_by (replicate n None) maker ≡ None
+none_replicated n None = refl
+none_replicated n (Some job) = none_at n job
+
+pub length_replicated : (n : ℕ) → length {A = Option ℕ} (replicate n None) ≡ n
+length_replicated zero = refl
+length_replicated (suc n) = ap suc (length_replicated n)

@@ -16,4 +16,4 @@ pub record NotesFirst (tells : Bool) (b : Begun) (notes lines : List ℕ) (old n
 pub record IsNotedFirst (tells : Bool) (b : Begun) (notes lines path bytes : List ℕ) (old new : World) : Type 0 where
   pub noted : World
   pub first : NotesFirst tells b notes lines old noted
-  pub appends : Appends tells path bytes noted new
+  pub appends : Appends tells path bytes (told_world tells b noted) (told_world tells b new)

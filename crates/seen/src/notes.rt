@@ -68,6 +68,7 @@ pub fn read_entry<S: Measured>(
 }
 
 /// The same, where commands make this.
+#[tactic(auto, using(crate::proofs::Answered::asks_more, crate::proofs::Answered::asks_fail, crate::proofs::Answered::asks_no_room, crate::proofs::Answered::asks_no_memory))]
 pub fn read_by<S: Measured>(
     alloc: Global,
     site: &mut S,

@@ -9,7 +9,7 @@ pub loop-text-preserved : goal.loop-text-preserved
 loop-text-preserved c = record {
   same = λ p.
       moved c.pop.new.self.items c.loop-text.self.listed.items c.in-Some.field-0 p (get_by_text c.loop-text.self.table p) (get_by_text c.insert.new.self p) c.in-Some.ensures.items
-      (hash_map_updates_text (string_bytes c.in-Some.text) c.loop-text.self.table c.insert.new.self (Some c.in-Some.job) c.in-Ok.ensures.updates p)
+      (hash_map_updates_text (string_bytes c.in-Some.field-0.text) c.loop-text.self.table c.insert.new.self (Some c.in-Some.field-0.job) c.in-Ok.ensures.updates p)
       ∙ c.loop-text.invariant.same p;
   room =
       let count = ap length c.in-Some.ensures.items ∙ length-append c.pop.new.self.items (c.in-Some.field-0 ∷ []) in

@@ -12,3 +12,8 @@ pub returns-clause-err : goal.returns-clause-err
 returns-clause-err g c =
     appends_err_after g.S.Texts.tells c.args.path.now c.args.bytes.now (told_world g.S.Texts.tells g.B.Beginning.begun (g.S.Texts.world c.args.self.now.retold.site)) (told_world g.S.Texts.tells g.B.Beginning.begun (g.S.Texts.world c.note_before.new.self.retold.site))
     (told_world g.S.Texts.tells g.B.Beginning.begun (g.S.Texts.world c.append.new.self.site)) c.append.result c.in_ok-note_before.ensures.asks.looks c.append.ensures.err
+
+pub returns-clause-noted : goal.returns-clause-noted
+returns-clause-noted g c =
+    noted_first g.S.Texts.tells g.B.Beginning.begun c.args.self.now.retold.known.own.seen c.args.self.now.known.lines.items c.args.path.now c.args.bytes.now (g.S.Texts.world c.args.self.now.retold.site) (g.S.Texts.world c.note_before.new.self.retold.site)
+    (g.S.Texts.world c.append.new.self.site) c.append.result c.in_ok-note_before.ensures.notes c.append.ensures.appends
