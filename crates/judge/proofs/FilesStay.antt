@@ -20,7 +20,7 @@ use Rattle.judge.specs.Quiet.{HasPathsFor, KeepsDepfiles, AreSameOf, AreAlike, I
 
 -- ---- several calls
 
--- the laws of `looks`
+-- the laws of what was looked at
 abbrev pub Follow : Type 0
 Follow = (tells : Bool) (a b c : World) → LooksFollow tells a b c
 

@@ -83,29 +83,9 @@ named_lacks front named kind lacks is = (subst (Lacks 10) is lacks).1.1.1.1
 pub done_is : (told fields : List ℕ) (start : ℕ) (act : Act) → told ≡ field_and_tab (decimal start) ++ fields → IsUtf8 (decimal start) → start < 2 ^ 64 → IsActIn fields act → IsDoneIn told (record { start = start; act = act })
 done_is told fields start act e utf8 low is = (e ∙ ap (λ (l : List ℕ). field_and_tab (decimal start) ++ l) is.0, (utf8, is.1), low)
 
-pub act_is : (act : Act) (bytes first two three four : List ℕ) → IsTextIn bytes act.command first → IsTextIn first act.depfile two → IsTextIn two act.response_path three → IsTextIn three act.response_content four → four ≡ [] → IsActIn bytes act
-act_is act bytes first two three four a b c d none = (
-  a.0
-      ∙ ap (λ (l : List ℕ). field_and_tab act.command ++ l)
-      (b.0
-      ∙ ap (λ (l : List ℕ). field_and_tab act.depfile ++ l)
-      (c.0
-      ∙ ap (λ (l : List ℕ). field_and_tab act.response_path ++ l)
-      (d.0 ∙ ap (λ (l : List ℕ). field_and_tab act.response_content ++ l) none))),
-  (a.1, (b.1, (c.1, (d.1, tt)))),
-)
-
 -- what stands behind a field lacks what all lacks
 pub behind_lacks : (bytes field after : List ℕ) → Lacks 10 bytes → bytes ≡ field ++ 9 ∷ after → Lacks 10 after
 behind_lacks bytes field after lacks e = (Lacks-back 10 field (9 ∷ after) (subst (Lacks 10) e lacks)).1
 
-pub before_lacks : (bytes field after : List ℕ) → Lacks 10 bytes → bytes ≡ field ++ 9 ∷ after → Lacks 10 field
-before_lacks bytes field after lacks e = Lacks-front 10 field (9 ∷ after) (subst (Lacks 10) e lacks)
-
 pub no_text : (bytes after text : List ℕ) → bytes ≡ 9 ∷ after → text ≡ [] → IsTextIn bytes text after
 no_text bytes after text e none = subst (λ (t : List ℕ). IsTextIn bytes t after) (sym none) (e, nothing_utf8)
-
-pub text_is : (bytes field after text copy : List ℕ) → bytes ≡ field ++ 9 ∷ after → field ≡ field_text text → IsUtf8 text → copy ≡ text → IsTextIn bytes copy after
-text_is bytes field after text copy e spelled utf8 same =
-    subst (λ (t : List ℕ). IsTextIn bytes t after) (sym same)
-    (e ∙ (ap (λ (l : List ℕ). l ++ 9 ∷ after) spelled ∙ sym (append_assoc (field_text text) (9 ∷ []) after)), utf8)

@@ -1,4 +1,4 @@
-//! What holds of the deps log. What holds of each log is said by the laws of `build_log`.
+//! What holds of the deps log. What holds of each log is said by `laws`.
 
 ghost use Rattle.log_text.specs.DepsFormat.{HasFormat};
 

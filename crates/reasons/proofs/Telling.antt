@@ -26,7 +26,7 @@ use Rattle.judge.specs.Dues.{due_at}
 use Rattle.reasons.specs.declared.told.DueCommand.{DueCommand}
 use Rattle.reasons.specs.Why.{OfRecords, HaveAsked, AreCommands, AreNotPhony, AreWhy, IsWhy, IsPath, TellsOne, act_of, edge_in, first_input, first_output, seen_output}
 
--- the laws of `looks`
+-- the laws of what was looked at
 abbrev pub Follow : Type 0
 Follow = (tells : Bool) (a b c : World) → LooksFollow tells a b c
 

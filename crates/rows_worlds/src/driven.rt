@@ -100,7 +100,7 @@ fn push_reports(reports: &[Report], told: &mut Vec<u8>) -> io::Result<()> {
     Ok(())
 }
 
-/// Tells which calls the list makes, one command at a time, and which files there are then, with their stamps. `met` is about such a
+/// Tells which calls the list makes, one command at a time, and which files there are then, with their stamps. `witness` is about such a
 /// history: `witness/specs/Worlds.antt` has the same calls and files.
 pub fn push_calls(alloc: Global, row: Row<'_>, told: &mut Vec<u8>) -> io::Result<()> {
     let moves = moves(alloc, row.moves)?;
