@@ -42,10 +42,10 @@ struct Stood {
 /// How what is found at a path of this past counts, in a build in which what somebody else wrote counts under this number at least.
 ///
 /// - A file that is as noted has the stamp that counted for it before. Of one that was never noted its own stamp counts, but where it was put
-///   there after the first start in this build: then that moment counts.
+///   there after the first start in this build, and which no command makes: then that moment counts.
 /// - A source that is another than the noted one counts as written when it was put there, and later than all starts before the build.
 /// - What somebody else wrote where a command had made the path, at a time at which none did, counts as absent where one makes it again.
-/// - An output that is another than the noted one counts as absent, until its command was started ([`told_stamp`]), and what it left is noted
+/// - An output that is another than the noted one counts as absent, until its command was started ([`stamp_told`]), and what it left is noted
 ///   ([`left_number`]).
 /// - A folder has its own stamp, and is not noted.
 pub fn judge(past: Past, number: u64, found: Option<Measure>) -> Judged
@@ -115,7 +115,7 @@ fn judge_new(is_output: bool, since: Option<u64>, file: Stood) -> Judged
     }
 }
 
-/// Whether a command that was started before has read what was put there at this moment.
+/// Whether a command of this build was started before this was put there.
 fn is_late(since: Option<u64>, placed: u64) -> bool
     ensures { result ≡ is_late since placed }
 {

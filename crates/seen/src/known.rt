@@ -170,7 +170,24 @@ impl Known {
         ensures grows { OnOk result (Grows self.old.lines.items self.new.lines.items) }
     {
         let number = left_of(noted_in(last), start, found);
-        self.note_found(output, found, Kind::Made, number)
+        self.note_left(output, last, found, number)
+    }
+
+    /// Notes what its command left at this output under this number, if it is to be noted, and that it was asked for.
+    fn note_left(
+        &mut self,
+        output: &str,
+        last: Option<Last>,
+        found: Option<Measure>,
+        number: Option<u64>,
+    ) -> Result<(), AllocError>
+        ensures lines { OnOk result (LinesOf Made number output.now found self.old.lines.items self.new.lines.items) }
+    {
+        self.note_found(output, found, Kind::Made, number)?;
+        match last {
+            Some(last) => self.mark(last.place),
+            None => self.add(output, number),
+        }
     }
 
     /// The lines were put behind the notes.

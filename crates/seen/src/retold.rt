@@ -28,8 +28,8 @@ use text::Bytes;
 /// were started since.
 ///
 /// As a site it tells its files where the one below does: not those that are there, but those that count, under the stamps under which they
-/// count. What the program does on it, it does on the one below; but it writes neither the notes nor what a command makes, which no build
-/// asks for, and finds no memory there.
+/// count. What the program does on it, it does on the one below. Where it is for one build, the program writes neither the notes nor what a command
+/// makes: it finds no memory there.
 #[derive(Drop)]
 pub struct Retold<S: Measured, B: Beginning> {
     /// The site below.
@@ -249,31 +249,33 @@ impl<S: Measured, B: Beginning> Retold<S, B> {
         Ok(content_counted(looked.counts, found))
     }
 
-    /// Whether the program may not write the path: that is the one of the notes, or a command makes it, or there was no memory to tell it.
+    /// Whether the program may not write the path, where the site is for one build: that is the one of the notes, or a command makes it, or there
+    /// was no memory to tell it.
     fn is_barred(&mut self, path: &str) -> bool
         ensures told { IsTrue S.tells → result ≡ false → IsTold B.begun.telling path.now }
         ensures same { KnowsSame self.old.known self.new.known }
         ensures site { self.new.site ≡ self.old.site }
         ensures one { self.new.is_for_one ≡ self.old.is_for_one }
     {
-        if !self.is_begun {
+        if !self.is_for_one {
             return false;
         }
         self.known.is_barred(path)
     }
 
-    /// Whether the path is that of the notes, once a build has begun.
+    /// Whether the path is that of the notes, where the site is for one build.
     fn is_kept_from_it(&self, path: &str) -> bool
         ensures { IsTrue S.tells → result ≡ false → B.begun.telling.hidden path.now ≡ false }
     {
-        self.is_begun && self.known.own.is_seen(path)
+        self.is_for_one && self.known.own.is_seen(path)
     }
 
-    /// Whether the path is none of which the own stamp counts always: it is that of the notes, or none of the program's own.
+    /// Whether the path is none of which the own stamp counts always, where the site is for one build: it is that of the notes, or none of the
+    /// program's own.
     fn may_count_otherwise(&self, path: &str) -> bool
         ensures { IsTrue S.tells → result ≡ false → IsPlain B.begun.telling path.now }
     {
-        self.is_begun && (self.known.own.is_seen(path) || !self.known.own.has(path))
+        self.is_for_one && (self.known.own.is_seen(path) || !self.known.own.has(path))
     }
 }
 

@@ -24,7 +24,7 @@ use std::alloc::Global;
 use std::mem::forget;
 use text::{Bytes, cut};
 
-/// A site over a site. All calls go through to it; what `stat` and `read` answer is by what counts (`Retold`), and what is seen is noted in
+/// A site over a site. Calls go through to it; what `stat` and `read` answer is by what counts (`Retold`), and what is seen is noted in
 /// `.nj_seen`, a file beside the build log.
 ///
 /// - It is made for one build, by what was read before ([`enter`]); or, on a site that does not tell its files, for builds one after another,
