@@ -78,17 +78,20 @@ impl<'a, W: Write> Alone for Host<'a, W> {
 impl<S: Alone + Measured, B: Beginning> Alone for Seen<S, B> {
     fn enter(&mut self) {
         looks_go_on();
-        self.retold.site.enter();
+        let retold = &mut self.retold;
+        retold.site.enter();
     }
 
     fn has_waited(&mut self, folder: &str) -> bool {
         looks_go_on();
-        self.retold.site.has_waited(folder)
+        let retold = &mut self.retold;
+        retold.site.has_waited(folder)
     }
 
     fn learn(&mut self, alloc: Global, manifest: &Manifest, verbose: bool) {
         self.know(manifest);
-        self.retold.site.learn(alloc, manifest, verbose);
+        let retold = &mut self.retold;
+        retold.site.learn(alloc, manifest, verbose);
     }
 }
 

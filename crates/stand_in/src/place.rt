@@ -39,10 +39,12 @@ impl<'a, W: Write> Place for Host<'a, W> {
 impl<S: Place + Measured, B: Beginning> Place for Seen<S, B> {
     fn run_generator(&mut self, act: &Act) -> Result<bool, SiteFault> {
         looks_go_on();
-        self.retold.site.run_generator(act)
+        let retold = &mut self.retold;
+        retold.site.run_generator(act)
     }
 
     fn should_wait(&mut self, limit: f64) -> bool {
-        self.retold.site.should_wait(limit)
+        let retold = &mut self.retold;
+        retold.site.should_wait(limit)
     }
 }
