@@ -1,6 +1,6 @@
 //! Which edge makes a path.
 
-ghost use Rattle.std.specs.Prelude.{◌≡◌, ◌<◌, ℕ, true, length, OnOk};
+ghost use Rattle.std.specs.Prelude.{◌≡◌, ◌<◌, ℕ, suc, true, length, IfOk, OnOk};
 ghost use Rattle.seen.specs.Makers.{are_below};
 
 use bumpalo::Bump;
@@ -22,7 +22,7 @@ pub struct Output {
 pub struct Makers {
     pub table: IndexMap<String<&'static Bump>, usize>,
     pub listed: Vec<Output>,
-    /// How many edges there are.
+    /// One past the number of the last edge: they are counted from 1.
     pub jobs: usize,
 }
 
@@ -50,8 +50,9 @@ impl Makers {
     {
         let arena = arena(alloc)?;
         let mut listed = Vec::new(alloc);
-        let jobs = manifest.lines.len();
-        for place in 0..jobs {
+        let count = manifest.lines.len();
+        let jobs = one_past(count)?;
+        for place in 0..count {
             list_outputs(arena, manifest, place, &mut listed)?;
         }
         Ok(Makers {
@@ -61,7 +62,7 @@ impl Makers {
         })
     }
 
-    /// How many edges there are.
+    /// One past the number of the last edge.
     pub fn count(&self) -> usize
         ensures { result ≡ self.now.jobs }
     {
@@ -95,6 +96,13 @@ impl Makers {
     }
 }
 
+/// One more than so many edges.
+fn one_past(count: usize) -> Result<usize, AllocError>
+    ensures { IfOk result (λ jobs. jobs ≡ suc count) }
+{
+    count.checked_add(1).ok_or(AllocError)
+}
+
 /// Lists the outputs of the edge at this place, if it has a command.
 #[tactic(auto, using(crate::proofs::Making::below_more))]
 fn list_outputs(
@@ -104,7 +112,7 @@ fn list_outputs(
     listed: &mut Vec<Output>,
 ) -> Result<(), AllocError>
     requires { place < length manifest.now.lines }
-    ensures { OnOk result ((jobs : ℕ) → place < jobs → are_below jobs listed.old.items ≡ true → are_below jobs listed.new.items ≡ true) }
+    ensures { OnOk result ((jobs : ℕ) → suc place < jobs → are_below jobs listed.old.items ≡ true → are_below jobs listed.new.items ≡ true) }
 {
     let edge = manifest.edge(place);
     if matches!(manifest.action(edge), Action::Alias) {
@@ -114,7 +122,7 @@ fn list_outputs(
         if let Some(text) = manifest.paths.get(*output) {
             listed.push(Output {
                 text: String::from_str(arena, text)?,
-                job: place,
+                job: edge.job(),
             })?;
         }
     }
