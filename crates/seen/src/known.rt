@@ -2,7 +2,7 @@
 
 ghost use Rattle.std.specs.Prelude.{◌≡◌, [], OnOk};
 ghost use Rattle.seen_log.specs.Log.{Notes};
-ghost use Rattle.seen.specs.Noting.{absence, is_absence};
+ghost use Rattle.seen.specs.Noting.{is_absence};
 
 use crate::answer::Looked;
 use crate::judging::{Judged, left_number};
@@ -28,7 +28,7 @@ pub struct Known {
 impl Known {
     ghost use Rattle.std.specs.Prelude.{◌≡◌, [], OnOk};
     ghost use Rattle.model.specs.Graph.{has};
-    ghost use Rattle.seen.specs.Noting.{AbsenceOf, AwayOf, Grows, LeftOf, LinesOf, SeenOf, UnlessSettled, UnmadeOf, is_marked, is_settled};
+    ghost use Rattle.seen.specs.Noting.{AbsenceOf, AwayOf, Grows, LeftOf, LinesOf, SeenOf, UnlessSettled, UnmadeOf, absence, is_marked, is_settled};
 
     /// Nothing was noted. This takes no memory.
     pub fn new(alloc: Global) -> Known
@@ -60,7 +60,15 @@ impl Known {
         ensures grows { OnOk result (Grows self.old.lines.items self.new.lines.items) }
     {
         self.note_seen(path, looked.found, looked.how, looked.last)?;
-        self.settle(path, looked.last, looked.how.number.is_some())
+        match looked.last {
+            Some(last) => mark(&mut self.asked, last.place),
+            None => add(
+                self.alloc,
+                &mut self.fresh,
+                path,
+                looked.how.number.is_some(),
+            ),
+        }
     }
 
     /// Notes what was found where this was noted before, as it is judged, or that it is absent.
@@ -129,7 +137,7 @@ impl Known {
     {
         match last {
             Some(last) => self.note_absence(output, last.noted, Kind::Made),
-            None => self.push(output, absence(Kind::Made)),
+            None => self.push_absence(output, Kind::Made),
         }
     }
 
@@ -142,7 +150,23 @@ impl Known {
         if is_absence(noted) {
             return Ok(());
         }
-        self.push(path, absence(kind))
+        self.push_absence(path, kind)
+    }
+
+    /// A line that notes that nothing is at the path, as of this kind. No file looks so.
+    fn push_absence(&mut self, path: &str, kind: Kind) -> Result<(), AllocError>
+        ensures notes { OnOk result (Notes path.now (absence kind) self.old.lines.items self.new.lines.items) }
+        ensures grows { OnOk result (Grows self.old.lines.items self.new.lines.items) }
+    {
+        self.push(
+            path,
+            Noted {
+                kind,
+                stamp: 0,
+                size: NO_SIZE,
+                number: 0,
+            },
+        )
     }
 
     /// A line that notes this of the path, or none where memory is refused.
@@ -154,44 +178,6 @@ impl Known {
         let mut line = Vec::new(self.alloc);
         note_line(&mut line, path, noted)?;
         self.lines.extend_from_slice(line.as_slice())
-    }
-
-    /// The path, of which this was noted before, was asked for in this build, and is noted, if that is so.
-    fn settle(&mut self, path: &str, last: Option<Last>, is_noted: bool) -> Result<(), AllocError>
-        ensures lines { self.new.lines ≡ self.old.lines }
-    {
-        match last {
-            Some(last) => self.mark(last.place),
-            None => self.add(path, is_noted),
-        }
-    }
-
-    /// What the record with this place notes was asked for in this build.
-    fn mark(&mut self, place: usize) -> Result<(), AllocError>
-        ensures lines { self.new.lines ≡ self.old.lines }
-    {
-        if place >= self.asked.len() {
-            let count = self
-                .asked
-                .len()
-                .saturating_mul(2)
-                .max(place.saturating_add(1));
-            self.asked.resize(count, false)?;
-        }
-        if place < self.asked.len() {
-            self.asked[place] = true;
-        }
-        Ok(())
-    }
-
-    /// The path was noted in this build, if it was.
-    fn add(&mut self, path: &str, is_noted: bool) -> Result<(), AllocError>
-        ensures lines { self.new.lines ≡ self.old.lines }
-    {
-        if is_noted {
-            self.fresh.add(self.alloc, path)?;
-        }
-        Ok(())
     }
 
     /// Whether the path, of which this was noted before, was noted or asked for in this build.
@@ -227,7 +213,10 @@ impl Known {
         ensures grows { OnOk result (Grows self.old.lines.items self.new.lines.items) }
     {
         self.note_left(output, looked.found, looked.counts, looked.last)?;
-        self.settle(output, looked.last, true)
+        match looked.last {
+            Some(last) => mark(&mut self.asked, last.place),
+            None => add(self.alloc, &mut self.fresh, output, true),
+        }
     }
 
     /// Notes what its command left at this output, of which this was noted before, and that counts under this stamp.
@@ -258,16 +247,24 @@ impl Known {
     }
 }
 
-/// What is noted where nothing is found, as of this kind. No file looks so.
-fn absence(kind: Kind) -> Noted
-    ensures { result ≡ absence kind }
-{
-    Noted {
-        kind,
-        stamp: 0,
-        size: NO_SIZE,
-        number: 0,
+/// What the record with this place notes was asked for in this build.
+fn mark(asked: &mut Vec<bool>, place: usize) -> Result<(), AllocError> {
+    if place >= asked.len() {
+        let count = asked.len().saturating_mul(2).max(place.saturating_add(1));
+        asked.resize(count, false)?;
     }
+    if place < asked.len() {
+        asked[place] = true;
+    }
+    Ok(())
+}
+
+/// The path was noted in this build, if it was.
+fn add(alloc: Global, fresh: &mut Paths, path: &str, is_noted: bool) -> Result<(), AllocError> {
+    if is_noted {
+        fresh.add(alloc, path)?;
+    }
+    Ok(())
 }
 
 /// Whether it is noted that nothing is there.
