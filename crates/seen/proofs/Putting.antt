@@ -1,6 +1,6 @@
 -- Lines that are put behind the notes.
 use Rattle.std.proofs.Common.{◌≡◌, ℕ, Bool, List, [], ◌∷◌, ◌++◌, Option, Some, None, Result, Ok, Err, inl, inr, refl, sym, subst, arith}
-use Rattle.std.specs.Prelude.{◌==◌, IsErr, OnOk, false, true, length}
+use Rattle.std.specs.Prelude.{◌==◌, IsErr, OnErr, OnOk, false, true, length}
 use Rattle.std.proofs.lemmas.Bool.{eqb-true, false≢true}
 use Rattle.model.specs.declared.fault.SiteFault.{SiteFault}
 use Rattle.model.specs.World.{World}
@@ -46,6 +46,10 @@ noted_first tells b notes lines path bytes old noted new (Err fault) first appen
 pub ok_always : {T P : Type 0} (r : Result T SiteFault) → P → OnOk r P
 ok_always (Ok x) is = is
 ok_always (Err fault) is = tt
+
+pub err_always : {T P : Type 0} (r : Result T SiteFault) → P → OnErr r P
+err_always (Ok x) is = tt
+err_always (Err fault) is = is
 
 pub ok_never : {T : Type 0} (P : Type 0) (r : Result T SiteFault) → IsErr r → OnOk r P
 ok_never P (Ok x) is = absurd (false≢true is)

@@ -1,6 +1,5 @@
 -- How what is found at a path counts, by what is noted of it. All is this project's own.
 use Rattle.std.specs.Prelude.{ℕ, ◌+◌, ◌-◌, ◌%◌, ◌^◌, ◌==◌, ◌&&◌, ◌||◌, not, max, min, nat_lt, Bool, true, false, if◌then◌else◌, Option, Some, None}
-use Rattle.std.specs.Option.{option_map}
 use Rattle.seen_log.specs.declared.note.Kind.{Kind}
 use Rattle.seen_log.specs.declared.note.Kind.TheVariants.{Source, Made, Turned}
 use Rattle.seen_log.specs.declared.note.Noted.{Noted}
@@ -77,20 +76,14 @@ judged past number (Some found) = judged_sized past number found.stamp found.pla
 
 -- ---- what a command left
 
--- What its command, which was started under this stamp, did not write, although it is another than noted: it counts as written right behind
--- the start, which is later than each start before the build.
-abbrev pub left_since : (start stamp : ℕ) → ℕ
-left_since start stamp = if nat_lt start stamp then 0 else min (start + 1) (2 ^ 64 - 1)
+-- the number under which a file of this stamp is noted that counts under that one: 0 where that is its own
+abbrev pub number_told : (counts stamp : ℕ) → ℕ
+number_told counts stamp = if counts == stamp then 0 else counts
 
--- the number under which an output is noted that its command left so: what is as noted counts as before, and else 0 stands for its own stamp
-abbrev pub left_number : Option Noted → (start stamp size : ℕ) → ℕ
-left_number None start stamp size = 0
-left_number (Some noted) start stamp size = if is_as_noted noted stamp size then counts_of noted else left_since start stamp
-
--- that of what was found there; none where it is no file
-abbrev pub left_of : Option Noted → (start : ℕ) → Option Measure → Option ℕ
-left_of noted start None = None
-left_of noted start (Some found) = option_map (left_number noted start found.stamp) found.size
+-- that of what its command left, as it is told; none where it does not count
+abbrev pub left_number : (counts : Option ℕ) → (stamp : ℕ) → Option ℕ
+left_number None stamp = None
+left_number (Some counts) stamp = Some (number_told counts stamp)
 
 -- how what was found counts where nothing else is asked: it is absent, a folder, or as noted, and nothing that somebody wrote where a command
 -- had made the path

@@ -1,14 +1,18 @@
 -- What is noted, and what is put behind the notes.
-use Rattle.std.specs.Prelude.{◌≡◌, ◌⊎◌, ℕ, Bool, true, false, List, [], ◌∷◌, ◌++◌, Option, Some, None, slice_get}
+use Rattle.std.specs.Prelude.{◌≡◌, ◌⊎◌, ℕ, ◌==◌, Bool, true, false, List, [], ◌∷◌, ◌++◌, Option, Some, None, slice_get}
 use Rattle.model.specs.Graph.{has}
 use Rattle.model.specs.World.{World}
 use Rattle.model.specs.Calls.{Appends, Writes}
 use Rattle.seen_log.specs.declared.note.Kind.{Kind}
+use Rattle.seen_log.specs.declared.note.Kind.TheVariants.{Made}
 use Rattle.seen_log.specs.declared.note.Last.{Last}
+use Rattle.seen_log.specs.declared.note.Noted.{Noted}
 use Rattle.seen_log.specs.Log.{Notes}
+use Rattle.seen.specs.declared.answer.Looked.{Looked}
 use Rattle.seen.specs.declared.judging.Judged.{Judged}
 use Rattle.seen.specs.declared.known.Known.{Known}
 use Rattle.seen.specs.declared.measure.Measure.{Measure}
+use Rattle.seen.specs.Judged.{left_number}
 
 -- ---- the lines of what is to be noted
 
@@ -22,10 +26,49 @@ LineOf kind number path stamp None old new = new ≡ old
 LineOf kind number path stamp (Some size) old new = Notes path (record { kind = kind; stamp = stamp; size = size; number = number }) old new
 
 -- what was found is noted under the number, if there is one, as of this kind
-abbrev pub LinesOf : Kind → Option ℕ → List ℕ → Option Measure → List ℕ → List ℕ → Type 0
+abbrev pub LinesOf : Kind → Option ℕ → List ℕ → Measure → List ℕ → List ℕ → Type 0
 LinesOf kind None path found old new = new ≡ old
-LinesOf kind (Some number) path None old new = new ≡ old
-LinesOf kind (Some number) path (Some found) old new = LineOf kind number path found.stamp found.size old new
+LinesOf kind (Some number) path found old new = LineOf kind number path found.stamp found.size old new
+
+-- ---- the lines of what is absent
+
+-- the size of what is absent, which no file has
+abbrev pub no_size : ℕ
+no_size = 18446744073709551615
+
+-- what is noted where nothing is found, as of this kind: what comes there later is another than that
+abbrev pub absence : Kind → Noted
+absence kind = record { kind = kind; stamp = 0; size = no_size; number = 0 }
+
+abbrev pub is_absence : Noted → Bool
+is_absence noted = noted.size == no_size
+
+-- that is noted, unless it was before
+abbrev pub AbsenceOf : (is_noted : Bool) → Kind → List ℕ → List ℕ → List ℕ → Type 0
+AbsenceOf true kind path old new = new ≡ old
+AbsenceOf false kind path old new = Notes path (absence kind) old new
+
+-- Nothing is found where this was noted before: that is noted, as of the same kind. Of a path that was never noted it is not.
+abbrev pub AwayOf : Option Last → List ℕ → List ℕ → List ℕ → Type 0
+AwayOf None path old new = new ≡ old
+AwayOf (Some last) path old new = AbsenceOf (is_absence last.noted) last.noted.kind path old new
+
+-- its command has left nothing where this was noted before: that is noted, also where nothing was
+abbrev pub UnmadeOf : Option Last → List ℕ → List ℕ → List ℕ → Type 0
+UnmadeOf None path old new = Notes path (absence Made) old new
+UnmadeOf (Some last) path old new = AbsenceOf (is_absence last.noted) Made path old new
+
+-- ---- what is seen
+
+-- what was found where this was noted before, and is judged so, is noted, or that it is absent
+abbrev pub SeenOf : Option Measure → Judged → Option Last → List ℕ → List ℕ → List ℕ → Type 0
+SeenOf None how last path old new = AwayOf last path old new
+SeenOf (Some found) how last path old new = LinesOf how.kind how.number path found old new
+
+-- what its command left, which counts under this stamp, is noted so, or that it is absent
+abbrev pub LeftOf : Option Measure → (counts : Option ℕ) → Option Last → List ℕ → List ℕ → List ℕ → Type 0
+LeftOf None counts last path old new = UnmadeOf last path old new
+LeftOf (Some found) counts last path old new = LinesOf Made (left_number counts found.stamp) path found old new
 
 abbrev pub marked : Option Bool → Bool
 marked None = false
@@ -44,9 +87,9 @@ abbrev pub is_settled : Known → List ℕ → Option Last → Bool
 is_settled known path last = settled_by known.asked.items known.fresh path last
 
 -- what was asked for in this build is not noted again
-abbrev pub UnlessSettled : Bool → Judged → List ℕ → Option Measure → List ℕ → List ℕ → Type 0
-UnlessSettled true how path found old new = new ≡ old
-UnlessSettled false how path found old new = LinesOf how.kind how.number path found old new
+abbrev pub UnlessSettled : Bool → Looked → List ℕ → List ℕ → List ℕ → Type 0
+UnlessSettled true looked path old new = new ≡ old
+UnlessSettled false looked path old new = SeenOf looked.found looked.how looked.last path old new
 
 -- ---- the file of the notes
 

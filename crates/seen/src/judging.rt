@@ -1,7 +1,7 @@
 //! How what is found at a path counts.
 
 ghost use Rattle.std.specs.Prelude.{◌≡◌};
-ghost use Rattle.seen.specs.Judged.{is_as_noted, is_late, is_turned, judged, judged_new, judged_noted, judged_same, left_number, left_since, next_number, plainly, turned, under, whole_seconds};
+ghost use Rattle.seen.specs.Judged.{is_as_noted, is_late, is_turned, judged, judged_new, judged_noted, judged_same, left_number, next_number, number_told, plainly, turned, under, whole_seconds};
 
 use crate::measure::Measure;
 use seen_log::{Kind, Noted, counts_of};
@@ -45,8 +45,8 @@ struct Stood {
 ///   there after the first start in this build, and which no command makes: then that moment counts.
 /// - A source that is another than the noted one counts as written when it was put there, and later than all starts before the build.
 /// - What somebody else wrote where a command had made the path, at a time at which none did, counts as absent where one makes it again.
-/// - An output that is another than the noted one counts as absent, until its command was started ([`stamp_told`]), and what it left is noted
-///   ([`left_number`]).
+/// - An output that is another than the noted one counts as absent, until its command was started ([`stamp_told`]), and what it left is noted as
+///   it counts then ([`left_number`]).
 /// - A folder has its own stamp, and is not noted.
 pub fn judge(past: Past, number: u64, found: Option<Measure>) -> Judged
     ensures { result ≡ judged past number found }
@@ -75,30 +75,22 @@ pub fn judge(past: Past, number: u64, found: Option<Measure>) -> Judged
     }
 }
 
-/// The number under which an output is noted that its command left, which was started under this stamp and has ended well; 0 where its own
-/// stamp counts. Where it is as noted it counts as before. Where it is another, but no later than the start, somebody else wrote it, and the
-/// command left it as it was: it counts as written right behind the start, so that what was made of the one before is made again.
-pub fn left_number(noted: Option<Noted>, start: u64, stamp: u64, size: u64) -> u64
-    ensures { result ≡ left_number noted start stamp size }
+/// The number under which a file of this stamp is noted that its command left, and that counts under that one, as it is told since the command
+/// was started; 0 where that is its own stamp. What does not count is not noted.
+pub fn left_number(counts: Option<u64>, stamp: u64) -> Option<u64>
+    ensures { result ≡ left_number counts stamp }
 {
-    let Some(noted) = noted else {
-        return 0;
-    };
-    if is_as_noted(noted, stamp, size) {
-        return counts_of(noted);
+    match counts {
+        Some(counts) => Some(number_told(counts, stamp)),
+        None => None,
     }
-    left_since(start, stamp)
 }
 
-/// When it counts as written, what is another than noted when its command has ended; 0 where its own stamp counts.
-fn left_since(start: u64, stamp: u64) -> u64
-    ensures { result ≡ left_since start stamp }
+/// The number under which a file of this stamp is noted that counts under that one.
+fn number_told(counts: u64, stamp: u64) -> u64
+    ensures { result ≡ number_told counts stamp }
 {
-    if start < stamp {
-        0
-    } else {
-        start.saturating_add(1)
-    }
+    if counts == stamp { 0 } else { counts }
 }
 
 /// How a file counts that was never noted.

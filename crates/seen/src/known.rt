@@ -2,14 +2,17 @@
 
 ghost use Rattle.std.specs.Prelude.{◌≡◌, [], OnOk};
 ghost use Rattle.seen_log.specs.Log.{Notes};
-ghost use Rattle.seen.specs.Judged.{left_of};
+ghost use Rattle.seen.specs.Noting.{is_absence};
 
-use crate::answer::{Looked, noted_in};
-use crate::judging::left_number;
+use crate::answer::Looked;
+use crate::judging::{Judged, left_number};
 use crate::measure::Measure;
 use paths::Paths;
 use seen_log::{Kind, Last, Noted, note_line};
 use std::alloc::{AllocError, Global};
+
+/// The size that is noted where nothing is found, which no file has.
+const NO_SIZE: u64 = 18_446_744_073_709_551_615;
 
 /// What was noted in one build, and the lines of that which are still to be put behind the notes.
 #[derive(Drop)]
@@ -24,10 +27,8 @@ pub struct Known {
 
 impl Known {
     ghost use Rattle.std.specs.Prelude.{◌≡◌, [], OnOk};
-    ghost use Rattle.std.specs.Option.{option_map};
     ghost use Rattle.model.specs.Graph.{has};
-    ghost use Rattle.seen_log.specs.declared.note.Kind.TheVariants.{Made};
-    ghost use Rattle.seen.specs.Noting.{Grows, LinesOf, UnlessSettled, is_marked, is_settled};
+    ghost use Rattle.seen.specs.Noting.{AbsenceOf, AwayOf, Grows, LeftOf, LinesOf, SeenOf, UnlessSettled, UnmadeOf, absence, is_marked, is_settled};
 
     /// Nothing was noted. This takes no memory.
     pub fn new(alloc: Global) -> Known
@@ -42,8 +43,9 @@ impl Known {
     }
 
     /// Notes what was seen of a path, where it is to be noted and was not asked for before in this build.
+    #[tactic(auto, using(crate::proofs::Growing::settled_yes, crate::proofs::Growing::settled_not, crate::proofs::Growing::grows_none))]
     pub fn note(&mut self, path: &str, looked: &Looked) -> Result<(), AllocError>
-        ensures noted { OnOk result (UnlessSettled (is_settled self.old path.now looked.now.last) looked.now.how path.now looked.now.found self.old.lines.items self.new.lines.items) }
+        ensures noted { OnOk result (UnlessSettled (is_settled self.old path.now looked.now.last) looked.now path.now self.old.lines.items self.new.lines.items) }
         ensures grows { OnOk result (Grows self.old.lines.items self.new.lines.items) }
     {
         if self.is_settled(path, looked.last) {
@@ -54,80 +56,128 @@ impl Known {
 
     /// The same, where it was not asked for before.
     fn note_first(&mut self, path: &str, looked: &Looked) -> Result<(), AllocError>
-        ensures lines { OnOk result (LinesOf looked.now.how.kind looked.now.how.number path.now looked.now.found self.old.lines.items self.new.lines.items) }
+        ensures lines { OnOk result (SeenOf looked.now.found looked.now.how looked.now.last path.now self.old.lines.items self.new.lines.items) }
+        ensures grows { OnOk result (Grows self.old.lines.items self.new.lines.items) }
     {
-        self.note_found(path, looked.found, looked.how.kind, looked.how.number)?;
+        self.note_seen(path, looked.found, looked.how, looked.last)?;
         match looked.last {
-            Some(last) => self.mark(last.place),
-            None => self.add(path, looked.how.number),
+            Some(last) => mark(&mut self.asked, last.place),
+            None => add(
+                self.alloc,
+                &mut self.fresh,
+                path,
+                looked.how.number.is_some(),
+            ),
+        }
+    }
+
+    /// Notes what was found where this was noted before, as it is judged, or that it is absent.
+    fn note_seen(
+        &mut self,
+        path: &str,
+        found: Option<Measure>,
+        how: Judged,
+        last: Option<Last>,
+    ) -> Result<(), AllocError>
+        ensures lines { OnOk result (SeenOf found how last path.now self.old.lines.items self.new.lines.items) }
+        ensures grows { OnOk result (Grows self.old.lines.items self.new.lines.items) }
+    {
+        match found {
+            Some(found) => self.note_found(path, found, how.kind, how.number),
+            None => self.note_away(path, last),
         }
     }
 
     /// Notes what was found at the path under this number, as of this kind, if it is to be noted.
+    #[tactic(auto, using(crate::proofs::Growing::grows_none))]
     fn note_found(
         &mut self,
         path: &str,
-        found: Option<Measure>,
+        found: Measure,
         kind: Kind,
         number: Option<u64>,
     ) -> Result<(), AllocError>
-        ensures { OnOk result (LinesOf kind number path.now found self.old.lines.items self.new.lines.items) }
+        ensures lines { OnOk result (LinesOf kind number path.now found self.old.lines.items self.new.lines.items) }
+        ensures grows { OnOk result (Grows self.old.lines.items self.new.lines.items) }
     {
         let Some(number) = number else {
             return Ok(());
         };
-        let Some(Measure { stamp, size, .. }) = found else {
-            return Ok(());
-        };
-        let Some(size) = size else {
+        let Some(size) = found.size else {
             return Ok(());
         };
         self.push(
             path,
             Noted {
                 kind,
-                stamp,
+                stamp: found.stamp,
                 size,
                 number,
             },
         )
     }
 
+    /// Nothing was found where this was noted before: what comes back there is another than it was, also under its old stamp. A path that was
+    /// never noted gets no line, so that a first build has none for each of its outputs.
+    #[tactic(auto, using(crate::proofs::Growing::grows_none))]
+    fn note_away(&mut self, path: &str, last: Option<Last>) -> Result<(), AllocError>
+        ensures lines { OnOk result (AwayOf last path.now self.old.lines.items self.new.lines.items) }
+        ensures grows { OnOk result (Grows self.old.lines.items self.new.lines.items) }
+    {
+        match last {
+            Some(last) => self.note_absence(path, last.noted, last.noted.kind),
+            None => Ok(()),
+        }
+    }
+
+    /// Its command has left nothing at an output of which this was noted before: what somebody puts there is not what the command made.
+    fn note_unmade(&mut self, output: &str, last: Option<Last>) -> Result<(), AllocError>
+        ensures lines { OnOk result (UnmadeOf last output.now self.old.lines.items self.new.lines.items) }
+        ensures grows { OnOk result (Grows self.old.lines.items self.new.lines.items) }
+    {
+        match last {
+            Some(last) => self.note_absence(output, last.noted, Kind::Made),
+            None => self.push_absence(output, Kind::Made),
+        }
+    }
+
+    /// Notes that nothing is at the path, as of this kind, unless this is noted, which says so.
+    #[tactic(auto, using(crate::proofs::Growing::noted_yes, crate::proofs::Growing::noted_not, crate::proofs::Growing::grows_none))]
+    fn note_absence(&mut self, path: &str, noted: Noted, kind: Kind) -> Result<(), AllocError>
+        ensures lines { OnOk result (AbsenceOf (is_absence noted) kind path.now self.old.lines.items self.new.lines.items) }
+        ensures grows { OnOk result (Grows self.old.lines.items self.new.lines.items) }
+    {
+        if is_absence(noted) {
+            return Ok(());
+        }
+        self.push_absence(path, kind)
+    }
+
+    /// A line that notes that nothing is at the path, as of this kind. No file looks so.
+    fn push_absence(&mut self, path: &str, kind: Kind) -> Result<(), AllocError>
+        ensures notes { OnOk result (Notes path.now (absence kind) self.old.lines.items self.new.lines.items) }
+        ensures grows { OnOk result (Grows self.old.lines.items self.new.lines.items) }
+    {
+        self.push(
+            path,
+            Noted {
+                kind,
+                stamp: 0,
+                size: NO_SIZE,
+                number: 0,
+            },
+        )
+    }
+
     /// A line that notes this of the path, or none where memory is refused.
+    #[tactic(auto, using(crate::proofs::Growing::notes_grow))]
     fn push(&mut self, path: &str, noted: Noted) -> Result<(), AllocError>
-        ensures { OnOk result (Notes path.now noted self.old.lines.items self.new.lines.items) }
+        ensures notes { OnOk result (Notes path.now noted self.old.lines.items self.new.lines.items) }
+        ensures grows { OnOk result (Grows self.old.lines.items self.new.lines.items) }
     {
         let mut line = Vec::new(self.alloc);
         note_line(&mut line, path, noted)?;
         self.lines.extend_from_slice(line.as_slice())
-    }
-
-    /// What the record with this place notes was asked for in this build.
-    fn mark(&mut self, place: usize) -> Result<(), AllocError>
-        ensures lines { self.new.lines ≡ self.old.lines }
-    {
-        if place >= self.asked.len() {
-            let count = self
-                .asked
-                .len()
-                .saturating_mul(2)
-                .max(place.saturating_add(1));
-            self.asked.resize(count, false)?;
-        }
-        if place < self.asked.len() {
-            self.asked[place] = true;
-        }
-        Ok(())
-    }
-
-    /// The path was noted in this build, if it was.
-    fn add(&mut self, path: &str, number: Option<u64>) -> Result<(), AllocError>
-        ensures lines { self.new.lines ≡ self.old.lines }
-    {
-        if number.is_some() {
-            self.fresh.add(self.alloc, path)?;
-        }
-        Ok(())
     }
 
     /// Whether the path, of which this was noted before, was noted or asked for in this build.
@@ -157,36 +207,35 @@ impl Known {
         }
     }
 
-    /// The command that makes this output, of which this was noted before, has ended well; it was started under this stamp, and this was found
-    /// there.
-    pub fn end(
-        &mut self,
-        output: &str,
-        last: Option<Last>,
-        start: u64,
-        found: Option<Measure>,
-    ) -> Result<(), AllocError>
-        ensures noted { OnOk result (LinesOf Made (left_of (option_map (λ it. it.noted) last) start found) output.now found self.old.lines.items self.new.lines.items) }
+    /// The command that makes this output has ended well, and this is seen of it: that is noted as it counts, and what is absent is, too.
+    pub fn end(&mut self, output: &str, looked: &Looked) -> Result<(), AllocError>
+        ensures noted { OnOk result (LeftOf looked.now.found looked.now.counts looked.now.last output.now self.old.lines.items self.new.lines.items) }
         ensures grows { OnOk result (Grows self.old.lines.items self.new.lines.items) }
     {
-        let number = left_of(noted_in(last), start, found);
-        self.note_left(output, last, found, number)
+        self.note_left(output, looked.found, looked.counts, looked.last)?;
+        match looked.last {
+            Some(last) => mark(&mut self.asked, last.place),
+            None => add(self.alloc, &mut self.fresh, output, true),
+        }
     }
 
-    /// Notes what its command left at this output under this number, if it is to be noted, and that it was asked for.
+    /// Notes what its command left at this output, of which this was noted before, and that counts under this stamp.
     fn note_left(
         &mut self,
         output: &str,
-        last: Option<Last>,
         found: Option<Measure>,
-        number: Option<u64>,
+        counts: Option<u64>,
+        last: Option<Last>,
     ) -> Result<(), AllocError>
-        ensures lines { OnOk result (LinesOf Made number output.now found self.old.lines.items self.new.lines.items) }
+        ensures lines { OnOk result (LeftOf found counts last output.now self.old.lines.items self.new.lines.items) }
+        ensures grows { OnOk result (Grows self.old.lines.items self.new.lines.items) }
     {
-        self.note_found(output, found, Kind::Made, number)?;
-        match last {
-            Some(last) => self.mark(last.place),
-            None => self.add(output, number),
+        match found {
+            Some(found) => {
+                let number = left_number(counts, found.stamp);
+                self.note_found(output, found, Kind::Made, number)
+            }
+            None => self.note_unmade(output, last),
         }
     }
 
@@ -198,16 +247,29 @@ impl Known {
     }
 }
 
-/// The number under which an output is noted of which this was noted, where this was found when its command had ended, which was started
-/// under this stamp; nothing where it is no file.
-fn left_of(noted: Option<Noted>, start: u64, found: Option<Measure>) -> Option<u64>
-    ensures { result ≡ left_of noted start found }
+/// What the record with this place notes was asked for in this build.
+fn mark(asked: &mut Vec<bool>, place: usize) -> Result<(), AllocError> {
+    if place >= asked.len() {
+        let count = asked.len().saturating_mul(2).max(place.saturating_add(1));
+        asked.resize(count, false)?;
+    }
+    if place < asked.len() {
+        asked[place] = true;
+    }
+    Ok(())
+}
+
+/// The path was noted in this build, if it was.
+fn add(alloc: Global, fresh: &mut Paths, path: &str, is_noted: bool) -> Result<(), AllocError> {
+    if is_noted {
+        fresh.add(alloc, path)?;
+    }
+    Ok(())
+}
+
+/// Whether it is noted that nothing is there.
+fn is_absence(noted: Noted) -> bool
+    ensures { result ≡ is_absence noted }
 {
-    let Some(Measure { stamp, size, .. }) = found else {
-        return None;
-    };
-    let Some(size) = size else {
-        return None;
-    };
-    Some(left_number(noted, start, stamp, size))
+    noted.size == NO_SIZE
 }

@@ -13,7 +13,7 @@ use crate::answer::{Looked, content_counted, measure_in};
 use crate::beginning::Beginning;
 use crate::counts::Counts;
 use crate::makers::Makers;
-use crate::measure::{Measure, Measured};
+use crate::measure::Measured;
 use crate::notes::{Entry, read_by};
 use crate::starts::started_since;
 use model::{Act, Event, Finished};
@@ -162,18 +162,6 @@ impl<S: Measured, B: Beginning> Retold<S, B> {
         Ok(self.known.look_by(self.is_begun, path, found)?)
     }
 
-    /// Measures what is at the path.
-    pub fn measure(&mut self, path: &str) -> Result<Option<Measure>, SiteFault>
-        ensures looks { OnlyLooks S.tells (told_world S.tells B.begun (S.world self.old.site)) (told_world S.tells B.begun (S.world self.new.site)) }
-        ensures cause { HasCause (told_world S.tells B.begun (S.world self.old.site)) (told_world S.tells B.begun (S.world self.new.site)) result }
-        ensures waits { KeepsWait (told_world S.tells B.begun (S.world self.old.site)) (told_world S.tells B.begun (S.world self.new.site)) }
-        ensures same { self.new.known ≡ self.old.known }
-        ensures one { self.new.is_for_one ≡ self.old.is_for_one }
-    {
-        looks_are_told();
-        self.site.measure(path)
-    }
-
     /// Puts the bytes behind the notes.
     pub fn put_behind(&mut self, lines: &[u8]) -> Result<(), SiteFault>
         ensures looks { OnlyLooks S.tells (told_world S.tells B.begun (S.world self.old.site)) (told_world S.tells B.begun (S.world self.new.site)) }
@@ -211,7 +199,7 @@ impl<S: Measured, B: Beginning> Retold<S, B> {
         fault_of(seen)
     }
 
-    /// Why the notes cannot be read.
+    /// Why the notes cannot be read, or no line may be put behind them.
     pub fn refuse_read(&mut self) -> SiteFault
         ensures { Refuses S.tells (told_world S.tells B.begun (S.world self.old.site)) (told_world S.tells B.begun (S.world self.new.site)) result }
     {

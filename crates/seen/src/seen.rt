@@ -1,6 +1,6 @@
 //! A site over a site.
 
-ghost use Rattle.std.specs.Prelude.{◌≡◌, [], false, IsTrue, OnErr, OnOk};
+ghost use Rattle.std.specs.Prelude.{◌≡◌, [], false, true, IsTrue, OnErr, OnOk};
 ghost use Rattle.model.specs.Calls.{Appends, AppendsOrNot, HasCause, KeepsWait};
 ghost use Rattle.model.specs.World.{World};
 ghost use Rattle.seen.specs.Asking.{Asks};
@@ -30,7 +30,8 @@ use text::{Bytes, cut};
 /// - It is made for one build, by what was read before ([`enter`]); or, on a site that does not tell its files, for builds one after another,
 ///   each of which begins where its build log is read. Before, files are as they are there.
 /// - Which edge makes which output the build file says ([`Seen::know`]).
-/// - What is to be noted is noted before the next record goes behind the build log or the deps log, in one append of its own.
+/// - What is to be noted is noted before the next record goes behind the build log or the deps log, in one append of its own. Where that fails,
+///   no line is put behind the notes any more in that build.
 ///
 /// As a site it tells its files where the one below does: those that count.
 ///
@@ -46,6 +47,8 @@ pub struct Seen<S: Measured, B: Beginning> {
     base: Option<Vec<u8>>,
     /// Whether what is to be known could not be, so that no build begins.
     lost: bool,
+    /// Whether lines could not be put behind the notes in this build, so that a part of them may stand there.
+    torn: bool,
 }
 
 impl<S: Measured, B: Beginning> Seen<S, B> {
@@ -68,6 +71,7 @@ impl<S: Measured, B: Beginning> Seen<S, B> {
             next: None,
             base,
             lost,
+            torn: false,
         }
     }
 
@@ -83,6 +87,7 @@ impl<S: Measured, B: Beginning> Seen<S, B> {
             next: None,
             base: None,
             lost: false,
+            torn: false,
         }
     }
 
@@ -109,6 +114,7 @@ impl<S: Measured, B: Beginning> Seen<S, B> {
         self.retold.begin(counts);
         self.known = Known::new(self.alloc);
         self.base = base;
+        self.torn = false;
         Ok(())
     }
 
@@ -163,7 +169,7 @@ impl<S: Measured, B: Beginning> Seen<S, B> {
     {
         match told_by(fields) {
             Told::Begun(outputs) => self.note_start(path, outputs),
-            Told::Done(start, outputs) => self.ask_made(start, outputs),
+            Told::Done(_, outputs) => self.ask_made(outputs),
             Told::Read(_, paths) => self.ask_read(paths),
             Told::Nothing => Ok(()),
         }
@@ -184,18 +190,27 @@ impl<S: Measured, B: Beginning> Seen<S, B> {
         Ok(())
     }
 
-    /// Asks for these outputs, of a command that was started under this stamp and has ended well, and notes them.
-    #[tactic(auto, using(crate::proofs::Answered::asks_none, crate::proofs::Answered::asks_more, crate::proofs::Answered::asks_fail, crate::proofs::Answered::asks_no_room, crate::proofs::Growing::grows_none, crate::proofs::Growing::grows_then))]
-    fn ask_made(&mut self, start: u64, outputs: &[Field<'_>]) -> Result<(), SiteFault>
+    /// Looks at these outputs, of a command that has ended well, and notes them as they count.
+    #[tactic(auto, using(crate::proofs::Answered::asks_none, crate::proofs::Answered::asks_both, crate::proofs::Answered::asks_fault, crate::proofs::Growing::grows_none, crate::proofs::Growing::grows_then))]
+    fn ask_made(&mut self, outputs: &[Field<'_>]) -> Result<(), SiteFault>
         ensures asks { Asks S.tells (told_world S.tells B.begun (S.world self.old.retold.site)) (told_world S.tells B.begun (S.world self.new.retold.site)) result }
         ensures grows { OnOk result (Grows self.old.known.lines.items self.new.known.lines.items) }
         ensures own { self.new.retold.known.own ≡ self.old.retold.known.own }
     {
         for output in outputs {
-            let found = self.retold.measure(output.as_str())?;
-            let last = self.retold.known.notes.last(output.as_str());
-            self.known.end(output.as_str(), last, start, found)?;
+            self.ask_left(output.as_str())?;
         }
+        Ok(())
+    }
+
+    #[tactic(auto, using(crate::proofs::Answered::asks_none, crate::proofs::Answered::asks_more, crate::proofs::Answered::asks_fail, crate::proofs::Answered::asks_no_room, crate::proofs::Growing::grows_none, crate::proofs::Growing::grows_then))]
+    fn ask_left(&mut self, output: &str) -> Result<(), SiteFault>
+        ensures asks { Asks S.tells (told_world S.tells B.begun (S.world self.old.retold.site)) (told_world S.tells B.begun (S.world self.new.retold.site)) result }
+        ensures grows { OnOk result (Grows self.old.known.lines.items self.new.known.lines.items) }
+        ensures own { self.new.retold.known.own ≡ self.old.retold.known.own }
+    {
+        let looked = self.retold.look(output)?;
+        self.known.end(output, &looked)?;
         Ok(())
     }
 
@@ -234,6 +249,7 @@ impl<S: Measured, B: Beginning> Seen<S, B> {
         ensures before { OnOk result (MayReplace S.tells self.old.retold.known.own.seen (S.world self.old.retold.site) (S.world self.new.retold.site)) }
         ensures known { self.new.known ≡ self.old.known }
         ensures own { self.new.retold.known.own ≡ self.old.retold.known.own }
+        ensures torn { self.new.torn ≡ self.old.torn }
     {
         match &self.base {
             Some(base) => self.retold.put_anew(base.as_slice()),
@@ -241,19 +257,27 @@ impl<S: Measured, B: Beginning> Seen<S, B> {
         }
     }
 
-    /// Puts the lines of what was noted behind the notes, if there are some.
-    #[tactic(auto, using(crate::proofs::Answered::asks_none, crate::proofs::Answered::asks_more, crate::proofs::Answered::asks_fail, crate::proofs::Answered::asks_fault, crate::proofs::Putting::puts_none, crate::proofs::Putting::puts_them))]
+    /// Puts the lines of what was noted behind the notes, if there are some. Where that failed in this build it is refused, since a line would join
+    /// what is left of another.
+    #[tactic(auto, using(crate::proofs::Answered::asks_none, crate::proofs::Answered::asks_more, crate::proofs::Answered::asks_fail, crate::proofs::Answered::asks_fault, crate::proofs::Answered::refused_asks, crate::proofs::Putting::err_always, crate::proofs::Putting::ok_never, crate::proofs::Putting::puts_none, crate::proofs::Putting::puts_them))]
     fn put_lines(&mut self) -> Result<(), SiteFault>
         ensures asks { Asks S.tells (told_world S.tells B.begun (S.world self.old.retold.site)) (told_world S.tells B.begun (S.world self.new.retold.site)) result }
         ensures puts { OnOk result (PutsLines S.tells self.old.retold.known.own.seen self.old.known.lines.items (S.world self.old.retold.site) (S.world self.new.retold.site)) }
         ensures left { OnOk result (self.new.known.lines.items ≡ []) }
+        ensures torn { self.old.torn ≡ true → OnOk result (S.world self.new.retold.site ≡ S.world self.old.retold.site) }
+        ensures tears { OnErr result (self.new.torn ≡ true) }
     {
         if self.known.lines.is_empty() {
             return Ok(());
         }
+        if self.torn {
+            return Err(self.retold.refuse_read());
+        }
+        self.torn = true;
         self.put_base()?;
         self.base = None;
         self.retold.put_behind(self.known.lines.as_slice())?;
+        self.torn = false;
         self.known.let_go();
         Ok(())
     }
