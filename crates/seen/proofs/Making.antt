@@ -1,14 +1,17 @@
 -- Which edge makes a path, and which paths are in a table.
-use Rattle.std.proofs.Common.{◌≡◌, inl, inr, String, ◌<◌, ℕ, zero, suc, Bool, true, false, ◌||◌, if◌then◌else◌, List, [], ◌∷◌, ◌++◌, Option, Some, None, is_some, slice_get, bytes_eq, string_bytes, nat_lt, refl, sym, ap, subst, ◌∙◌}
+use Rattle.std.proofs.Common.{◌≡◌, inl, inr, String, ◌<◌, ◌≤◌, ◌+◌, ℕ, zero, suc, Bool, true, false, ◌||◌, if◌then◌else◌, List, [], ◌∷◌, ◌++◌, take, length, get_or, Option, Some, None, is_some, slice_get, bytes_eq, string_bytes, nat_lt, refl, sym, ap, subst, ◌∙◌, append_assoc}
 use Rattle.std.specs.Prelude.{MatchOption}
-use Rattle.std.specs.Option.{option_or}
+use Rattle.std.specs.List.{cons_option}
+use Rattle.std.specs.Option.{option_map, option_or}
+use Rattle.std.proofs.lemmas.List.{append-nil, map_push, take_all, take_more}
+use Rattle.std.proofs.lemmas.List.Elements.{filter_map-append}
 use Rattle.std.proofs.lemmas.Bool.{cases_Bool, cond-true, cond-false, false≢true, ltb-true, lt-ltb}
 use Rattle.std.proofs.lemmas.Slice.Eq.{bytes_eq-Decides}
 use Rattle.model.specs.Graph.{has}
 use Rattle.std.specs.Map.{lookup}
 use Rattle.seen.specs.declared.makers.Makers.{Makers}
 use Rattle.seen.specs.declared.makers.Output.{Output}
-use Rattle.seen.specs.Makers.{are_below, is_job, made_in, maker_in, maker_of}
+use Rattle.seen.specs.Makers.{are_below, is_job, made_in, maker_in, maker_of, pairs_of, texts_with}
 
 -- ---- a table of paths
 
@@ -172,3 +175,38 @@ pub jobs_of_listed : (makers : Makers) → makers.table.entries ≡ [] → are_b
 jobs_of_listed makers none all p job is =
     are_jobs makers.jobs makers.listed.items p job all
     (sym (ap (λ (es : List (String _ × ℕ)). option_or (maker_in makers.listed.items p) (lookup (λ k. bytes_eq p (string_bytes k)) es)) none ∙ or_none (maker_in makers.listed.items p)) ∙ is)
+
+-- ---- what is listed
+
+module _ (paths : List (List ℕ)) (job : ℕ) where
+  abbrev with_job : Option (List ℕ) → Option (List ℕ × ℕ)
+  with_job found = option_map (λ (text : List ℕ). (text, job)) found
+
+  -- one path more
+  path_more : (numbers : List ℕ) (i d : ℕ) (found : Option (List ℕ)) → i < length numbers → slice_get paths (get_or numbers i d) ≡ found
+      → texts_with paths job (take (i + 1) numbers) ≡ texts_with paths job (take i numbers) ++ cons_option (with_job found) []
+  path_more numbers i d found below is =
+      ap (texts_with paths job) (take_more numbers i d below)
+      ∙ (filter_map-append (λ (number : ℕ). with_job (slice_get paths number)) (take i numbers) (get_or numbers i d ∷ [])
+      ∙ ap (λ (it : Option (List ℕ)). texts_with paths job (take i numbers) ++ cons_option (with_job it) []) is)
+
+  -- its text is listed
+  pub text_more : (numbers : List ℕ) (i d : ℕ) (os : List Output) (o : Output) (before : List (List ℕ × ℕ)) → i < length numbers → slice_get paths (get_or numbers i d) ≡ Some (string_bytes o.text) → o.job ≡ job
+      → pairs_of os ≡ before ++ texts_with paths job (take i numbers) → pairs_of (os ++ o ∷ []) ≡ before ++ texts_with paths job (take (i + 1) numbers)
+  text_more numbers i d os o before below is same so_far =
+      map_push (λ (o : Output). (string_bytes o.text, o.job)) os o
+      ∙ (ap (λ (l : List (List ℕ × ℕ)). l ++ (string_bytes o.text, o.job) ∷ []) so_far
+      ∙ (ap (λ (j : ℕ). (before ++ texts_with paths job (take i numbers)) ++ (string_bytes o.text, j) ∷ []) same
+      ∙ (append_assoc before (texts_with paths job (take i numbers)) ((string_bytes o.text, job) ∷ [])
+      ∙ sym (ap (λ (l : List (List ℕ × ℕ)). before ++ l) (path_more numbers i d (Some (string_bytes o.text)) below is)))))
+
+  -- or it has none
+  pub none_more : (numbers : List ℕ) (i d : ℕ) (listed before : List (List ℕ × ℕ)) → i < length numbers → slice_get paths (get_or numbers i d) ≡ None
+      → listed ≡ before ++ texts_with paths job (take i numbers) → listed ≡ before ++ texts_with paths job (take (i + 1) numbers)
+  none_more numbers i d listed before below is so_far =
+      so_far ∙ sym (ap (λ (l : List (List ℕ × ℕ)). before ++ l) (path_more numbers i d None below is ∙ append-nil (texts_with paths job (take i numbers))))
+
+  -- all of them
+  pub all_texts : (numbers : List ℕ) (i : ℕ) (listed before : List (List ℕ × ℕ)) → length numbers ≤ i
+      → listed ≡ before ++ texts_with paths job (take i numbers) → listed ≡ before ++ texts_with paths job numbers
+  all_texts numbers i listed before past so_far = so_far ∙ ap (λ (l : List ℕ). before ++ texts_with paths job l) (take_all i numbers past)

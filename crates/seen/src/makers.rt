@@ -1,7 +1,7 @@
 //! Which edge makes a path.
 
-ghost use Rattle.std.specs.Prelude.{◌≡◌, ◌<◌, ℕ, suc, true, length, IfOk, OnOk};
-ghost use Rattle.seen.specs.Makers.{are_below};
+ghost use Rattle.std.specs.Prelude.{◌≡◌, ◌<◌, ◌++◌, ℕ, suc, true, length, IfOk, OnOk};
+ghost use Rattle.seen.specs.Makers.{are_below, listing_at, pairs_of};
 
 use bumpalo::Bump;
 use indexmap::IndexMap;
@@ -27,8 +27,8 @@ pub struct Makers {
 }
 
 impl Makers {
-    ghost use Rattle.std.specs.Prelude.{◌≡◌, [], ℕ, List, None, IfOk, OnOk};
-    ghost use Rattle.seen.specs.Makers.{AreJobs, MakesSame, maker_of};
+    ghost use Rattle.std.specs.Prelude.{◌≡◌, [], ℕ, List, None, length, IfOk, OnOk};
+    ghost use Rattle.seen.specs.Makers.{AreJobs, MakesSame, listing, maker_of, pairs_of};
 
     /// None, which takes no memory.
     pub fn new(alloc: Global) -> Makers
@@ -43,10 +43,12 @@ impl Makers {
         }
     }
 
-    /// The outputs of the edges with commands, whose texts take memory until the program ends.
+    /// The outputs of the edges with commands, each with the number under which its edge is started. Their texts take memory until the
+    /// program ends.
     pub fn of(alloc: Global, manifest: &Manifest) -> Result<Makers, AllocError>
         ensures jobs { IfOk result AreJobs }
         ensures table { IfOk result (λ makers. makers.table.entries ≡ []) }
+        ensures lists { IfOk result (λ makers. pairs_of makers.listed.items ≡ listing manifest.now (length manifest.now.lines)) }
     {
         let arena = arena(alloc)?;
         let mut listed = Vec::new(alloc);
@@ -112,7 +114,8 @@ fn list_outputs(
     listed: &mut Vec<Output>,
 ) -> Result<(), AllocError>
     requires { place < length manifest.now.lines }
-    ensures { OnOk result ((jobs : ℕ) → suc place < jobs → are_below jobs listed.old.items ≡ true → are_below jobs listed.new.items ≡ true) }
+    ensures below { OnOk result ((jobs : ℕ) → suc place < jobs → are_below jobs listed.old.items ≡ true → are_below jobs listed.new.items ≡ true) }
+    ensures lists { OnOk result (pairs_of listed.new.items ≡ pairs_of listed.old.items ++ listing_at manifest.now place) }
 {
     let edge = manifest.edge(place);
     if matches!(manifest.action(edge), Action::Alias) {
