@@ -27,7 +27,11 @@ by_known false over is_output c how is b = absurd (none_some is)
 
 counts_so : (noted : Option Noted) (is_output : Bool) (since : Option ℕ) (number : ℕ) (found : Option Measure) (how : Judged) → already noted found ≡ Some how
     → how ≡ judged (record { noted = noted; is_output = is_output; since = since }) number found
-counts_so noted is_output since number None how is = sym (some_is is)
+counts_so noted is_output since number None how is = away noted is
+  where
+    away : (known : Option Noted) → already known None ≡ Some how → how ≡ judged (record { noted = known; is_output = is_output; since = since }) number None
+    away None so = absurd (none_some so)
+    away (Some n) so = sym (some_is so)
 counts_so noted is_output since number (Some found) how is = sized noted found.size is
   where
     sized : (known : Option Noted) (size : Option ℕ) → already known (Some (record { stamp = found.stamp; size = size; placed = found.placed })) ≡ Some how
@@ -57,7 +61,11 @@ file_counts noted found how is = sized noted found.size is
     sized (Some n) (Some size) so = if_counts (is_as_noted n found.stamp size && not (is_turned n.kind)) (counts_of n) how so
 
 counted_so : (noted : Option Noted) (found : Option Measure) (how : Judged) (started : Option ℕ) → already noted found ≡ Some how → how.counts ≡ counted_by how started found
-counted_so noted None how started is = ap (λ (j : Judged). j.counts) (sym (some_is is))
+counted_so noted None how started is = away noted is
+  where
+    away : (known : Option Noted) → already known None ≡ Some how → how.counts ≡ None
+    away None so = absurd (none_some so)
+    away (Some n) so = ap (λ (j : Judged). j.counts) (sym (some_is so))
 counted_so noted (Some found) how started is =
     let so = file_counts noted found how is in
     so.1 ∙ sym (ap (λ (c : Option ℕ). stamp_told c started found.stamp) so.1)

@@ -1,5 +1,5 @@
 -- How what is found at a path counts, by what is noted of it. All is this project's own.
-use Rattle.std.specs.Prelude.{ℕ, ◌+◌, ◌-◌, ◌%◌, ◌^◌, ◌==◌, ◌&&◌, ◌||◌, not, max, min, nat_lt, Bool, true, false, if◌then◌else◌, Option, Some, None}
+use Rattle.std.specs.Prelude.{ℕ, ◌+◌, ◌-◌, ◌%◌, ◌^◌, ◌==◌, ◌&&◌, ◌||◌, not, max, min, nat_lt, Bool, true, false, if◌then◌else◌, Option, Some, None, is_some}
 use Rattle.seen_log.specs.declared.note.Kind.{Kind}
 use Rattle.seen_log.specs.declared.note.Kind.TheVariants.{Source, Made, Turned}
 use Rattle.seen_log.specs.declared.note.Noted.{Noted}
@@ -69,9 +69,13 @@ abbrev pub judged_sized : Past → (number stamp placed : ℕ) → Option ℕ �
 judged_sized past number stamp placed None = plainly (Some stamp)
 judged_sized past number stamp placed (Some size) = judged_file past.noted past number stamp size placed
 
+-- What is absent does not count. Of a path that was never noted, and that no command makes, that is to be noted.
+abbrev pub judged_away : (is_noted is_output : Bool) → Judged
+judged_away is_noted is_output = if is_noted || is_output then plainly None else record { counts = None; number = Some 0; kind = Source }
+
 -- how what is found at a path of this past counts, in a build of this number
 abbrev pub judged : Past → (number : ℕ) → Option Measure → Judged
-judged past number None = plainly None
+judged past number None = judged_away (is_some past.noted) past.is_output
 judged past number (Some found) = judged_sized past number found.stamp found.placed found.size
 
 -- ---- what a command left
@@ -85,15 +89,20 @@ abbrev pub left_number : (counts : Option ℕ) → (stamp : ℕ) → Option ℕ
 left_number None stamp = None
 left_number (Some counts) stamp = Some (number_told counts stamp)
 
--- how what was found counts where nothing else is asked: it is absent, a folder, or as noted, and nothing that somebody wrote where a command
--- had made the path
+-- what is absent counts so, of which something is noted
+abbrev pub already_away : Option Noted → Option Judged
+already_away None = None
+already_away (Some noted) = Some (plainly None)
+
+-- how what was found counts where nothing else is asked: it is noted and absent, a folder, or as noted, and nothing that somebody wrote where a
+-- command had made the path
 abbrev pub already_sized : Option Noted → (stamp : ℕ) → Option ℕ → Option Judged
 already_sized noted stamp None = Some (plainly (Some stamp))
 already_sized None stamp (Some size) = None
 already_sized (Some noted) stamp (Some size) = if is_as_noted noted stamp size && not (is_turned noted.kind) then Some (plainly (Some (counts_of noted))) else None
 
 abbrev pub already : Option Noted → Option Measure → Option Judged
-already noted None = Some (plainly None)
+already noted None = already_away noted
 already noted (Some found) = already_sized noted found.stamp found.size
 
 -- ---- the number of a build

@@ -4,7 +4,7 @@ use Rattle.model.specs.Graph.{has}
 use Rattle.model.specs.World.{World}
 use Rattle.model.specs.Calls.{Appends, Writes}
 use Rattle.seen_log.specs.declared.note.Kind.{Kind}
-use Rattle.seen_log.specs.declared.note.Kind.TheVariants.{Made}
+use Rattle.seen_log.specs.declared.note.Kind.TheVariants.{Made, Source}
 use Rattle.seen_log.specs.declared.note.Last.{Last}
 use Rattle.seen_log.specs.declared.note.Noted.{Noted}
 use Rattle.seen_log.specs.Log.{Notes}
@@ -48,10 +48,15 @@ abbrev pub AbsenceOf : (is_noted : Bool) → Kind → List ℕ → List ℕ → 
 AbsenceOf true kind path old new = new ≡ old
 AbsenceOf false kind path old new = Notes path (absence kind) old new
 
--- Nothing is found where this was noted before: that is noted, as of the same kind. Of a path that was never noted it is not.
-abbrev pub AwayOf : Option Last → List ℕ → List ℕ → List ℕ → Type 0
-AwayOf None path old new = new ≡ old
-AwayOf (Some last) path old new = AbsenceOf (is_absence last.noted) last.noted.kind path old new
+-- nothing is found where nothing was noted before: that is noted of a source if there is a number for it
+abbrev pub NeverOf : Option ℕ → List ℕ → List ℕ → List ℕ → Type 0
+NeverOf None path old new = new ≡ old
+NeverOf (Some number) path old new = Notes path (absence Source) old new
+
+-- nothing is found where this was noted before: that is noted, as of the same kind
+abbrev pub AwayOf : Option ℕ → Option Last → List ℕ → List ℕ → List ℕ → Type 0
+AwayOf number None path old new = NeverOf number path old new
+AwayOf number (Some last) path old new = AbsenceOf (is_absence last.noted) last.noted.kind path old new
 
 -- its command has left nothing where this was noted before: that is noted, also where nothing was
 abbrev pub UnmadeOf : Option Last → List ℕ → List ℕ → List ℕ → Type 0
@@ -62,7 +67,7 @@ UnmadeOf (Some last) path old new = AbsenceOf (is_absence last.noted) Made path 
 
 -- what was found where this was noted before, and is judged so, is noted, or that it is absent
 abbrev pub SeenOf : Option Measure → Judged → Option Last → List ℕ → List ℕ → List ℕ → Type 0
-SeenOf None how last path old new = AwayOf last path old new
+SeenOf None how last path old new = AwayOf how.number last path old new
 SeenOf (Some found) how last path old new = LinesOf how.kind how.number path found old new
 
 -- what its command left, which counts under this stamp, is noted so, or that it is absent

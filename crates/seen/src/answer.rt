@@ -5,7 +5,7 @@ ghost use Rattle.std.specs.Option.{option_map};
 ghost use Rattle.model.specs.Graph.{has};
 ghost use Rattle.seen_law.specs.Retold.{late, stamp_told};
 ghost use Rattle.seen.specs.Answered.{own_stamp, placed_by};
-ghost use Rattle.seen.specs.Judged.{already, plainly};
+ghost use Rattle.seen.specs.Judged.{already, already_away, plainly};
 ghost use Rattle.seen.specs.Reading.{content_counted, measure_in};
 
 use crate::judging::{Judged, is_as_noted, is_turned, plainly};
@@ -131,13 +131,23 @@ pub fn noted_in(last: Option<Last>) -> Option<Noted>
     }
 }
 
-/// How what was found counts where nothing else is asked: it is absent, a folder, or as noted, and nothing that somebody wrote where a command
-/// had made the path.
+/// How what is absent counts of which this is noted.
+fn already_away(noted: Option<Noted>) -> Option<Judged>
+    ensures { result ≡ already_away noted }
+{
+    match noted {
+        Some(_) => Some(plainly(None)),
+        None => None,
+    }
+}
+
+/// How what was found counts where nothing else is asked: it is noted and absent, a folder, or as noted, and nothing that somebody wrote where a
+/// command had made the path.
 pub fn already(noted: Option<Noted>, found: Option<Measure>) -> Option<Judged>
     ensures { result ≡ already noted found }
 {
     let Some(Measure { stamp, size, .. }) = found else {
-        return Some(plainly(None));
+        return already_away(noted);
     };
     let Some(size) = size else {
         return Some(plainly(Some(stamp)));

@@ -1,7 +1,7 @@
 //! How what is found at a path counts.
 
 ghost use Rattle.std.specs.Prelude.{◌≡◌};
-ghost use Rattle.seen.specs.Judged.{is_as_noted, is_late, is_turned, judged, judged_new, judged_noted, judged_same, left_number, next_number, number_told, plainly, turned, under, whole_seconds};
+ghost use Rattle.seen.specs.Judged.{is_as_noted, is_late, is_turned, judged, judged_away, judged_new, judged_noted, judged_same, left_number, next_number, number_told, plainly, turned, under, whole_seconds};
 
 use crate::measure::Measure;
 use seen_log::{Kind, Noted, counts_of};
@@ -48,6 +48,7 @@ struct Stood {
 /// - An output that is another than the noted one counts as absent, until its command was started ([`stamp_told`]), and what it left is noted as
 ///   it counts then ([`left_number`]).
 /// - A folder has its own stamp, and is not noted.
+/// - What is absent does not count, and that is noted, but of an output of which nothing is.
 pub fn judge(past: Past, number: u64, found: Option<Measure>) -> Judged
     ensures { result ≡ judged past number found }
 {
@@ -59,7 +60,7 @@ pub fn judge(past: Past, number: u64, found: Option<Measure>) -> Judged
         },
     ) = found
     else {
-        return plainly(None);
+        return judge_away(past.noted.is_some(), past.is_output);
     };
     let Some(size) = size else {
         return plainly(Some(stamp));
@@ -91,6 +92,21 @@ fn number_told(counts: u64, stamp: u64) -> u64
     ensures { result ≡ number_told counts stamp }
 {
     if counts == stamp { 0 } else { counts }
+}
+
+/// How what is absent counts. Of a path that was never noted, and that no command makes, that is to be noted: what comes there later is another
+/// than that, also under an old stamp. A first build notes none of its outputs so.
+fn judge_away(is_noted: bool, is_output: bool) -> Judged
+    ensures { result ≡ judged_away is_noted is_output }
+{
+    if is_noted || is_output {
+        return plainly(None);
+    }
+    Judged {
+        counts: None,
+        number: Some(0),
+        kind: Kind::Source,
+    }
 }
 
 /// How a file counts that was never noted.

@@ -28,7 +28,7 @@ pub struct Known {
 impl Known {
     ghost use Rattle.std.specs.Prelude.{◌≡◌, [], OnOk};
     ghost use Rattle.model.specs.Graph.{has};
-    ghost use Rattle.seen.specs.Noting.{AbsenceOf, AwayOf, Grows, LeftOf, LinesOf, SeenOf, UnlessSettled, UnmadeOf, absence, is_marked, is_settled};
+    ghost use Rattle.seen.specs.Noting.{AbsenceOf, AwayOf, Grows, LeftOf, LinesOf, NeverOf, SeenOf, UnlessSettled, UnmadeOf, absence, is_marked, is_settled};
 
     /// Nothing was noted. This takes no memory.
     pub fn new(alloc: Global) -> Known
@@ -84,7 +84,7 @@ impl Known {
     {
         match found {
             Some(found) => self.note_found(path, found, how.kind, how.number),
-            None => self.note_away(path, last),
+            None => self.note_away(path, how.number, last),
         }
     }
 
@@ -117,15 +117,30 @@ impl Known {
         )
     }
 
-    /// Nothing was found where this was noted before: what comes back there is another than it was, also under its old stamp. A path that was
-    /// never noted gets no line, so that a first build has none for each of its outputs.
-    #[tactic(auto, using(crate::proofs::Growing::grows_none))]
-    fn note_away(&mut self, path: &str, last: Option<Last>) -> Result<(), AllocError>
-        ensures lines { OnOk result (AwayOf last path.now self.old.lines.items self.new.lines.items) }
+    /// Nothing was found where this was noted before: what comes back there is another than it was, also under its old stamp.
+    fn note_away(
+        &mut self,
+        path: &str,
+        number: Option<u64>,
+        last: Option<Last>,
+    ) -> Result<(), AllocError>
+        ensures lines { OnOk result (AwayOf number last path.now self.old.lines.items self.new.lines.items) }
         ensures grows { OnOk result (Grows self.old.lines.items self.new.lines.items) }
     {
         match last {
             Some(last) => self.note_absence(path, last.noted, last.noted.kind),
+            None => self.note_never(path, number),
+        }
+    }
+
+    /// Nothing was found where nothing was noted before, which is noted of a source if there is a number for it.
+    #[tactic(auto, using(crate::proofs::Growing::grows_none))]
+    fn note_never(&mut self, path: &str, number: Option<u64>) -> Result<(), AllocError>
+        ensures lines { OnOk result (NeverOf number path.now self.old.lines.items self.new.lines.items) }
+        ensures grows { OnOk result (Grows self.old.lines.items self.new.lines.items) }
+    {
+        match number {
+            Some(_) => self.push_absence(path, Kind::Source),
             None => Ok(()),
         }
     }
