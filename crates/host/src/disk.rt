@@ -6,7 +6,7 @@ ghost use Rattle.std.specs.Fs.{asks_append, asks_truncate};
 use crate::clock::Touches;
 use crate::content::content_of;
 use crate::held::rest;
-use crate::logs::{Logs, is_log};
+use crate::logs::{Logs, is_log, unless_lost};
 use locks::Identity;
 use std::alloc::{AllocError, Global};
 use std::fs::{File, Metadata, OpenOptions};
@@ -200,9 +200,11 @@ impl<'a> Disk<'a> {
 
     /// Puts the bytes behind what the file at the path holds. Where it fails, a beginning of them may stand there. A file that was put in
     /// its place since the last time is seen, by one look at the path: at once, or within ten milliseconds where it is a log whose lock keeps
-    /// other builds from that.
+    /// other builds from that. Where its folder was removed, the notes are lost, which is no error.
     pub fn append(&mut self, path: &str, bytes: &[u8]) -> io::Result<()> {
-        let mut appended = self.open_appended(path)?;
+        let Some(mut appended) = unless_lost(path, self.open_appended(path))? else {
+            return Ok(());
+        };
         if self.appended.len() >= MOST_KEPT {
             self.appended.clear();
         }

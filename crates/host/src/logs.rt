@@ -85,6 +85,16 @@ pub fn is_log(path: &str) -> bool {
     is_named(path, LOG) || is_named(path, DEPS_LOG) || is_named(path, SEEN_LOG)
 }
 
+/// What was opened, or nothing where it is the notes and their folder is not there: a command that removes that folder removes all logs of its
+/// build, which are put there no more either.
+pub fn unless_lost<T>(path: &str, opened: io::Result<T>) -> io::Result<Option<T>> {
+    if is_named(path, SEEN_LOG) {
+        unless_absent(opened)
+    } else {
+        Ok(Some(opened?))
+    }
+}
+
 /// Whether this is the last part of the path.
 fn is_named(path: &str, name: &str) -> bool {
     match path.rsplit_once('/') {
@@ -187,12 +197,14 @@ impl<'a> Logs<'a> {
     ///
     /// The content is written under the path with `.new` behind it, and gets its name then. A program that has made that file is the only one
     /// that replaces this log. What the log is, is looked at only then: one that was absent or empty when two builds read it gets one text.
+    /// Where its folder was removed, the notes are lost, which is no error.
     pub fn replace(&mut self, path: &str, content: &[u8]) -> io::Result<()> {
         let looks = self.looks();
         self.guard = None;
-        let new = self.make_new(path, looks)?;
-        let way = self.way(path, content, looks)?;
-        self.go(way, new, path, content)?;
+        if let Some(new) = unless_lost(path, self.make_new(path, looks))? {
+            let way = self.way(path, content, looks)?;
+            self.go(way, new, path, content)?;
+        }
         self.forget(path);
         self.hold(path)
     }
