@@ -115,6 +115,7 @@ fn try_on<'a>(
     swept: &mut Swept,
 ) -> io::Result<bool> {
     scenario.come_to_last(seen)?;
+    scenario.begin(seen);
     let told = &mut seen.retold;
     told.site.stop_at(place.call, place.number, place.bytes)?;
     match scenario.build(seen) {
@@ -128,15 +129,15 @@ fn try_on<'a>(
 
 /// The build behind one that was ended at the place, and the next one.
 fn build_behind<'a>(
-    scenario: &mut Scenario<'a>,
+    scenario: &Scenario<'a>,
     seen: &mut Seen<Dated<'a>, Brand>,
     place: Place,
     swept: &mut Swept,
 ) -> io::Result<()> {
-    let end = scenario.build(seen);
+    let end = scenario.build_anew(seen);
     let retold = &seen.retold;
     let is_clean = scenario.is_clean(&retold.site)?;
-    let next = scenario.build(seen);
+    let next = scenario.build_anew(seen);
     swept.note(place, is_well(end) && is_clean, is_idle(next));
     seen.retold.site.check()?;
     Ok(())

@@ -125,7 +125,7 @@ impl<'a> Scenario<'a> {
         target: &'a str,
     ) -> Result<(), AllocError> {
         self.ask(target)?;
-        self.build(seen);
+        self.build_anew(seen);
         Ok(())
     }
 
@@ -147,10 +147,20 @@ impl<'a> Scenario<'a> {
         Ok(())
     }
 
-    /// Builds, as a program that is started anew. What was to go wrong or to come is over then.
-    pub fn build(&mut self, seen: &mut Seen<Dated<'a>, Brand>) -> End {
+    /// Builds what is asked for, as a program that is started anew.
+    pub fn build_anew(&self, seen: &mut Seen<Dated<'a>, Brand>) -> End {
+        self.begin(seen);
+        self.build(seen)
+    }
+
+    /// A program is started anew, and knows the build file.
+    pub fn begin(&self, seen: &mut Seen<Dated<'a>, Brand>) {
         seen.restart();
         learn(self.alloc, seen, self.file);
+    }
+
+    /// It builds. What was to go wrong or to come is over then.
+    pub fn build(&self, seen: &mut Seen<Dated<'a>, Brand>) -> End {
         let report = build_by(
             self.alloc,
             seen,
@@ -173,23 +183,19 @@ impl<'a> Scenario<'a> {
 
     /// Builds, and tells what that starts, and how it ends if not well. Whether it ends well.
     fn push_build(
-        &mut self,
+        &self,
         seen: &mut Seen<Dated<'a>, Brand>,
         told: &mut Vec<u8>,
     ) -> io::Result<bool> {
         let before = seen.events().len();
-        let end = self.build(seen);
+        let end = self.build_anew(seen);
         let events = seen.events().get(before..).unwrap_or(&[]);
         push_started(self.alloc, events, told)?;
         push_end(end, told)
     }
 
     /// What is so behind a build that ended well.
-    fn push_behind(
-        &mut self,
-        seen: &mut Seen<Dated<'a>, Brand>,
-        told: &mut Vec<u8>,
-    ) -> io::Result<()> {
+    fn push_behind(&self, seen: &mut Seen<Dated<'a>, Brand>, told: &mut Vec<u8>) -> io::Result<()> {
         let retold = &seen.retold;
         if self.is_clean(&retold.site)? {
             write!(told, ", clean, then ")?;
