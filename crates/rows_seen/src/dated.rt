@@ -383,8 +383,8 @@ impl Date {
 /// Whether the last of these events is a start.
 fn ends_with_start(events: &[Event]) -> bool {
     match events.last() {
-        Some(Event::Start { .. }) => true,
-        Some(Event::Finish { .. }) | None => false,
+        Some(last) => matches!(last, Event::Start { .. }),
+        None => false,
     }
 }
 

@@ -81,12 +81,15 @@ fn bring_back(site: &mut Dated<'_>, paths: &str) -> Result<(), AllocError> {
 fn cut(site: &mut Dated<'_>, paths: &str) -> Result<(), AllocError> {
     for path in paths.split(' ') {
         let stamp = site.stamp(path);
-        site.bring_again(path, stamp.map(whole_seconds))?;
+        site.bring_again(path, whole_seconds(stamp))?;
     }
     Ok(())
 }
 
-/// A stamp cut to whole seconds.
-fn whole_seconds(stamp: u64) -> u64 {
-    stamp.saturating_sub(stamp % SECOND)
+/// A stamp, if there is one, cut to whole seconds.
+fn whole_seconds(stamp: Option<u64>) -> Option<u64> {
+    match stamp {
+        Some(stamp) => Some(stamp.saturating_sub(stamp % SECOND)),
+        None => None,
+    }
 }
