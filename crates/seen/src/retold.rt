@@ -109,6 +109,8 @@ impl<S: Measured, B: Beginning> Retold<S, B> {
     /// A build begins, and this is known.
     pub fn begin(&mut self, known: Counts)
         requires many { self.old.is_for_one ≡ false }
+        ensures known { self.new.known ≡ known }
+        ensures begun { self.new.is_begun ≡ true }
         ensures site { self.new.site ≡ self.old.site }
         ensures many { self.new.is_for_one ≡ false }
     {
@@ -140,6 +142,10 @@ impl<S: Measured, B: Beginning> Retold<S, B> {
     pub fn make(&mut self, alloc: Global, path: &str) -> Result<(), AllocError>
         ensures site { self.new.site ≡ self.old.site }
         ensures own { self.new.known.own ≡ self.old.known.own }
+        ensures notes { self.new.known.notes ≡ self.old.known.notes }
+        ensures makers { self.new.known.makers ≡ self.old.known.makers }
+        ensures number { self.new.known.number ≡ self.old.known.number }
+        ensures starts { self.new.known.starts ≡ self.old.known.starts }
         ensures one { self.new.is_for_one ≡ self.old.is_for_one }
     {
         self.known.made.add(alloc, path)?;
