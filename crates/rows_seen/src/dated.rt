@@ -4,12 +4,13 @@ ghost use Rattle.std.specs.Prelude.{◌≡◌, false};
 ghost use Rattle.sim.specs.World.{world_of};
 ghost use Rattle.rows_seen.specs.Files.{OnlyFiles};
 
-use meanwhile::{Clean, Random, Source, name_trouble};
+use meanwhile::{Clean, Random, Source, edges_of, name_trouble};
 use model::{Act, Event, Finished, SiteFault};
 use seen::{Measure, Measured};
-use sim::{Sim, Toy};
+use sim::{Call, Sim, Timing, Toy};
 use site::{Site, Texts};
 use std::alloc::{AllocError, Global};
+use tables::unescaped;
 use text::Bytes;
 
 /// A file that is deleted so often that old stamps are earlier than those of all that is written. No edge names it.
@@ -27,6 +28,8 @@ pub struct Dated<'a> {
     source: Source<'a>,
     random: Random,
     dates: Vec<Date>,
+    /// What is put in place while the next command runs.
+    coming: Option<Coming<'a>>,
     /// How many files were put under an old stamp. No two have the same one.
     given: u64,
     /// Somebody writes in one of so many calls, and never where it is 0.
@@ -41,7 +44,18 @@ pub struct Dated<'a> {
 struct Date {
     path: String,
     content: Bytes,
+    /// The stamp of the write, where this is of one file alone. Else it is of each that holds this.
+    placed: Option<u64>,
     stamp: Option<u64>,
+}
+
+/// What somebody puts in place while a command runs, under this stamp or that of the write.
+#[derive(Clone, Copy)]
+pub struct Coming<'a> {
+    pub path: &'a str,
+    pub stamp: Option<u64>,
+    /// A text of a row, with its escapes.
+    pub text: &'a str,
 }
 
 impl<'a> Dated<'a> {
@@ -53,6 +67,7 @@ impl<'a> Dated<'a> {
             source,
             random: Random::new(seed),
             dates: Vec::new(alloc),
+            coming: None,
             given: 0,
             seldom: 0,
             lost: false,
@@ -61,7 +76,12 @@ impl<'a> Dated<'a> {
 
     /// From now on what is written has a later stamp than each old one.
     pub fn grow_old(&mut self) -> Result<(), AllocError> {
-        erase_often(&mut self.site, OLD.saturating_add(1))
+        self.grow(OLD)
+    }
+
+    /// From now on what is written has a later stamp than this one.
+    pub fn grow(&mut self, stamp: u64) -> Result<(), AllocError> {
+        erase_often(&mut self.site, stamp.saturating_add(1))
     }
 
     /// The build file becomes that of this line of edges.
@@ -123,7 +143,7 @@ impl<'a> Dated<'a> {
     {
         put(&mut self.site, path, content)?;
         let stamp = self.next_stamp();
-        self.date(path, content, stamp)
+        self.date(path, content, None, stamp)
     }
 
     /// An old stamp, or none where the next write is to have its own.
@@ -138,7 +158,13 @@ impl<'a> Dated<'a> {
     }
 
     /// The file that stands at the path has this stamp, or that of its write.
-    fn date(&mut self, path: &str, content: &[u8], stamp: Option<u64>) -> Result<(), AllocError>
+    fn date(
+        &mut self,
+        path: &str,
+        content: &[u8],
+        placed: Option<u64>,
+        stamp: Option<u64>,
+    ) -> Result<(), AllocError>
         ensures { self.new.site ≡ self.old.site }
     {
         let path = String::from_str(self.alloc, path)?;
@@ -146,9 +172,71 @@ impl<'a> Dated<'a> {
         self.dates.push(Date {
             path,
             content,
+            placed,
             stamp,
         })?;
         Ok(())
+    }
+
+    /// A build file gets the rules, and these edges.
+    pub fn put_edges(&mut self, file: &str, edges: &str) -> Result<(), AllocError> {
+        let bytes = edges_of(self.alloc, edges)?;
+        self.site.put(file, bytes.as_slice())
+    }
+
+    /// Somebody writes the file while nothing is built, under this stamp or that of the write.
+    pub fn put_under(
+        &mut self,
+        path: &str,
+        content: &[u8],
+        stamp: Option<u64>,
+    ) -> Result<(), AllocError> {
+        self.site.put(path, content)?;
+        let placed = self.placed(path);
+        self.date(path, content, placed, stamp)
+    }
+
+    /// When the file at the path was written, while nothing is built.
+    fn placed(&mut self, path: &str) -> Option<u64> {
+        self.site.stat(path).unwrap_or(None)
+    }
+
+    /// The stamp of the file at the path, while nothing is built.
+    pub fn stamp(&mut self, path: &str) -> Option<u64> {
+        let placed = self.placed(path);
+        self.measured(path, placed).map(|found| found.stamp)
+    }
+
+    /// The file at the path, if there is one, goes away while nothing is built, and comes back under this stamp.
+    pub fn bring_again(&mut self, path: &str, stamp: Option<u64>) -> Result<(), AllocError> {
+        let Some(content) = self.copy(path)? else {
+            return Ok(());
+        };
+        self.site.erase(path)?;
+        self.put_under(path, content.as_slice(), stamp)
+    }
+
+    /// A copy of what the file at the path holds.
+    fn copy(&self, path: &str) -> Result<Option<Bytes>, AllocError> {
+        match self.site.content(path) {
+            Some(content) => Ok(Some(content.clone()?)),
+            None => Ok(None),
+        }
+    }
+
+    /// While the next command runs, somebody puts this in place.
+    pub fn let_come(&mut self, coming: Coming<'a>) {
+        self.coming = Some(coming);
+    }
+
+    /// From now on commands read and write when they start.
+    pub fn read_early(&mut self) {
+        self.site.timing(Timing::Early);
+    }
+
+    /// The site stops in a call of this kind, as `Sim::stop_at` says.
+    pub fn stop_at(&mut self, call: Call, number: u64, bytes: usize) -> Result<(), AllocError> {
+        self.site.stop_at(call, number, bytes)
     }
 
     /// From now on somebody writes in one of so many calls.
@@ -159,6 +247,7 @@ impl<'a> Dated<'a> {
     /// Nobody writes any more, and nothing goes wrong.
     pub fn leave(&mut self) {
         self.seldom = 0;
+        self.coming = None;
         self.site.forget_faults();
     }
 
@@ -170,6 +259,28 @@ impl<'a> Dated<'a> {
     /// What a clean build of the files gives.
     pub fn clean_build(&mut self) -> Result<Option<Clean>, AllocError> {
         Clean::of(self.alloc, &mut self.site, self.source)
+    }
+
+    /// What a clean build of the files gives, by this build file. Of the site nothing is asked.
+    pub fn clean_build_by(&self, file: &str) -> Result<Option<Clean>, AllocError> {
+        let mut plain = Sim::new(self.alloc, Toy);
+        let clean = self.clean_on(&mut plain, file);
+        clean
+    }
+
+    fn clean_on(&self, plain: &mut Sim<Toy>, file: &str) -> Result<Option<Clean>, AllocError> {
+        self.copy_to(plain, file, "build.ninja")?;
+        for path in self.source.sources.split(' ') {
+            self.copy_to(plain, path, path)?;
+        }
+        Clean::of(self.alloc, plain, self.source)
+    }
+
+    fn copy_to(&self, plain: &mut Sim<Toy>, path: &str, to: &str) -> Result<(), AllocError> {
+        match self.site.content(path) {
+            Some(content) => plain.put(to, content.as_slice()),
+            None => Ok(()),
+        }
     }
 
     /// Whether the site has at the path what the clean build leaves there.
@@ -194,12 +305,46 @@ impl<'a> Dated<'a> {
     fn pause(&mut self)
         ensures { OnlyFiles (world_of self.old.site) (world_of self.new.site) }
     {
-        if self.seldom == 0 || !self.random.one_in(self.seldom) {
-            return;
-        }
-        if self.edit().is_err() {
+        if self.write_now().is_err() {
             self.lost = true;
         }
+    }
+
+    /// Somebody writes what is to come, or may edit a source.
+    fn write_now(&mut self) -> Result<(), AllocError>
+        ensures { OnlyFiles (world_of self.old.site) (world_of self.new.site) }
+    {
+        match self.take_coming() {
+            Some(coming) => self.put_coming(coming),
+            None => self.may_edit(),
+        }
+    }
+
+    /// What is to come, if a command was started right now. It comes once.
+    fn take_coming(&mut self) -> Option<Coming<'a>>
+        ensures { self.new.site ≡ self.old.site }
+    {
+        if self.coming.is_none() || !ends_with_start(self.site.events()) {
+            return None;
+        }
+        self.coming.take()
+    }
+
+    fn put_coming(&mut self, coming: Coming<'a>) -> Result<(), AllocError>
+        ensures { OnlyFiles (world_of self.old.site) (world_of self.new.site) }
+    {
+        let content = unescaped(self.alloc, coming.text)?;
+        put(&mut self.site, coming.path, content.as_slice())?;
+        self.date(coming.path, content.as_slice(), None, coming.stamp)
+    }
+
+    fn may_edit(&mut self) -> Result<(), AllocError>
+        ensures { OnlyFiles (world_of self.old.site) (world_of self.new.site) }
+    {
+        if self.seldom == 0 || !self.random.one_in(self.seldom) {
+            return Ok(());
+        }
+        self.edit()
     }
 
     /// What stands at the path, where this is the stamp of its last write.
@@ -218,11 +363,28 @@ impl<'a> Dated<'a> {
     fn stamp_at(&self, path: &str, content: &[u8], placed: u64) -> u64 {
         let mut stamp = placed;
         for date in &self.dates {
-            if date.path.as_str() == path && date.content.as_slice() == content {
+            if date.is_of(path, content, placed) {
                 stamp = date.stamp.unwrap_or(placed);
             }
         }
         stamp
+    }
+}
+
+impl Date {
+    /// Whether it is that of a file of this content, which was written at the path under this stamp.
+    fn is_of(&self, path: &str, content: &[u8], placed: u64) -> bool {
+        self.path.as_str() == path
+            && self.content.as_slice() == content
+            && self.placed.unwrap_or(placed) == placed
+    }
+}
+
+/// Whether the last of these events is a start.
+fn ends_with_start(events: &[Event]) -> bool {
+    match events.last() {
+        Some(last) => matches!(last, Event::Start { .. }),
+        None => false,
     }
 }
 

@@ -1,16 +1,19 @@
-//! What histories are made up of.
+//! What histories are made up of, and scenarios.
 
+use crate::ended::push_ended;
+use crate::scenario::push_built;
 use crate::trial::push_tried;
 use meanwhile::Source;
 use std::alloc::{AllocError, Global};
+use std::io;
 use tables::{Table, word};
 
-/// The paths and build files so far.
+/// The paths, and the build files or the lines of a scenario so far.
 #[derive(Drop)]
 pub struct Histories {
     outputs: String,
     sources: String,
-    graphs: String,
+    lines: String,
 }
 
 impl Histories {
@@ -18,22 +21,22 @@ impl Histories {
         Histories {
             outputs: String::new(alloc),
             sources: String::new(alloc),
-            graphs: String::new(alloc),
+            lines: String::new(alloc),
         }
     }
 
     fn begin(&mut self, outputs: &str) -> Result<(), AllocError> {
         self.sources.clear();
-        self.graphs.clear();
+        self.lines.clear();
         self.outputs.clear();
         self.outputs.push_str(outputs)
     }
 
-    fn push_graph(&mut self, row: &str) -> Result<(), AllocError> {
-        if !self.graphs.is_empty() {
-            self.graphs.push('\n')?;
+    fn push_line(&mut self, row: &str) -> Result<(), AllocError> {
+        if !self.lines.is_empty() {
+            self.lines.push('\n')?;
         }
-        self.graphs.push_str(row)
+        self.lines.push_str(row)
     }
 
     fn source<'a>(&'a self, row: &str) -> Source<'a> {
@@ -43,23 +46,39 @@ impl Histories {
             seed: seed.parse::<u64>().unwrap_or(0),
             sources: self.sources.as_str(),
             outputs: self.outputs.as_str(),
-            graphs: self.graphs.as_str(),
+            graphs: self.lines.as_str(),
         }
     }
 
     fn push_asked(
         &self,
         alloc: Global,
-        trusts: bool,
+        first: &str,
         rest: &str,
         told: &mut String,
     ) -> Result<(), AllocError> {
         let mut bytes = Vec::new(alloc);
-        if push_tried(alloc, self.source(rest), trusts, &mut bytes).is_err() {
+        if push_answer(alloc, first, self.source(rest), &mut bytes).is_err() {
             return Err(AllocError);
         }
         let text = String::from_utf8_lossy(alloc, &bytes)?;
         told.push_str(text.as_str())
+    }
+}
+
+/// What a row asks whose first word this is.
+fn push_answer(
+    alloc: Global,
+    first: &str,
+    source: Source<'_>,
+    told: &mut Vec<u8>,
+) -> io::Result<()> {
+    match first {
+        "build" => push_built(alloc, source, false, told),
+        "trusting" => push_built(alloc, source, true, told),
+        "ended" => push_ended(alloc, source, told),
+        "trusted" => push_tried(alloc, source, true, told),
+        _ => push_tried(alloc, source, false, told),
     }
 }
 
@@ -69,11 +88,16 @@ impl Table for Histories {
         match first {
             "outputs" => self.begin(rest)?,
             "sources" => self.sources.push_str(rest)?,
-            "seen" | "trusted" => {
-                self.push_asked(alloc, first == "trusted", rest, told)?;
+            "build" => {
+                self.push_line(row)?;
+                self.push_asked(alloc, first, rest, told)?;
                 return Ok(true);
             }
-            _ => self.push_graph(row)?,
+            "ended" | "trusting" | "seen" | "trusted" => {
+                self.push_asked(alloc, first, rest, told)?;
+                return Ok(true);
+            }
+            _ => self.push_line(row)?,
         }
         Ok(false)
     }

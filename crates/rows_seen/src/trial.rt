@@ -1,10 +1,10 @@
 //! Histories that are made up: files are put back and overwritten, and built.
 
 use crate::asked::is_as;
+use crate::builds::{build_by, learn};
 use crate::counts::{Counts, add};
 use crate::dated::Dated;
-use builder::{Options, Report, build};
-use manifest::read;
+use builder::{Options, Report};
 use meanwhile::{Random, Source, edges_in, options};
 use seen::Seen;
 use site::Site;
@@ -181,23 +181,17 @@ impl<'a> Trial<'a> {
 
     /// The outputs of the build file are known, before it is built.
     fn learn(&self, seen: &mut Seen<Dated<'a>, Brand>) {
-        let told = &mut seen.retold;
-        if let Ok(manifest) = read(self.alloc, &mut told.site, "build.ninja") {
-            seen.know(&manifest);
-        }
+        learn(self.alloc, seen, "build.ninja");
     }
 
     fn build(&self, seen: &mut Seen<Dated<'a>, Brand>) -> Report {
-        if self.trusts {
-            let told = &mut seen.retold;
-            return built(
-                self.alloc,
-                &mut told.site,
-                &self.options,
-                self.targets.as_slice(),
-            );
-        }
-        built(self.alloc, seen, &self.options, self.targets.as_slice())
+        build_by(
+            self.alloc,
+            seen,
+            self.trusts,
+            &self.options,
+            self.targets.as_slice(),
+        )
     }
 
     /// A build beside which nobody writes.
@@ -260,12 +254,6 @@ fn begin(site: &mut Dated<'_>, edges: &str) -> Result<(), AllocError> {
     site.grow_old()?;
     site.put_graph(edges)?;
     site.bring_back()
-}
-
-/// Builds once all commands that were left running have ended.
-fn built<S: Site>(alloc: Global, site: &mut S, options: &Options, targets: &[Text]) -> Report {
-    site.restart();
-    build(alloc, site, options, targets)
 }
 
 /// How many commands a build has started that succeeded.
