@@ -9,18 +9,32 @@
 //!
 //! `edge PATHS DEEDS` asks what breaks a premise of all that a command did: `output:b,input:a` and `read:a,wrote:b`. A path behind an equals
 //! sign is the one that the kernel has, by which that counts then.
+//!
+//! `tree FOLDER LINES` begins a tree: its working folder, from the root, and the lines of its build file. `log TEXT` and `deps TEXT` give it
+//! logs, `dyndep FILE TEXT` loads what a dyndep file of this name says. `audit TARGET..` tells how many commands these targets need, or else the
+//! defaults. Behind it `scratch FOLDER` says where `TMPDIR` leads to, and `file NUMBER PATH..` that these paths lead to one file, as a device
+//! tells it by a number. `command OUTPUT TEXT` asks what is told of the command that makes this output first, which left this trace, in the words
+//! of `trace`; `untraced OUTPUT` of one that left none. `told` asks what is told behind these lines, and what was counted, with `clean` where
+//! all commands were looked at and keep all premises; `told all` lists each file outside of the folder.
 #![tactic(auto)]
 
+mod declared;
 mod edge;
 mod found;
+mod one_file;
 mod traced;
+mod tree;
 
 use std::alloc::{AllocError, Global};
 use std::io;
 use tables::{Table, word};
+use tree::Tree;
 
+/// What the rows have said so far of a tree.
 #[derive(Drop)]
-struct Asked;
+struct Asked {
+    tree: Tree,
+}
 
 impl Table for Asked {
     fn answer(&mut self, alloc: Global, row: &str, told: &mut String) -> Result<bool, AllocError> {
@@ -29,7 +43,7 @@ impl Table for Asked {
             "trace" => traced::push_trace(alloc, rest, told)?,
             "find" => found::push_found(alloc, rest, told)?,
             "edge" => edge::push_edge(alloc, rest, told)?,
-            _ => told.push_str("no such row")?,
+            _ => return self.tree.answer(alloc, first, rest, told),
         }
         Ok(true)
     }
@@ -37,6 +51,8 @@ impl Table for Asked {
 
 fn main(rt: HostRuntime) -> io::Result<()> {
     let alloc = rt.alloc();
-    let mut asked = Asked;
+    let mut asked = Asked {
+        tree: Tree::none(alloc),
+    };
     tables::run(alloc, &mut asked, &mut rt.reader(), &mut io::writer(&rt))
 }

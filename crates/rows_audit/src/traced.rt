@@ -9,8 +9,7 @@ use trace::{Deed, Fact, Told, read};
 /// `trace FOLDER TEXT`: what the trace tells.
 pub fn push_trace(alloc: Global, row: &str, told: &mut String) -> Result<(), AllocError> {
     let (folder, text) = word(row);
-    let text = unescaped(alloc, text)?;
-    let trace = with_names(alloc, text.as_slice())?;
+    let trace = trace_in(alloc, text)?;
     match read(alloc, folder.as_bytes(), trace.as_slice())? {
         Told::Facts(facts) => {
             for fact in facts.as_slice() {
@@ -20,6 +19,12 @@ pub fn push_trace(alloc: Global, row: &str, told: &mut String) -> Result<(), All
         }
         Told::NotUnderstood => told.push_str("not understood"),
     }
+}
+
+/// The trace that a row writes.
+pub fn trace_in(alloc: Global, text: &str) -> Result<Vec<u8>, AllocError> {
+    let text = unescaped(alloc, text)?;
+    with_names(alloc, text.as_slice())
 }
 
 /// The text with each name between two `^` in hexadecimal digits.
