@@ -3,7 +3,10 @@ use Rattle.std.specs.Prelude.{◌≡◌, ◌↔◌, ◌||◌, ℕ, not, Bool, tr
 use Rattle.model.specs.Calls.{Sees}
 use Rattle.model.specs.Graph.{has}
 use Rattle.model.specs.World.{World, file_at}
+use Rattle.log_text.specs.Keeping.{OfKept}
+use Rattle.seen_log.specs.Keeping.{Keeps}
 use Rattle.seen_log.specs.Log.{noted_in_force}
+use Rattle.seen_log.specs.declared.log.Log.{Log}
 use Rattle.seen_log.specs.declared.note.Note.{Note}
 use Rattle.seen_log.specs.declared.note.Noted.{Noted}
 use Rattle.seen.specs.Judged.{is_as_noted, is_turned}
@@ -30,6 +33,10 @@ abbrev pub WasFound : (tells : Bool) → World → World → Option Noted → Li
 WasFound tells old new noted path written =
     (found : Option Measure) × (written ≡ is_others noted found) × (IsTrue tells → Sees (λ history. measured_at (file_at history path)) found old.history new.history)
 
+-- the same by what is kept of the notes
+abbrev pub FoundBy : (tells : Bool) → World → World → Log → List ℕ → Bool → Type 0
+FoundBy tells old new notes path written = OfKept Keeps notes (λ all. WasFound tells old new (noted_in_force all path) path written)
+
 -- one path more was told apart
 pub record PartsOne (tells : Bool) (old new : World) (noted : Option Noted) (path : List ℕ) (before after : Parted) : Type 0 where
   pub written : Bool
@@ -37,10 +44,13 @@ pub record PartsOne (tells : Bool) (old new : World) (noted : Option Noted) (pat
   pub left : AddsJust before.left after.left (λ text. (text ≡ path) × (written ≡ false))
   pub others : AddsJust before.others after.others (λ text. (text ≡ path) × (written ≡ true))
 
+abbrev pub PartsBy : (tells : Bool) → World → World → Log → List ℕ → (before after : Parted) → Type 0
+PartsBy tells old new notes path before after = OfKept Keeps notes (λ all. PartsOne tells old new (noted_in_force all path) path before after)
+
 -- the same, if there is one
-abbrev pub PartsSome : (tells : Bool) → World → World → List Note → Option (List ℕ) → (before after : Parted) → Type 0
+abbrev pub PartsSome : (tells : Bool) → World → World → Log → Option (List ℕ) → (before after : Parted) → Type 0
 PartsSome tells old new notes None before after = after ≡ before
-PartsSome tells old new notes (Some path) before after = PartsOne tells old new (noted_in_force notes path) path before after
+PartsSome tells old new notes (Some path) before after = PartsBy tells old new notes path before after
 
 -- Each of the paths is one of the others just where somebody else wrote what was found there, by what these records note; all else are left.
 pub record AreParted (tells : Bool) (old new : World) (notes : List Note) (paths : List (List ℕ)) (parted : Parted) : Type 0 where
@@ -48,9 +58,13 @@ pub record AreParted (tells : Bool) (old new : World) (notes : List Note) (paths
   pub among : (text : List ℕ) → has parted.others text ≡ true → has paths text ≡ true
   pub left : (text : List ℕ) → has parted.left text ≡ true ↔ ((has paths text ≡ true) × (has parted.others text ≡ false))
 
+abbrev pub ArePartedBy : (tells : Bool) → World → World → Log → List (List ℕ) → Parted → Type 0
+ArePartedBy tells old new notes paths parted = OfKept Keeps notes (λ all. AreParted tells old new all paths parted)
+
 -- the paths were told apart, and then of those that are left some were removed, or only counted: none of the others
-pub record RemovesLeft (tells only_count : Bool) (old new : World) (notes : List Note) (paths others : List (List ℕ)) : Type 0 where
+pub record RemovesLeft (tells only_count : Bool) (old new : World) (notes : Log) (paths others : List (List ℕ)) : Type 0 where
   pub mid : World
-  pub left : List (List ℕ)
-  pub parted : AreParted tells old mid notes paths (record { left = left; others = others })
-  pub removes : RemovesOf tells only_count left mid new
+  pub parted : Parted
+  pub told : ArePartedBy tells old mid notes paths parted
+  pub kept : parted.others ≡ others
+  pub removes : RemovesOf tells only_count parted.left mid new

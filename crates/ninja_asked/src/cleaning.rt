@@ -1,8 +1,6 @@
 //! What `clean` and `cleandead` remove, and what is told of it, as real ninja does.
 
 ghost use Rattle.std.specs.Prelude.{IfOk};
-ghost use Rattle.log_text.specs.Keeping.{OfKept};
-ghost use Rattle.seen_log.specs.Keeping.{Keeps};
 ghost use Rattle.ninja_asked.specs.Written.{RemovesLeft};
 
 use crate::answers::Asking;
@@ -158,7 +156,7 @@ fn bury_noted<S: Measured>(
     declared: &Declared,
     dead: &Paths,
     asking: Asking<'_>,
-) -> Result<Buried, Fault> {
+) -> Result<Cleared, Fault> {
     let notes = notes_for(alloc, site, declared, asking)?;
     bury(alloc, site, &notes, dead, asking)
 }
@@ -178,7 +176,7 @@ fn notes_for<S: Site>(
 
 /// What came of dead paths.
 #[derive(Drop)]
-struct Buried {
+struct Cleared {
     cleaned: Cleaned,
     /// Those that are kept, as somebody else wrote what stands there.
     others: Paths,
@@ -191,14 +189,14 @@ fn bury<S: Measured>(
     notes: &Log,
     dead: &Paths,
     asking: Asking<'_>,
-) -> Result<Buried, Fault>
-    ensures { IfOk result (λ buried. OfKept Keeps notes.now (λ all. RemovesLeft S.tells asking.entry.options.now.dry (S.world site.old) (S.world site.new) all dead.now buried.others)) }
+) -> Result<Cleared, Fault>
+    ensures { IfOk result (λ buried. RemovesLeft S.tells asking.entry.options.now.dry (S.world site.old) (S.world site.new) notes.now dead.now buried.others) }
 {
     let parted = part(alloc, site, notes, dead)?;
     let mut cleaned = Cleaned::new(alloc, tells_each(asking));
     clean(alloc, site, &parted.left, asking.options.dry, &mut cleaned)?;
     let Parted { others, .. } = parted;
-    Ok(Buried { cleaned, others })
+    Ok(Cleared { cleaned, others })
 }
 
 /// What is told of it, and of those that are kept since deps records list them.
@@ -206,7 +204,7 @@ fn told_of<S: Site>(
     alloc: Global,
     site: &mut S,
     listed: &Paths,
-    buried: &Buried,
+    buried: &Cleared,
 ) -> Result<Answer, Fault> {
     let mut answer = answer_of(alloc, &buried.cleaned)?;
     push_listed(site, &mut answer.text, listed)?;

@@ -4,11 +4,8 @@ ghost use Rattle.std.specs.Prelude.{◌≡◌, IfOk, OnOk, false, true};
 ghost use Rattle.std.specs.Map.Iter.{deref};
 ghost use Rattle.std.specs.Option.{option_map};
 ghost use Rattle.model.specs.Calls.{OnlyLooks};
-ghost use Rattle.log_text.specs.Keeping.{OfKept};
-ghost use Rattle.seen_log.specs.Keeping.{Keeps};
-ghost use Rattle.seen_log.specs.Log.{noted_in_force};
 ghost use Rattle.tools.specs.Clean.{AddsJust};
-ghost use Rattle.ninja_asked.specs.Written.{AreParted, PartsOne, PartsSome, WasFound, is_others, is_others_file};
+ghost use Rattle.ninja_asked.specs.Written.{ArePartedBy, FoundBy, PartsBy, PartsSome, is_others, is_others_file};
 
 use lexer::{ReadFault, canonical};
 use log_text::Records;
@@ -82,7 +79,7 @@ pub fn part<S: Measured>(
     paths: &Paths,
 ) -> Result<Parted, Fault>
     ensures looks { OnlyLooks S.tells (S.world site.old) (S.world site.new) }
-    ensures parted { IfOk result (λ parted. OfKept Keeps notes.now (λ all. AreParted S.tells (S.world site.old) (S.world site.new) all paths.now parted)) }
+    ensures parted { IfOk result (ArePartedBy S.tells (S.world site.old) (S.world site.new) notes.now paths.now) }
 {
     let left = Paths::new(alloc);
     let others = Paths::new(alloc);
@@ -103,7 +100,7 @@ fn part_some<S: Measured>(
     parted: &mut Parted,
 ) -> Result<(), Fault>
     ensures looks { OnlyLooks S.tells (S.world site.old) (S.world site.new) }
-    ensures parts { OnOk result (OfKept Keeps notes.now (λ all. PartsSome S.tells (S.world site.old) (S.world site.new) all (option_map deref path.entry) parted.old parted.new)) }
+    ensures parts { OnOk result (PartsSome S.tells (S.world site.old) (S.world site.new) notes.now (option_map deref path.entry) parted.old parted.new) }
 {
     match path {
         Some(path) => part_path(alloc, site, notes, path, parted),
@@ -121,7 +118,7 @@ fn part_path<S: Measured>(
     parted: &mut Parted,
 ) -> Result<(), Fault>
     ensures looks { OnlyLooks S.tells (S.world site.old) (S.world site.new) }
-    ensures parts { OnOk result (OfKept Keeps notes.now (λ all. PartsOne S.tells (S.world site.old) (S.world site.new) (noted_in_force all path.now) path.now parted.old parted.new)) }
+    ensures parts { OnOk result (PartsBy S.tells (S.world site.old) (S.world site.new) notes.now path.now parted.old parted.new) }
 {
     let written = is_written(site, notes, path)?;
     put(alloc, path, written, parted)?;
@@ -145,7 +142,7 @@ fn put(alloc: Global, path: &str, written: bool, parted: &mut Parted) -> Result<
 #[tactic(auto, using(crate::proofs::Looking::looking))]
 fn is_written<S: Measured>(site: &mut S, notes: &Log, path: &str) -> Result<bool, SiteFault>
     ensures looks { OnlyLooks S.tells (S.world site.old) (S.world site.new) }
-    ensures found { IfOk result (λ written. OfKept Keeps notes.now (λ all. WasFound S.tells (S.world site.old) (S.world site.new) (noted_in_force all path.now) path.now written)) }
+    ensures found { IfOk result (FoundBy S.tells (S.world site.old) (S.world site.new) notes.now path.now) }
 {
     let noted = notes.lookup(path);
     let found = site.measure(path)?;
