@@ -3,9 +3,11 @@ use Rattle.std.specs.Prelude.{◌≡◌, ◌↔◌, ◌||◌, ℕ, not, Bool, tr
 use Rattle.model.specs.Calls.{Sees}
 use Rattle.model.specs.Graph.{has}
 use Rattle.model.specs.World.{World, file_at}
-use Rattle.log_text.specs.Keeping.{OfKept}
+use Rattle.log_text.specs.Keeping.{IsParsed, OfKept}
+use Rattle.log_text.specs.declared.tail.Tail.{Tail}
 use Rattle.seen_log.specs.Keeping.{Keeps}
 use Rattle.seen_log.specs.Log.{noted_in_force}
+use Rattle.seen_log.specs.Record.{forms}
 use Rattle.seen_log.specs.declared.log.Log.{Log}
 use Rattle.seen_log.specs.declared.note.Note.{Note}
 use Rattle.seen_log.specs.declared.note.Noted.{Noted}
@@ -15,6 +17,14 @@ use Rattle.seen.specs.declared.measure.Measure.{Measure}
 use Rattle.tools.specs.Clean.{AddsJust}
 use Rattle.tools.specs.Moves.{RemovesOf}
 use Rattle.ninja_asked.specs.declared.written.Parted.{Parted}
+
+-- it stands for the records of this text; a damaged one has none
+abbrev pub IsToldBy : List ℕ → Log → Type 0
+IsToldBy text notes = (tail : Tail) × IsParsed forms Keeps text notes tail
+
+-- it stands for some records
+abbrev pub StandsForSome : Log → Type 0
+StandsForSome notes = (all : List Note) × Keeps all notes
 
 -- A file of this stamp and this size, of which this is noted, is another than noted, or it is noted as what somebody else wrote where a command
 -- had made the path. A folder has no size, and is left out.

@@ -1,7 +1,7 @@
 //! What `clean` and `cleandead` remove, and what is told of it, as real ninja does.
 
 ghost use Rattle.std.specs.Prelude.{IfOk};
-ghost use Rattle.ninja_asked.specs.Written.{RemovesLeft};
+ghost use Rattle.ninja_asked.specs.Written.{RemovesLeft, StandsForSome};
 
 use crate::answers::Asking;
 use crate::written::{Parted, no_notes, part, read_notes};
@@ -167,7 +167,9 @@ fn notes_for<S: Site>(
     site: &mut S,
     declared: &Declared,
     asking: Asking<'_>,
-) -> Result<Log, Fault> {
+) -> Result<Log, Fault>
+    ensures { IfOk result StandsForSome }
+{
     if asking.trusts_stamps {
         return Ok(no_notes(alloc));
     }

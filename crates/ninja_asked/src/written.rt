@@ -5,7 +5,7 @@ ghost use Rattle.std.specs.Map.Iter.{deref};
 ghost use Rattle.std.specs.Option.{option_map};
 ghost use Rattle.model.specs.Calls.{OnlyLooks};
 ghost use Rattle.tools.specs.Clean.{AddsJust};
-ghost use Rattle.ninja_asked.specs.Written.{ArePartedBy, FoundBy, PartsBy, PartsSome, is_others, is_others_file};
+ghost use Rattle.ninja_asked.specs.Written.{ArePartedBy, FoundBy, IsToldBy, PartsBy, PartsSome, StandsForSome, is_others, is_others_file};
 
 use lexer::{ReadFault, canonical};
 use log_text::Records;
@@ -31,7 +31,8 @@ pub struct Parted {
 /// What builds have noted of paths whose logs lie in the folder that `builddir` names; nothing where the notes are absent or damaged.
 #[tactic(auto, using(crate::proofs::Looking::looking))]
 pub fn read_notes<S: Site>(alloc: Global, site: &mut S, builddir: &str) -> Result<Log, Fault>
-    ensures { OnlyLooks S.tells (S.world site.old) (S.world site.new) }
+    ensures looks { OnlyLooks S.tells (S.world site.old) (S.world site.new) }
+    ensures some { IfOk result StandsForSome }
 {
     let path = notes_path(alloc, builddir)?;
     let content = site.read(path.as_str())?;
@@ -60,13 +61,17 @@ fn path_in(alloc: Global, folder: &str) -> Result<String, AllocError> {
 }
 
 /// What this text of the notes tells.
-fn noted_in(alloc: Global, text: &[u8]) -> Result<Log, AllocError> {
-    let (notes, _) = Log::parse(alloc, text)?;
-    Ok(notes)
+fn noted_in(alloc: Global, text: &[u8]) -> Result<Log, AllocError>
+    ensures { IfOk result (IsToldBy text.now) }
+{
+    let read = Log::parse(alloc, text)?;
+    Ok(read.0)
 }
 
 /// Nothing is noted.
-pub fn no_notes(alloc: Global) -> Log {
+pub fn no_notes(alloc: Global) -> Log
+    ensures { StandsForSome result }
+{
     Log::new(alloc)
 }
 
