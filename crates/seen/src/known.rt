@@ -14,6 +14,9 @@ use std::alloc::{AllocError, Global};
 /// The size that is noted where nothing is found, which no file has.
 const NO_SIZE: u64 = 18_446_744_073_709_551_615;
 
+/// As many bytes as a line has at most beside its path, if no byte of that is written as two: room for them is made at once.
+const ROOM: usize = 96;
+
 /// What was noted in one build, and the lines of that which are still to be put behind the notes.
 #[derive(Drop)]
 pub struct Known {
@@ -190,7 +193,7 @@ impl Known {
         ensures notes { OnOk result (Notes path.now noted self.old.lines.items self.new.lines.items) }
         ensures grows { OnOk result (Grows self.old.lines.items self.new.lines.items) }
     {
-        let mut line = Vec::new(self.alloc);
+        let mut line = Vec::with_capacity(self.alloc, path.len().saturating_add(ROOM))?;
         note_line(&mut line, path, noted)?;
         self.lines.extend_from_slice(line.as_slice())
     }

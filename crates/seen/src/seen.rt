@@ -7,10 +7,11 @@ ghost use Rattle.seen.specs.Asking.{Asks};
 ghost use Rattle.seen.specs.Begun.{BeginsTold, told_world};
 ghost use Rattle.seen.specs.Beginning.{telling_of};
 ghost use Rattle.seen.specs.Entering.{IsUnbegun};
+ghost use Rattle.text.specs.Marks.{Lacks};
 
 use crate::beginning::Beginning;
 use crate::known::Known;
-use crate::lines::{Told, told_by};
+use crate::lines::{One, Told, one_in, told_by};
 use crate::makers::Makers;
 use crate::measure::Measured;
 use crate::names::{is_build_log, is_log};
@@ -153,6 +154,21 @@ impl<S: Measured, B: Beginning> Seen<S, B> {
         let Some((line, _)) = cut(bytes, b'\n') else {
             return Ok(());
         };
+        match one_in(line) {
+            Some(One::Begun(output)) => self.note_made(path, output),
+            Some(One::Done(output)) => self.ask_left(output),
+            None => self.ask_by_fields(path, line),
+        }
+    }
+
+    /// The same of the record of this line, by all its fields.
+    #[tactic(auto, using(crate::proofs::Answered::asks_none, crate::proofs::Answered::refused_asks, crate::proofs::Growing::grows_none, crate::proofs::Putting::ok_never))]
+    fn ask_by_fields(&mut self, path: &str, line: &[u8]) -> Result<(), SiteFault>
+        requires { Lacks 10 line.now }
+        ensures asks { Asks S.tells (told_world S.tells B.begun (S.world self.old.retold.site)) (told_world S.tells B.begun (S.world self.new.retold.site)) result }
+        ensures grows { OnOk result (Grows self.old.known.lines.items self.new.known.lines.items) }
+        ensures own { self.new.retold.known.own ≡ self.old.retold.known.own }
+    {
         match fields(self.alloc, line) {
             Ok(Some(fields)) => self.note_record(path, fields.as_slice()),
             Ok(None) => Ok(()),
@@ -188,6 +204,19 @@ impl<S: Measured, B: Beginning> Seen<S, B> {
             }
         }
         Ok(())
+    }
+
+    /// The command that makes this output is about to start.
+    #[tactic(auto, using(crate::proofs::Answered::asks_none, crate::proofs::Answered::refused_asks, crate::proofs::Growing::grows_none, crate::proofs::Putting::ok_never))]
+    fn note_made(&mut self, path: &str, output: &str) -> Result<(), SiteFault>
+        ensures asks { Asks S.tells (told_world S.tells B.begun (S.world self.old.retold.site)) (told_world S.tells B.begun (S.world self.new.retold.site)) result }
+        ensures known { self.new.known ≡ self.old.known }
+        ensures own { self.new.retold.known.own ≡ self.old.retold.known.own }
+    {
+        match self.retold.make(self.alloc, output) {
+            Ok(()) => Ok(()),
+            Err(_) => Err(self.retold.refuse(path)),
+        }
     }
 
     /// Looks at these outputs, of a command that has ended well, and notes them as they count.
