@@ -96,6 +96,18 @@ abbrev pub UnlessSettled : Bool → Looked → List ℕ → List ℕ → List �
 UnlessSettled true looked path old new = new ≡ old
 UnlessSettled false looked path old new = SeenOf looked.found looked.how looked.last path old new
 
+-- what was seen of the path was noted, unless that was asked for in this build
+abbrev pub NotesSeen : List ℕ → Looked → Known → Known → Type 0
+NotesSeen path looked old new = UnlessSettled (is_settled old path looked.last) looked path old.lines.items new.lines.items
+
+-- it was noted
+abbrev pub NotesFound : List ℕ → Looked → Known → Known → Type 0
+NotesFound path looked old new = SeenOf looked.found looked.how looked.last path old.lines.items new.lines.items
+
+-- what its command left there was noted
+abbrev pub NotesLeft : List ℕ → Looked → Known → Known → Type 0
+NotesLeft path looked old new = LeftOf looked.found looked.counts looked.last path old.lines.items new.lines.items
+
 -- ---- the file of the notes
 
 -- the file is as it was, or holds something else

@@ -31,7 +31,7 @@ pub struct Known {
 impl Known {
     ghost use Rattle.std.specs.Prelude.{◌≡◌, [], OnOk};
     ghost use Rattle.model.specs.Graph.{has};
-    ghost use Rattle.seen.specs.Noting.{AbsenceOf, AwayOf, Grows, LeftOf, LinesOf, NeverOf, SeenOf, UnlessSettled, UnmadeOf, absence, is_marked, is_settled};
+    ghost use Rattle.seen.specs.Noting.{AbsenceOf, AwayOf, Grows, LeftOf, LinesOf, NeverOf, NotesFound, NotesLeft, NotesSeen, SeenOf, UnmadeOf, absence, is_marked, is_settled};
 
     /// Nothing was noted. This takes no memory.
     pub fn new(alloc: Global) -> Known
@@ -48,7 +48,7 @@ impl Known {
     /// Notes what was seen of a path, where it is to be noted and was not asked for before in this build.
     #[tactic(auto, using(crate::proofs::Growing::settled_yes, crate::proofs::Growing::settled_not, crate::proofs::Growing::grows_none))]
     pub fn note(&mut self, path: &str, looked: &Looked) -> Result<(), AllocError>
-        ensures noted { OnOk result (UnlessSettled (is_settled self.old path.now looked.now.last) looked.now path.now self.old.lines.items self.new.lines.items) }
+        ensures noted { OnOk result (NotesSeen path.now looked.now self.old self.new) }
         ensures grows { OnOk result (Grows self.old.lines.items self.new.lines.items) }
     {
         if self.is_settled(path, looked.last) {
@@ -59,7 +59,7 @@ impl Known {
 
     /// The same, where it was not asked for before.
     fn note_first(&mut self, path: &str, looked: &Looked) -> Result<(), AllocError>
-        ensures lines { OnOk result (SeenOf looked.now.found looked.now.how looked.now.last path.now self.old.lines.items self.new.lines.items) }
+        ensures lines { OnOk result (NotesFound path.now looked.now self.old self.new) }
         ensures grows { OnOk result (Grows self.old.lines.items self.new.lines.items) }
     {
         self.note_seen(path, looked.found, looked.how, looked.last)?;
@@ -227,7 +227,7 @@ impl Known {
 
     /// The command that makes this output has ended well, and this is seen of it: that is noted as it counts, and what is absent is, too.
     pub fn end(&mut self, output: &str, looked: &Looked) -> Result<(), AllocError>
-        ensures noted { OnOk result (LeftOf looked.now.found looked.now.counts looked.now.last output.now self.old.lines.items self.new.lines.items) }
+        ensures noted { OnOk result (NotesLeft output.now looked.now self.old self.new) }
         ensures grows { OnOk result (Grows self.old.lines.items self.new.lines.items) }
     {
         self.note_left(output, looked.found, looked.counts, looked.last)?;

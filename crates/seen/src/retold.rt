@@ -53,11 +53,10 @@ pub struct Retold<S: Measured, B: Beginning> {
 
 impl<S: Measured, B: Beginning> Retold<S, B> {
     ghost use Rattle.std.specs.Prelude.{◌≡◌, false, true, IfOk, IsTrue, OnOk, Some};
-    ghost use Rattle.model.specs.Calls.{Appends, HasCause, KeepsWait, OnlyLooks, Sees, Writes};
-    ghost use Rattle.model.specs.World.{content_of, file_at, stamp_of};
+    ghost use Rattle.model.specs.Calls.{Appends, Writes};
     ghost use Rattle.seen_law.specs.Laws.{IsPlain, IsTold};
-    ghost use Rattle.seen.specs.Asking.{Asks, Refuses};
-    ghost use Rattle.seen.specs.Beginning.{telling_of};
+    ghost use Rattle.seen.specs.Asking.{AsksTold, CauseTold, ContentTold, LooksTold, RefusesTold, StampTold, WaitsTold};
+    ghost use Rattle.seen.specs.Beginning.{TellsBy};
     ghost use Rattle.seen.specs.Begun.{BeginsTold};
     ghost use Rattle.seen.specs.Entering.{IsUnbegun};
     ghost use Rattle.seen.specs.Looking.{KnowsSame, looked_by};
@@ -66,7 +65,7 @@ impl<S: Measured, B: Beginning> Retold<S, B> {
     /// The site over this one, for one build, by what is known when it begins.
     pub fn over(site: S, known: Counts) -> Retold<S, B>
         requires unbegun { IsUnbegun known }
-        requires telling { IsTrue S.tells → B.begun.telling ≡ telling_of known.notes known.makers known.own known.number }
+        requires telling { IsTrue S.tells → TellsBy B.begun known }
         requires first { IsTrue S.tells → (S.world site).history ≡ B.begun.first }
         requires begins { IsTrue S.tells → BeginsTold B.begun }
         ensures site { result.site ≡ site }
@@ -99,7 +98,7 @@ impl<S: Measured, B: Beginning> Retold<S, B> {
     /// What is known when a build begins, where commands make this.
     pub fn enter(&mut self, alloc: Global, makers: Makers, log: &str) -> Result<Entry, SiteFault>
         requires { (S.world self.old.site).stopped ≡ false }
-        ensures asks { Asks S.tells (told_world S.tells B.begun (S.world self.old.site)) (told_world S.tells B.begun (S.world self.new.site)) result }
+        ensures asks { AsksTold S.tells B.begun S.world self.old.site self.new.site result }
         ensures one { self.new.is_for_one ≡ self.old.is_for_one }
     {
         looks_are_told();
@@ -154,11 +153,11 @@ impl<S: Measured, B: Beginning> Retold<S, B> {
 
     /// Looks at the path.
     pub fn look(&mut self, path: &str) -> Result<Looked, SiteFault>
-        ensures looks { OnlyLooks S.tells (told_world S.tells B.begun (S.world self.old.site)) (told_world S.tells B.begun (S.world self.new.site)) }
-        ensures cause { HasCause (told_world S.tells B.begun (S.world self.old.site)) (told_world S.tells B.begun (S.world self.new.site)) result }
-        ensures waits { KeepsWait (told_world S.tells B.begun (S.world self.old.site)) (told_world S.tells B.begun (S.world self.new.site)) }
+        ensures looks { LooksTold S.tells B.begun S.world self.old.site self.new.site }
+        ensures cause { CauseTold S.tells B.begun S.world self.old.site self.new.site result }
+        ensures waits { WaitsTold S.tells B.begun S.world self.old.site self.new.site }
         ensures looked { IfOk result (λ looked. looked ≡ looked_by self.old.is_begun self.old.known path.now looked.found) }
-        ensures stamp { IsTrue S.tells → IfOk result (λ looked. Sees (λ history. stamp_of (file_at history path.now)) looked.counts (told_world S.tells B.begun (S.world self.old.site)).history (told_world S.tells B.begun (S.world self.new.site)).history) }
+        ensures stamp { StampTold S.tells B.begun S.world self.old.site self.new.site path.now result }
         ensures same { KnowsSame self.old.known self.new.known }
         ensures one { self.new.is_for_one ≡ self.old.is_for_one }
     {
@@ -170,9 +169,9 @@ impl<S: Measured, B: Beginning> Retold<S, B> {
 
     /// Puts the bytes behind the notes.
     pub fn put_behind(&mut self, lines: &[u8]) -> Result<(), SiteFault>
-        ensures looks { OnlyLooks S.tells (told_world S.tells B.begun (S.world self.old.site)) (told_world S.tells B.begun (S.world self.new.site)) }
-        ensures cause { HasCause (told_world S.tells B.begun (S.world self.old.site)) (told_world S.tells B.begun (S.world self.new.site)) result }
-        ensures waits { KeepsWait (told_world S.tells B.begun (S.world self.old.site)) (told_world S.tells B.begun (S.world self.new.site)) }
+        ensures looks { LooksTold S.tells B.begun S.world self.old.site self.new.site }
+        ensures cause { CauseTold S.tells B.begun S.world self.old.site self.new.site result }
+        ensures waits { WaitsTold S.tells B.begun S.world self.old.site self.new.site }
         ensures puts { OnOk result (Appends S.tells self.old.known.own.seen lines.now (S.world self.old.site) (S.world self.new.site)) }
         ensures same { self.new.known ≡ self.old.known }
         ensures one { self.new.is_for_one ≡ self.old.is_for_one }
@@ -183,9 +182,9 @@ impl<S: Measured, B: Beginning> Retold<S, B> {
 
     /// Puts this in the place of the notes.
     pub fn put_anew(&mut self, text: &[u8]) -> Result<(), SiteFault>
-        ensures looks { OnlyLooks S.tells (told_world S.tells B.begun (S.world self.old.site)) (told_world S.tells B.begun (S.world self.new.site)) }
-        ensures cause { HasCause (told_world S.tells B.begun (S.world self.old.site)) (told_world S.tells B.begun (S.world self.new.site)) result }
-        ensures waits { KeepsWait (told_world S.tells B.begun (S.world self.old.site)) (told_world S.tells B.begun (S.world self.new.site)) }
+        ensures looks { LooksTold S.tells B.begun S.world self.old.site self.new.site }
+        ensures cause { CauseTold S.tells B.begun S.world self.old.site self.new.site result }
+        ensures waits { WaitsTold S.tells B.begun S.world self.old.site self.new.site }
         ensures puts { OnOk result (Writes S.tells self.old.known.own.seen (Some text.now) (S.world self.old.site) (S.world self.new.site)) }
         ensures same { self.new.known ≡ self.old.known }
         ensures one { self.new.is_for_one ≡ self.old.is_for_one }
@@ -196,7 +195,7 @@ impl<S: Measured, B: Beginning> Retold<S, B> {
 
     /// There was no memory, unless the site is found to have stopped.
     pub fn refuse(&mut self, path: &str) -> SiteFault
-        ensures refused { Refuses S.tells (told_world S.tells B.begun (S.world self.old.site)) (told_world S.tells B.begun (S.world self.new.site)) result }
+        ensures refused { RefusesTold S.tells B.begun S.world self.old.site self.new.site result }
         ensures same { self.new.known ≡ self.old.known }
         ensures one { self.new.is_for_one ≡ self.old.is_for_one }
     {
@@ -207,7 +206,7 @@ impl<S: Measured, B: Beginning> Retold<S, B> {
 
     /// Why the notes cannot be read, or no line may be put behind them.
     pub fn refuse_read(&mut self) -> SiteFault
-        ensures { Refuses S.tells (told_world S.tells B.begun (S.world self.old.site)) (told_world S.tells B.begun (S.world self.new.site)) result }
+        ensures { RefusesTold S.tells B.begun S.world self.old.site self.new.site result }
     {
         looks_are_told();
         let content = self.site.read(self.known.own.seen.as_str());
@@ -217,10 +216,10 @@ impl<S: Measured, B: Beginning> Retold<S, B> {
     /// What one of the program's own files holds.
     fn read_own(&mut self, path: &str) -> Result<Option<Bytes>, SiteFault>
         requires { is_own self.old.known.own path.now ≡ true }
-        ensures looks { OnlyLooks S.tells (told_world S.tells B.begun (S.world self.old.site)) (told_world S.tells B.begun (S.world self.new.site)) }
-        ensures cause { HasCause (told_world S.tells B.begun (S.world self.old.site)) (told_world S.tells B.begun (S.world self.new.site)) result }
-        ensures waits { KeepsWait (told_world S.tells B.begun (S.world self.old.site)) (told_world S.tells B.begun (S.world self.new.site)) }
-        ensures content { IsTrue S.tells → IfOk result (λ content. Sees (λ history. content_of (file_at history path.now)) content (told_world S.tells B.begun (S.world self.old.site)).history (told_world S.tells B.begun (S.world self.new.site)).history) }
+        ensures looks { LooksTold S.tells B.begun S.world self.old.site self.new.site }
+        ensures cause { CauseTold S.tells B.begun S.world self.old.site self.new.site result }
+        ensures waits { WaitsTold S.tells B.begun S.world self.old.site self.new.site }
+        ensures content { ContentTold S.tells B.begun S.world self.old.site self.new.site path.now result }
         ensures one { self.new.is_for_one ≡ self.old.is_for_one }
     {
         looks_are_told();
@@ -230,10 +229,10 @@ impl<S: Measured, B: Beginning> Retold<S, B> {
 
     /// What any other file holds, where it counts.
     fn read_counted(&mut self, path: &str) -> Result<Option<Bytes>, SiteFault>
-        ensures looks { OnlyLooks S.tells (told_world S.tells B.begun (S.world self.old.site)) (told_world S.tells B.begun (S.world self.new.site)) }
-        ensures cause { HasCause (told_world S.tells B.begun (S.world self.old.site)) (told_world S.tells B.begun (S.world self.new.site)) result }
-        ensures waits { KeepsWait (told_world S.tells B.begun (S.world self.old.site)) (told_world S.tells B.begun (S.world self.new.site)) }
-        ensures content { IsTrue S.tells → IfOk result (λ content. Sees (λ history. content_of (file_at history path.now)) content (told_world S.tells B.begun (S.world self.old.site)).history (told_world S.tells B.begun (S.world self.new.site)).history) }
+        ensures looks { LooksTold S.tells B.begun S.world self.old.site self.new.site }
+        ensures cause { CauseTold S.tells B.begun S.world self.old.site self.new.site result }
+        ensures waits { WaitsTold S.tells B.begun S.world self.old.site self.new.site }
+        ensures content { ContentTold S.tells B.begun S.world self.old.site self.new.site path.now result }
         ensures one { self.new.is_for_one ≡ self.old.is_for_one }
     {
         looks_are_told();

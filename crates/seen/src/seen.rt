@@ -1,11 +1,10 @@
 //! A site over a site.
 
 ghost use Rattle.std.specs.Prelude.{◌≡◌, [], false, true, IsTrue, OnErr, OnOk};
-ghost use Rattle.model.specs.Calls.{Appends, AppendsOrNot, HasCause, KeepsWait};
 ghost use Rattle.model.specs.World.{World};
-ghost use Rattle.seen.specs.Asking.{Asks};
+ghost use Rattle.seen.specs.Asking.{AppendsTold, AsksTold, CauseTold, MayAppendTold, WaitsTold};
 ghost use Rattle.seen.specs.Begun.{BeginsTold, told_world};
-ghost use Rattle.seen.specs.Beginning.{telling_of};
+ghost use Rattle.seen.specs.Beginning.{TellsBy};
 ghost use Rattle.seen.specs.Entering.{IsUnbegun};
 ghost use Rattle.text.specs.Marks.{Lacks};
 
@@ -53,13 +52,13 @@ pub struct Seen<S: Measured, B: Beginning> {
 }
 
 impl<S: Measured, B: Beginning> Seen<S, B> {
-    ghost use Rattle.seen.specs.First.{NotesFirst};
-    ghost use Rattle.seen.specs.Noting.{Grows, MayReplace, PutsLines};
+    ghost use Rattle.seen.specs.First.{NotesKnown, PutsKnown, ReplacesNotes};
+    ghost use Rattle.seen.specs.Noting.{Grows};
 
     /// The site over this one, for a build that begins with this. This takes no memory.
     pub fn over(alloc: Global, site: S, entry: Entry) -> Seen<S, B>
         requires unbegun { IsUnbegun entry.counts }
-        requires telling { IsTrue S.tells → B.begun.telling ≡ telling_of entry.counts.notes entry.counts.makers entry.counts.own entry.counts.number }
+        requires telling { IsTrue S.tells → TellsBy B.begun entry.counts }
         requires first { IsTrue S.tells → (S.world site).history ≡ B.begun.first }
         requires begins { IsTrue S.tells → BeginsTold B.begun }
         ensures { result.retold.site ≡ site }
@@ -108,7 +107,7 @@ impl<S: Measured, B: Beginning> Seen<S, B> {
     fn begin(&mut self, log: &str) -> Result<(), SiteFault>
         requires running { (S.world self.old.retold.site).stopped ≡ false }
         requires many { self.old.retold.is_for_one ≡ false }
-        ensures { Asks S.tells (told_world S.tells B.begun (S.world self.old.retold.site)) (told_world S.tells B.begun (S.world self.new.retold.site)) result }
+        ensures { AsksTold S.tells B.begun S.world self.old.retold.site self.new.retold.site result }
     {
         let makers = self.next.take().unwrap_or(Makers::new(self.alloc));
         let Entry { counts, base, .. } = self.retold.enter(self.alloc, makers, log)?;
@@ -132,8 +131,8 @@ impl<S: Measured, B: Beginning> Seen<S, B> {
     /// Notes what is to be noted before these bytes go behind the file at this path, and puts the lines behind the notes.
     #[tactic(auto, using(crate::proofs::Answered::asks_both, crate::proofs::Answered::asks_fault))]
     fn note_before(&mut self, path: &str, bytes: &[u8]) -> Result<(), SiteFault>
-        ensures asks { Asks S.tells (told_world S.tells B.begun (S.world self.old.retold.site)) (told_world S.tells B.begun (S.world self.new.retold.site)) result }
-        ensures notes { OnOk result (NotesFirst S.tells B.begun self.old.retold.known.own.seen self.old.known.lines.items (S.world self.old.retold.site) (S.world self.new.retold.site)) }
+        ensures asks { AsksTold S.tells B.begun S.world self.old.retold.site self.new.retold.site result }
+        ensures notes { NotesKnown S.tells B.begun S.world self.old.retold.site self.new.retold.site self.old.retold.known self.old.known result }
         ensures left { OnOk result (self.new.known.lines.items ≡ []) }
     {
         self.ask_for(path, bytes)?;
@@ -144,7 +143,7 @@ impl<S: Measured, B: Beginning> Seen<S, B> {
     /// Asks for what is to be noted before these bytes go behind the file at this path.
     #[tactic(auto, using(crate::proofs::Answered::asks_none, crate::proofs::Answered::refused_asks, crate::proofs::Growing::grows_none, crate::proofs::Putting::ok_never))]
     fn ask_for(&mut self, path: &str, bytes: &[u8]) -> Result<(), SiteFault>
-        ensures asks { Asks S.tells (told_world S.tells B.begun (S.world self.old.retold.site)) (told_world S.tells B.begun (S.world self.new.retold.site)) result }
+        ensures asks { AsksTold S.tells B.begun S.world self.old.retold.site self.new.retold.site result }
         ensures grows { OnOk result (Grows self.old.known.lines.items self.new.known.lines.items) }
         ensures own { self.new.retold.known.own ≡ self.old.retold.known.own }
     {
@@ -179,7 +178,7 @@ impl<S: Measured, B: Beginning> Seen<S, B> {
     /// Notes what is to be noted before the record of these fields goes behind the file at this path.
     #[tactic(auto, using(crate::proofs::Answered::asks_none, crate::proofs::Answered::refused_asks, crate::proofs::Growing::grows_none, crate::proofs::Putting::ok_never))]
     fn note_record(&mut self, path: &str, fields: &[Field<'_>]) -> Result<(), SiteFault>
-        ensures asks { Asks S.tells (told_world S.tells B.begun (S.world self.old.retold.site)) (told_world S.tells B.begun (S.world self.new.retold.site)) result }
+        ensures asks { AsksTold S.tells B.begun S.world self.old.retold.site self.new.retold.site result }
         ensures grows { OnOk result (Grows self.old.known.lines.items self.new.known.lines.items) }
         ensures own { self.new.retold.known.own ≡ self.old.retold.known.own }
     {
@@ -194,7 +193,7 @@ impl<S: Measured, B: Beginning> Seen<S, B> {
     /// The command that makes these outputs is about to start.
     #[tactic(auto, using(crate::proofs::Answered::asks_none, crate::proofs::Answered::refused_asks, crate::proofs::Growing::grows_none, crate::proofs::Putting::ok_never))]
     fn note_start(&mut self, path: &str, outputs: &[Field<'_>]) -> Result<(), SiteFault>
-        ensures asks { Asks S.tells (told_world S.tells B.begun (S.world self.old.retold.site)) (told_world S.tells B.begun (S.world self.new.retold.site)) result }
+        ensures asks { AsksTold S.tells B.begun S.world self.old.retold.site self.new.retold.site result }
         ensures known { self.new.known ≡ self.old.known }
         ensures own { self.new.retold.known.own ≡ self.old.retold.known.own }
     {
@@ -222,7 +221,7 @@ impl<S: Measured, B: Beginning> Seen<S, B> {
     /// Looks at these outputs, of a command that has ended well, and notes them as they count.
     #[tactic(auto, using(crate::proofs::Answered::asks_none, crate::proofs::Answered::asks_both, crate::proofs::Answered::asks_fault, crate::proofs::Growing::grows_none, crate::proofs::Growing::grows_then))]
     fn ask_made(&mut self, outputs: &[Field<'_>]) -> Result<(), SiteFault>
-        ensures asks { Asks S.tells (told_world S.tells B.begun (S.world self.old.retold.site)) (told_world S.tells B.begun (S.world self.new.retold.site)) result }
+        ensures asks { AsksTold S.tells B.begun S.world self.old.retold.site self.new.retold.site result }
         ensures grows { OnOk result (Grows self.old.known.lines.items self.new.known.lines.items) }
         ensures own { self.new.retold.known.own ≡ self.old.retold.known.own }
     {
@@ -234,7 +233,7 @@ impl<S: Measured, B: Beginning> Seen<S, B> {
 
     #[tactic(auto, using(crate::proofs::Answered::asks_none, crate::proofs::Answered::asks_more, crate::proofs::Answered::asks_fail, crate::proofs::Answered::asks_no_room, crate::proofs::Growing::grows_none, crate::proofs::Growing::grows_then))]
     fn ask_left(&mut self, output: &str) -> Result<(), SiteFault>
-        ensures asks { Asks S.tells (told_world S.tells B.begun (S.world self.old.retold.site)) (told_world S.tells B.begun (S.world self.new.retold.site)) result }
+        ensures asks { AsksTold S.tells B.begun S.world self.old.retold.site self.new.retold.site result }
         ensures grows { OnOk result (Grows self.old.known.lines.items self.new.known.lines.items) }
         ensures own { self.new.retold.known.own ≡ self.old.retold.known.own }
     {
@@ -246,7 +245,7 @@ impl<S: Measured, B: Beginning> Seen<S, B> {
     /// Asks for these paths, which a command told that it read, as far as that was not done in this build, and notes them.
     #[tactic(auto, using(crate::proofs::Answered::asks_none, crate::proofs::Answered::asks_both, crate::proofs::Answered::asks_fault, crate::proofs::Growing::grows_none, crate::proofs::Growing::grows_then))]
     fn ask_read(&mut self, paths: &[Field<'_>]) -> Result<(), SiteFault>
-        ensures asks { Asks S.tells (told_world S.tells B.begun (S.world self.old.retold.site)) (told_world S.tells B.begun (S.world self.new.retold.site)) result }
+        ensures asks { AsksTold S.tells B.begun S.world self.old.retold.site self.new.retold.site result }
         ensures grows { OnOk result (Grows self.old.known.lines.items self.new.known.lines.items) }
         ensures own { self.new.retold.known.own ≡ self.old.retold.known.own }
     {
@@ -258,7 +257,7 @@ impl<S: Measured, B: Beginning> Seen<S, B> {
 
     #[tactic(auto, using(crate::proofs::Answered::asks_none, crate::proofs::Answered::asks_more, crate::proofs::Answered::asks_fail, crate::proofs::Answered::asks_no_room, crate::proofs::Growing::grows_none, crate::proofs::Growing::grows_then))]
     fn ask_once(&mut self, path: &str) -> Result<(), SiteFault>
-        ensures asks { Asks S.tells (told_world S.tells B.begun (S.world self.old.retold.site)) (told_world S.tells B.begun (S.world self.new.retold.site)) result }
+        ensures asks { AsksTold S.tells B.begun S.world self.old.retold.site self.new.retold.site result }
         ensures grows { OnOk result (Grows self.old.known.lines.items self.new.known.lines.items) }
         ensures own { self.new.retold.known.own ≡ self.old.retold.known.own }
     {
@@ -274,8 +273,8 @@ impl<S: Measured, B: Beginning> Seen<S, B> {
     /// Puts the text in the place of the notes that is to be there before a line is put behind them, if there is one.
     #[tactic(auto, using(crate::proofs::Answered::asks_none, crate::proofs::Answered::asks_call, crate::proofs::Putting::may_not, crate::proofs::Putting::may_replace))]
     fn put_base(&mut self) -> Result<(), SiteFault>
-        ensures asks { Asks S.tells (told_world S.tells B.begun (S.world self.old.retold.site)) (told_world S.tells B.begun (S.world self.new.retold.site)) result }
-        ensures before { OnOk result (MayReplace S.tells self.old.retold.known.own.seen (S.world self.old.retold.site) (S.world self.new.retold.site)) }
+        ensures asks { AsksTold S.tells B.begun S.world self.old.retold.site self.new.retold.site result }
+        ensures before { ReplacesNotes S.tells S.world self.old.retold.site self.new.retold.site self.old.retold.known result }
         ensures known { self.new.known ≡ self.old.known }
         ensures own { self.new.retold.known.own ≡ self.old.retold.known.own }
         ensures torn { self.new.torn ≡ self.old.torn }
@@ -290,8 +289,8 @@ impl<S: Measured, B: Beginning> Seen<S, B> {
     /// what is left of another.
     #[tactic(auto, using(crate::proofs::Answered::asks_none, crate::proofs::Answered::asks_more, crate::proofs::Answered::asks_fail, crate::proofs::Answered::asks_fault, crate::proofs::Answered::refused_asks, crate::proofs::Putting::err_always, crate::proofs::Putting::ok_never, crate::proofs::Putting::puts_none, crate::proofs::Putting::puts_them))]
     fn put_lines(&mut self) -> Result<(), SiteFault>
-        ensures asks { Asks S.tells (told_world S.tells B.begun (S.world self.old.retold.site)) (told_world S.tells B.begun (S.world self.new.retold.site)) result }
-        ensures puts { OnOk result (PutsLines S.tells self.old.retold.known.own.seen self.old.known.lines.items (S.world self.old.retold.site) (S.world self.new.retold.site)) }
+        ensures asks { AsksTold S.tells B.begun S.world self.old.retold.site self.new.retold.site result }
+        ensures puts { PutsKnown S.tells S.world self.old.retold.site self.new.retold.site self.old.retold.known self.old.known result }
         ensures left { OnOk result (self.new.known.lines.items ≡ []) }
         ensures torn { self.old.torn ≡ true → OnOk result (S.world self.new.retold.site ≡ S.world self.old.retold.site) }
         ensures tears { OnErr result (self.new.torn ≡ true) }
@@ -334,7 +333,7 @@ impl<S: Measured, B: Beginning> Texts for Seen<S, B> {
 }
 
 impl<S: Measured, B: Beginning> Site for Seen<S, B> {
-    ghost use Rattle.seen.specs.First.{IsNotedFirst};
+    ghost use Rattle.seen.specs.First.{NotedFirst};
 
     ghost outcome = { S.outcome };
 
@@ -349,11 +348,11 @@ impl<S: Measured, B: Beginning> Site for Seen<S, B> {
     }
 
     fn append(&mut self, path: &str, bytes: &[u8]) -> Result<(), SiteFault>
-        ensures cause { HasCause (told_world S.tells B.begun (S.world self.old.retold.site)) (told_world S.tells B.begun (S.world self.new.retold.site)) result }
-        ensures waits { KeepsWait (told_world S.tells B.begun (S.world self.old.retold.site)) (told_world S.tells B.begun (S.world self.new.retold.site)) }
-        ensures appends { OnOk result (Appends S.tells path.now bytes.now (told_world S.tells B.begun (S.world self.old.retold.site)) (told_world S.tells B.begun (S.world self.new.retold.site))) }
-        ensures err { OnErr result (AppendsOrNot S.tells path.now bytes.now (told_world S.tells B.begun (S.world self.old.retold.site)) (told_world S.tells B.begun (S.world self.new.retold.site))) }
-        ensures noted { OnOk result (IsNotedFirst S.tells B.begun self.old.retold.known.own.seen self.old.known.lines.items path.now bytes.now (S.world self.old.retold.site) (S.world self.new.retold.site)) }
+        ensures cause { CauseTold S.tells B.begun S.world self.old.retold.site self.new.retold.site result }
+        ensures waits { WaitsTold S.tells B.begun S.world self.old.retold.site self.new.retold.site }
+        ensures appends { OnOk result (AppendsTold S.tells B.begun S.world self.old.retold.site self.new.retold.site path.now bytes.now) }
+        ensures err { OnErr result (MayAppendTold S.tells B.begun S.world self.old.retold.site self.new.retold.site path.now bytes.now) }
+        ensures noted { NotedFirst S.tells B.begun S.world self.old.retold.site self.new.retold.site self.old.retold.known self.old.known path.now bytes.now result }
         ensures left { OnOk result (self.new.known.lines.items ≡ []) }
     {
         self.note_before(path, bytes)?;
