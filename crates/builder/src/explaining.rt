@@ -12,7 +12,7 @@ ghost use Rattle.manifest.specs.Answer.{IsGraph};
 ghost use Rattle.paths.specs.Told.{graph_of, text_at};
 ghost use Rattle.work.specs.Course.{Course};
 ghost use Rattle.builder.specs.Explained.{AreSaid, IsSaid, SaysDue, TellsDue, ExplainsFrom, BeginsStill, ExplainsBuild};
-ghost use Rattle.work.specs.Standing.{IsBeginningBy};
+ghost use Rattle.work.specs.Standing.{IsBeginning};
 ghost use Rattle.builder.specs.Reports.{HasRead, IsLinked};
 
 use crate::asked::Asked;
@@ -127,7 +127,7 @@ fn explain_state<S: Site>(
     state: &mut State<'_>,
 ) -> Result<Explained, Report>
     requires running { (S.world site.old).stopped ≡ false }
-    requires begins { IsBeginningBy S.tells graph.old cone.old state.old (S.world site.old) }
+    requires begins { IsBeginning S.tells graph.old cone.old state.old (S.world site.old) }
     ensures looks { OnlyLooks S.tells (S.world site.old) (S.world site.new) }
     ensures explains { IfOk result (λ explained. ExplainsFrom S.tells graph.old cone.old state.old (S.world site.old) (S.world site.new) explained.commands.items) }
 {
@@ -144,7 +144,7 @@ fn load_sources<S: Site>(
     state: &mut State<'_>,
 ) -> Result<(), Stop>
     requires running { (S.world site.old).stopped ≡ false }
-    requires begins { IsBeginningBy S.tells graph.old cone.old state.old (S.world site.old) }
+    requires begins { IsBeginning S.tells graph.old cone.old state.old (S.world site.old) }
     ensures looks { OnlyLooks S.tells (S.world site.old) (S.world site.new) }
     ensures running { OnOk result ((S.world site.new).stopped ≡ false) }
     ensures begun { OnOk result (BeginsStill S.tells graph.old cone.old state.old (S.world site.old) graph.new cone.new state.new (S.world site.new)) }
@@ -167,7 +167,7 @@ fn explain_run<S: Site>(
     state: &mut State<'_>,
 ) -> Result<Explained, Stop>
     requires running { (S.world site.old).stopped ≡ false }
-    requires begins { IsBeginningBy S.tells graph.now cone.now state.old (S.world site.old) }
+    requires begins { IsBeginning S.tells graph.now cone.now state.old (S.world site.old) }
     ensures looks { OnlyLooks S.tells (S.world site.old) (S.world site.new) }
     ensures tells { IfOk result (λ explained. TellsDue S.tells graph.now cone.now state.old.plan state.old.records (S.world site.old) (S.world site.new) state.old.looks state.new.looks explained.commands.items) }
 {

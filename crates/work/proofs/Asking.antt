@@ -111,7 +111,7 @@ module _ (tells : Bool) (course : Course) (edges : List Edge) (phases : List Pha
 
 -- ---- what is found where the build stands
 
-module _ (tells : Bool) (tick : List ℕ) (course : Course) (edges : List Edge) (phases : List Phase) (graph : Graph) (cone : Cone) (state : State) (now : World) (stands : StandsAt tells tick course edges phases graph cone state now) where
+module _ (tells : Bool) (course : Course) (edges : List Edge) (phases : List Phase) (graph : Graph) (cone : Cone) (state : State) (now : World) (stands : StandsAt tells course edges phases graph cone state now) where
   abbrev here : Course
   here = grown_course course edges phases
 

@@ -98,12 +98,12 @@ module _ (tells : Bool) (course : Course) (task : Task) (graph : Graph) (first s
 
 -- ---- it stands where it stood
 
-module _ (tells : Bool) (tick : List ℕ) (course : Course) (edges : List Edge) (phases : List Phase) (graph : Graph) (cone : Cone) (state : State) (now : World) (stands : StandsAt tells tick course edges phases graph cone state now) where
+module _ (tells : Bool) (course : Course) (edges : List Edge) (phases : List Phase) (graph : Graph) (cone : Cone) (state : State) (now : World) (stands : StandsAt tells course edges phases graph cone state now) where
   abbrev here : Course
   here = grown_course course edges phases
 
   -- over a call of a run that goes on
-  abbrev pub stands_on : (after : State) (new : World) → ComesAfter tells now new → LooksUnlessMore tells graph now new state.looks after.looks → IsOn tells here graph None after new → StandsAt tells tick course edges phases graph cone after new
+  abbrev pub stands_on : (after : State) (new : World) → ComesAfter tells now new → LooksUnlessMore tells graph now new state.looks after.looks → IsOn tells here graph None after new → StandsAt tells course edges phases graph cone after new
   stands_on after new grows looked on = record {
     goes = stands.goes;
     dyndeps = stands.dyndeps;
@@ -120,7 +120,7 @@ module _ (tells : Bool) (tick : List ℕ) (course : Course) (edges : List Edge) 
   -- ---- before a load
 
   pub load_at : (after : State) (file : ℕ) (new : World) → ComesAfter tells now new → LooksUnlessMore tells graph now new state.looks after.looks → HasAsked tells course edges phases now → IsAtLoad tells here graph after file new
-      → IsAtNextLoad tells tick course edges phases graph cone after file new
+      → IsAtNextLoad tells course edges phases graph cone after file new
   load_at after file new grows looked asked at = record {
     stands = stands_on after new grows looked at.on;
     next = record { next = at.next; wanted = at.wanted; known = at.known };
@@ -156,7 +156,7 @@ module _ (tells : Bool) (tick : List ℕ) (course : Course) (edges : List Edge) 
 
   module _ (stays : LogStays) (new : World) (after : Looks) (looked : HasLooked tells graph now new state.looks after) where
     abbrev base : IsOn tells here graph None (with_looks tells here graph state after) new
-    base = on_looked tells here graph stays tick stands.suits state now new after looked stands.on
+    base = on_looked tells here graph stays stands.suits state now new after looked stands.on
 
     -- the same phases, of the world now
     abbrev same_phases : IsPhased tells here.behaviour here.own here.asked here.store phases stands.on.steps here.entry new
@@ -165,7 +165,7 @@ module _ (tells : Bool) (tick : List ℕ) (course : Course) (edges : List Edge) 
     -- with what is shown, and what is due
     abbrev pub with_sources : Showing → Vec Bool Global → State
     with_sources display due =
-        record { plan = state.plan; looks = after; records = state.records; display = display; due = due; starts = state.starts; failed = state.failed }
+        record { plan = state.plan; looks = after; records = state.records; display = display; tick = state.tick; due = due; starts = state.starts; failed = state.failed }
 
     abbrev pub on_sources : (display : Showing) (due : Vec Bool Global) → IsOn tells here graph None (with_sources display due) new
     on_sources display due = record {
@@ -182,10 +182,11 @@ module _ (tells : Bool) (tick : List ℕ) (course : Course) (edges : List Edge) 
       started = base.started;
       removed = base.removed;
       room = record { looks = base.room.looks; starts = base.room.starts };
+      ticking = base.ticking;
       noted = base.noted;
     }
 
-    abbrev pub stands_looked : (display : Showing) (due : Vec Bool Global) → StandsAt tells tick course edges phases graph cone (with_sources display due) new
+    abbrev pub stands_looked : (display : Showing) (due : Vec Bool Global) → StandsAt tells course edges phases graph cone (with_sources display due) new
     stands_looked display due = stands_on (with_sources display due) new (after_looks tells now new looked.looks) (λ same. looked) (on_sources display due)
 
     -- a fault cuts it off

@@ -43,7 +43,7 @@ use Rattle.records.specs.declared.logs.Logs.{Logs}
 use Rattle.records.specs.Known.{AreKnown}
 use Rattle.records.specs.Logging.{IsLogging}
 use Rattle.work.specs.declared.state.State.{State}
-use Rattle.work.specs.Course.{Course, edges_of, goes_on, Suits, is_quiet, IsSeenStill, AreAnew, AreSeenBefore, AreTold, AreStarted, IsOn}
+use Rattle.work.specs.Course.{Course, IsOwnTick, edges_of, goes_on, Suits, is_quiet, IsSeenStill, AreAnew, AreSeenBefore, AreTold, AreStarted, IsOn}
 use Rattle.work.specs.Removing.{AreRemoved}
 use Rattle.work.proofs.Finishing.{makes_it}
 use Rattle.work.proofs.Onward.{since_goes}
@@ -80,6 +80,7 @@ pub record HasRoomFor (graph grown : Graph) (old new : State) : Type 0 where
   pub logs : new.records.logs ≡ old.records.logs
   pub known : (rs : List Record) (ds : List DepsRecord) → AreKnown graph rs ds old.records → AreKnown grown rs ds new.records
   pub changed : (p : ℕ) → flags.has new.plan.changed.items p ≡ flags.has old.plan.changed.items p
+  pub tick : new.tick ≡ old.tick
   pub starts : new.starts.items ≡ old.starts.items
   pub failed : new.failed.items ≡ old.failed.items
 
@@ -134,7 +135,7 @@ none_unloaded false d f rest p is there = false≢true (sym (ap (λ (o : Option 
 
 -- ---- over the load
 
-module _ (tells : Bool) (course : Course) (tick : List ℕ) (graph grown : Graph) (file : List ℕ) (additions : List Addition) (gains : HasMore graph grown file additions) (suits : Suits course tick graph) (goes : goes_on course ≡ true)
+module _ (tells : Bool) (course : Course) (graph grown : Graph) (file : List ℕ) (additions : List Addition) (gains : HasMore graph grown file additions) (suits : Suits course graph) (goes : goes_on course ≡ true)
     (state after : State) (now : World) (on : IsOn tells course graph None state now) (room : HasRoomFor graph grown state after)
     (stand : StandFor (declared_by graph).edges graph.manifest.paths (links_of graph)) (stands : StandFor (declared_by grown).edges grown.manifest.paths (links_of grown)) where
   abbrev few : List Edge
@@ -330,7 +331,7 @@ module _ (tells : Bool) (course : Course) (tick : List ℕ) (graph grown : Graph
   grown_task = record { file = file; additions = additions; grown = grown_here; once = gains.once; recorded = recorded_more; targets = refl; jobs = refl; keep = refl }
 
   -- the graph suits the course behind the load, where its recorded inputs are those in use
-  pub suits_loaded : AreSameInputs (recorded_inputs course.store next) (recorded_by grown) → Suits later tick grown
+  pub suits_loaded : AreSameInputs (recorded_inputs course.store next) (recorded_by grown) → Suits later grown
   suits_loaded recorded = record {
     same = same_graph (declared_by grown) course.asked.graph.pools course.asked.graph.defaults course.asked.graph.builddir
         (ap (λ (b : BuildGraph). b.pools) suits.same ∙ sym gains.pools) (ap (λ (b : BuildGraph). b.defaults) suits.same ∙ sym gains.defaults) (ap (λ (b : BuildGraph). b.builddir) suits.same ∙ sym gains.builddir);
@@ -340,9 +341,6 @@ module _ (tells : Bool) (course : Course) (tick : List ℕ) (graph grown : Graph
     depfiles = suits.depfiles;
     log_owned = suits.log_owned;
     deps_owned = suits.deps_owned;
-    owned = suits.owned;
-    no_build_log = suits.no_build_log;
-    no_deps_log = suits.no_deps_log;
     idle = suits.idle;
   }
 
@@ -401,5 +399,6 @@ module _ (tells : Bool) (course : Course) (tick : List ℕ) (graph grown : Graph
       started = started_later;
       removed = loaded_removed;
       room = record { looks = room.fits; starts = ap length room.starts ∙ (on.room.starts ∙ sym gains.lines) };
+      ticking = subst (λ (t : List ℕ). IsOwnTick course.own t) (sym {A = List ℕ} room.tick) on.ticking;
       noted = ap (map suc) room.failed ∙ on.noted;
     }

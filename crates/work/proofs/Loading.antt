@@ -55,7 +55,7 @@ use Rattle.records.specs.Known.{AreKnown}
 use Rattle.records.specs.Laws.{LogStays}
 use Rattle.records.specs.Logging.{IsLogging}
 use Rattle.work.specs.declared.state.State.{State}
-use Rattle.work.specs.Course.{Course, edges_of, goes_on, IsOn, is_quiet}
+use Rattle.work.specs.Course.{Course, IsOwnTick, edges_of, goes_on, IsOn, is_quiet}
 use Rattle.work.specs.Going.{IsInHand}
 use Rattle.work.proofs.Keeping.{seen_kept, looks_quiet, on_looks}
 use Rattle.work.proofs.Loaded.{HasMore, HasRoomFor, loaded_course, on_loaded, suits_loaded}
@@ -106,7 +106,7 @@ asked_below (look ∷ seen) (suc p) asked = let lt = asked_below seen p asked in
 
 -- ---- a build that stands before a load
 
-module _ (tells : Bool) (tick : List ℕ) (course : Course) (edges : List Edge) (phases : List Phase) (graph : Graph) (cone : Cone) (state : State) (now : World) (stands : StandsAt tells tick course edges phases graph cone state now) (file : ℕ)
+module _ (tells : Bool) (course : Course) (edges : List Edge) (phases : List Phase) (graph : Graph) (cone : Cone) (state : State) (now : World) (stands : StandsAt tells course edges phases graph cone state now) (file : ℕ)
     (next_load : IsLoadNext course edges graph state stands.on.steps file) where
   abbrev here : Course
   here = grown_course course edges phases
@@ -173,10 +173,11 @@ module _ (tells : Bool) (tick : List ℕ) (course : Course) (edges : List Edge) 
         started = λ e runs. subst (λ (l : List ℕ). StartedUnder (suc e) (get_or l e 0) here.entry new) (sym {A = List ℕ} same.starts) (on_new.started e runs);
         removed = on_new.removed;
         room = record { looks = ap (λ (l : List Look). length l) same.looks ∙ on_new.room.looks; starts = ap (λ (l : List ℕ). length l) same.starts ∙ on_new.room.starts };
+        ticking = subst (λ (t : List ℕ). IsOwnTick here.own t) (sym {A = List ℕ} same.tick) on_new.ticking;
         noted = ap (map suc) same.failed ∙ on_new.noted;
       }
 
-      abbrev pub stands_after : StandsAt tells tick course edges phases graph cone after new
+      abbrev pub stands_after : StandsAt tells course edges phases graph cone after new
       stands_after = record {
         goes = stands.goes;
         dyndeps = stands.dyndeps;
@@ -193,7 +194,7 @@ module _ (tells : Bool) (tick : List ℕ) (course : Course) (edges : List Edge) 
       }
 
       -- the load is refused there
-      pub stopped_there : (refusal : Refusal) → IsRefusedBy tells course edges phases steps new refusal → IsStopped tells tick course edges phases graph cone after new refusal
+      pub stopped_there : (refusal : Refusal) → IsRefusedBy tells course edges phases steps new refusal → IsStopped tells course edges phases graph cone after new refusal
       stopped_there refusal cause = record { stands = stands_after; cause = cause }
 
     -- ---- what the file held
@@ -437,10 +438,10 @@ module _ (tells : Bool) (tick : List ℕ) (course : Course) (edges : List Edge) 
 
         module _ (was : HasAsked tells course edges phases now) (room : HasRoomIn grown state after) (known : StayKnown graph grown state.records after.records) (logs : after.records.logs ≡ state.records.logs) where
           has_room : HasRoomFor graph grown state after
-          has_room = record { fits = room.fits; looks = room.looks; logs = logs; known = known; changed = room.changed; starts = room.starts; failed = room.failed }
+          has_room = record { fits = room.fits; looks = room.looks; logs = logs; known = known; changed = room.changed; tick = room.tick; starts = room.starts; failed = room.failed }
 
           abbrev on_then : IsOn tells later grown None after new
-          on_then = on_loaded tells here tick graph grown path additions gains stands.suits stands.goes state after new on_new has_room stand stand_grown content next_load.next reads order holds held_here grown_cone gone.planned stated is_cone
+          on_then = on_loaded tells here graph grown path additions gains stands.suits stands.goes state after new on_new has_room stand stand_grown content next_load.next reads order holds held_here grown_cone gone.planned stated is_cone
 
           unstarted_then : started_in steps ≡ [] → IsUnstarted tells course grown after new
           unstarted_then none = record { looks = so.looks; seen = λ tell free edits p asked bound. seen_there free p asked bound (so.seen tell free edits) }
@@ -460,13 +461,13 @@ module _ (tells : Bool) (tick : List ℕ) (course : Course) (edges : List Edge) 
                       ∙ text_front graph.manifest.paths gains.added p (let lt = asked_below state.looks.seen.items p asked_before in let size = stands.on.room.looks in omega (arith, lt, size))
 
           -- a phase begins
-          pub begun : BeginsAt tells tick course next (phases ++ ended ∷ []) grown grown_cone after new
+          pub begun : BeginsAt tells course next (phases ++ ended ∷ []) grown grown_cone after new
           begun = record {
             stands = record {
               goes = stands.goes;
               dyndeps = stands.dyndeps;
               others = stands.others;
-              suits = suits_loaded tells here tick graph grown path additions gains stands.suits stands.goes state after new on_new has_room stand stand_grown joined.recorded;
+              suits = suits_loaded tells here graph grown path additions gains stands.suits stands.goes state after new on_new has_room stand stand_grown joined.recorded;
               on = on_then;
               listed = is_cone;
               acyclic = acyclic;
@@ -485,7 +486,7 @@ module _ (tells : Bool) (tick : List ℕ) (course : Course) (edges : List Edge) 
                   omega (arith, low, sum)
 
           -- the file was loaded
-          pub has_begun : HasBegun tells tick course phases grown grown_cone after new
+          pub has_begun : HasBegun tells course phases grown grown_cone after new
           has_begun = (next, ended, begun)
 
     -- ---- a fault

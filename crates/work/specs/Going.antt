@@ -31,9 +31,9 @@ use Rattle.work.specs.declared.setting.Setting.{Setting}
 use Rattle.work.specs.declared.state.State.{State}
 
 -- such a run is under way, of some course: it goes on, or its next load was refused
-pub record IsGoing (tells goes : Bool) (tick : List ℕ) (graph : Graph) (state : State) (now : World) : Type 0 where
+pub record IsGoing (tells goes : Bool) (graph : Graph) (state : State) (now : World) : Type 0 where
   pub course : Course
-  pub suits : Suits course tick graph
+  pub suits : Suits course graph
   pub is : goes_on course ≡ goes
   pub on : IsOn tells course graph None state now
 
@@ -58,10 +58,10 @@ pub record MayWait (goes : Bool) (plan : Plan) : Type 0 where
   pub waits : goes ≡ true → IsNext plan Wait
 
 -- a run is under way of which a command may be taken in
-pub record IsAwaiting (tells : Bool) (tick : List ℕ) (graph : Graph) (state : State) (now : World) : Type 0 where
+pub record IsAwaiting (tells : Bool) (graph : Graph) (state : State) (now : World) : Type 0 where
   pub goes : Bool
   pub may : MayWait goes state.plan
-  pub going : IsGoing tells goes tick graph state now
+  pub going : IsGoing tells goes graph state now
 
 -- nothing is left to do
 pub record IsOver (tells : Bool) (course : Course) (graph : Graph) (state : State) (end : End) (now : World) : Type 0 where
@@ -107,7 +107,7 @@ pub record IsCut (tells : Bool) (course : Course) (graph : Graph) (plan : Plan) 
 
 -- of each course on which the run stood there, and went on or not, it is so
 abbrev pub From : Bool → Bool → Setting → State → World → (Course → Type 0) → Type 0
-From tells goes setting before old Is = (course : Course) → Suits course setting.tick.now setting.graph.now → goes_on course ≡ goes → IsOn tells course setting.graph.now None before old → Is course
+From tells goes setting before old Is = (course : Course) → Suits course setting.graph.now → goes_on course ≡ goes → IsOn tells course setting.graph.now None before old → Is course
 
 -- it stands there still, in a run that goes on or not
 abbrev pub StandsOn : Bool → Bool → Setting → World → World → State → State → Type 0
@@ -154,6 +154,7 @@ CutsTaking tells setting old new before after = IsCutFrom tells false setting ol
 -- the end of a command changes nothing of these
 pub record IsSameBeside (old new : State) : Type 0 where
   pub records : new.records ≡ old.records
+  pub tick : new.tick ≡ old.tick
   pub starts : new.starts.items ≡ old.starts.items
 
 -- What the end of the command of an edge changes beside its plan's steps: what was seen of its outputs is forgotten, and where it

@@ -145,6 +145,7 @@ pub record HasRoomIn (graph : Graph) (old new : State) : Type 0 where
   pub fits : length new.looks.seen.items ≡ length graph.manifest.paths
   pub looks : (p : ℕ) → look_at new.looks.seen.items p ≡ look_at old.looks.seen.items p
   pub changed : (p : ℕ) → has new.plan.changed.items p ≡ has old.plan.changed.items p
+  pub tick : new.tick ≡ old.tick
   pub starts : new.starts.items ≡ old.starts.items
   pub failed : new.failed.items ≡ old.failed.items
 
@@ -157,6 +158,7 @@ pub record IsAsBefore (old new : State) : Type 0 where
   pub plan : new.plan ≡ old.plan
   pub looks : new.looks.seen.items ≡ old.looks.seen.items
   pub logs : new.records.logs ≡ old.records.logs
+  pub tick : new.tick ≡ old.tick
   pub starts : new.starts.items ≡ old.starts.items
   pub failed : new.failed.items ≡ old.failed.items
 
@@ -229,9 +231,10 @@ MayShrink graph old new =
     AreSamePlaces old new
     ⊎ OfShorter graph (λ was. (rs : List Record) (ds : List DepsRecord) → AreKnown was rs ds old → IsOf rs graph.manifest.paths new × IsOfDeps ds graph.manifest.paths new)
 
--- the logs, the stamps of starts and the failed edges are as before
+-- the logs, the file of ticks, the stamps of starts and the failed edges are as before
 pub record KeepsRest (old new : State) : Type 0 where
   pub logs : new.records.logs ≡ old.records.logs
+  pub tick : new.tick ≡ old.tick
   pub starts : new.starts.items ≡ old.starts.items
   pub failed : new.failed.items ≡ old.failed.items
 

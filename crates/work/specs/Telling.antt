@@ -67,18 +67,18 @@ pub record IsEnding (tells : Bool) (course : Course) (graph : Graph) (i : ℕ) (
   pub read : WasRead tells (edge_at (edges_of course) i).act ok mid now told
 
 -- so it is of some course, of the edge at this place
-abbrev pub IsEndingOf : Bool → List ℕ → Graph → ℕ → Bool → Told → State → World → Type 0
-IsEndingOf tells tick graph edge ok told state now = (course : Course) × Suits course tick graph × IsEnding tells course graph (suc edge) ok told state now
+abbrev pub IsEndingOf : Bool → Graph → ℕ → Bool → Told → State → World → Type 0
+IsEndingOf tells graph edge ok told state now = (course : Course) × Suits course graph × IsEnding tells course graph (suc edge) ok told state now
 
 -- of each such course the run goes on,
 abbrev pub EndsOn : Bool → Setting → ℕ → Bool → Told → World → World → State → State → Type 0
 EndsOn tells setting edge ok told old new before after =
-    (course : Course) → Suits course setting.tick.now setting.graph.now → IsEnding tells course setting.graph.now (suc edge) ok told before old → IsOn tells course setting.graph.now None after new
+    (course : Course) → Suits course setting.graph.now → IsEnding tells course setting.graph.now (suc edge) ok told before old → IsOn tells course setting.graph.now None after new
 
 -- or a fault has cut it off
 abbrev pub CutsEnd : Bool → Setting → ℕ → Bool → Told → World → World → State → State → Type 0
 CutsEnd tells setting edge ok told old new before after =
-    (course : Course) → Suits course setting.tick.now setting.graph.now → IsEnding tells course setting.graph.now (suc edge) ok told before old → IsCut tells course setting.graph.now after.plan new
+    (course : Course) → Suits course setting.graph.now → IsEnding tells course setting.graph.now (suc edge) ok told before old → IsCut tells course setting.graph.now after.plan new
 
 -- ---- what is to be recorded
 

@@ -21,7 +21,7 @@ use site::Site;
 /// recorded and shown as in a run that goes on; nothing is judged or started. A fault is answered as by `run_plan`.
 pub fn finish<S: Site>(site: &mut S, setting: Setting<'_>, state: &mut State<'_>) -> Result<(), Cut>
     requires running { (S.world site.old).stopped ≡ false }
-    requires going { IsGoing S.tells false setting.tick.now setting.graph.now state.old (S.world site.old) }
+    requires going { IsGoing S.tells false setting.graph.now state.old (S.world site.old) }
     ensures ran { EndsSo S.tells setting.entry (S.world site.old) (S.world site.new) state.old state.new result }
     ensures grows { ComesAfter S.tells (S.world site.old) (S.world site.new) }
     ensures looked { OnOk result (LooksUnlessMore S.tells setting.entry.graph.now (S.world site.old) (S.world site.new) state.old.looks state.new.looks) }
@@ -44,7 +44,7 @@ fn take_in_running<S: Site>(
     state: &mut State<'_>,
 ) -> Result<(), Cut>
     requires running { (S.world site.old).stopped ≡ false }
-    requires going { IsGoing S.tells false setting.tick.now setting.graph.now state.old (S.world site.old) }
+    requires going { IsGoing S.tells false setting.graph.now state.old (S.world site.old) }
     ensures cuts { Cuts (S.world site.old) (S.world site.new) result }
     ensures grows { ComesAfter S.tells (S.world site.old) (S.world site.new) }
     ensures looked { OnOk result (LooksUnlessMore S.tells setting.entry.graph.now (S.world site.old) (S.world site.new) state.old.looks state.new.looks) }

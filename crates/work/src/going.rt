@@ -12,7 +12,7 @@ ghost use Rattle.plan.specs.Planned.{IsNext};
 ghost use Rattle.work.specs.Course.{Course};
 ghost use Rattle.work.specs.Going.{IsCut};
 ghost use Rattle.work.specs.Ran.{AreEdgesOf, IsPauseOf};
-ghost use Rattle.work.specs.Standing.{NoSourceIsDue, GoesWell, IsStopThere, IsStopOf, IsBeginning, EndsFrom, DoneFrom, HaltsFrom, PausesFrom, HaltsOver, IsBeginningBy, AsksFrom, HaltsAsking, HaltsBehind, IsRefusedOf, EndsHalted, IsLoading, Loads, HaltsAt, IfRefused, IfFault, files_left, stop_answer};
+ghost use Rattle.work.specs.Standing.{NoSourceIsDue, GoesWell, IsStopThere, IsStopOf, EndsFrom, DoneFrom, HaltsFrom, PausesFrom, IsBeginning, AsksFrom, HaltsOver, HaltsBehind, IsRefusedOf, EndsHalted, IsLoading, Loads, HaltsAt, IfRefused, IfFault, files_left, stop_answer};
 
 use crate::closing::finish;
 use crate::commands::unstarted_commands;
@@ -39,19 +39,18 @@ pub fn run_graph<S: Site>(
     site: &mut S,
     graph: &mut Graph,
     cone: &mut Cone,
-    tick: &str,
     state: &mut State<'_>,
 ) -> Result<Summary, Stop>
     requires running { (S.world site.old).stopped ≡ false }
-    requires begins { IsBeginning S.tells tick.now graph.old cone.old state.old (S.world site.old) }
-    ensures ended { EndsFrom S.tells tick.now graph.old cone.old state.old (S.world site.old) graph.new cone.new (S.world site.new) result }
+    requires begins { IsBeginning S.tells graph.old cone.old state.old (S.world site.old) }
+    ensures ended { EndsFrom S.tells graph.old cone.old state.old (S.world site.old) graph.new cone.new (S.world site.new) result }
     ensures edges { IfOk result (AreEdgesOf graph.new) }
     ensures seen { IfErr result (λ stop. IfFault stop (IsSeen (S.world site.old) (S.world site.new))) }
     ensures faults { PassesNoFault (S.world site.old) (S.world site.new) (stop_answer result) }
 {
-    match run_and_load(alloc, site, graph, cone, tick, state) {
+    match run_and_load(alloc, site, graph, cone, state) {
         Ok(summary) => Ok(summary),
-        Err(stop) => Err(finished(site, Setting { alloc, graph, tick }, state, stop)),
+        Err(stop) => Err(finished(site, Setting { alloc, graph }, state, stop)),
     }
 }
 
@@ -61,19 +60,18 @@ fn run_and_load<S: Site>(
     site: &mut S,
     graph: &mut Graph,
     cone: &mut Cone,
-    tick: &str,
     state: &mut State<'_>,
 ) -> Result<Summary, Stop>
     requires running { (S.world site.old).stopped ≡ false }
-    requires begins { IsBeginning S.tells tick.now graph.old cone.old state.old (S.world site.old) }
-    ensures done { IfOk result (DoneFrom S.tells tick.now graph.old cone.old state.old (S.world site.old) graph.new cone.new (S.world site.new)) }
+    requires begins { IsBeginning S.tells graph.old cone.old state.old (S.world site.old) }
+    ensures done { IfOk result (DoneFrom S.tells graph.old cone.old state.old (S.world site.old) graph.new cone.new (S.world site.new)) }
     ensures edges { IfOk result (AreEdgesOf graph.new) }
     ensures well { OnOk result (GoesWell (S.world site.old) (S.world site.new)) }
     ensures stop { IfErr result (IsStopOf (S.world site.old) (S.world site.new)) }
-    ensures halted { IfErr result (HaltsFrom S.tells tick.now graph.old cone.old state.old (S.world site.old) graph.new cone.new state.new (S.world site.new)) }
+    ensures halted { IfErr result (HaltsFrom S.tells graph.old cone.old state.old (S.world site.old) graph.new cone.new state.new (S.world site.new)) }
 {
     'run: loop {
-        match run_to_load(alloc, site, graph, cone, tick, state)? {
+        match run_to_load(alloc, site, graph, cone, state)? {
             Pause::Ended(summary) => return Ok(summary),
             Pause::Load(file) => load_file(alloc, site, graph, cone, state, file)?,
         }
@@ -86,22 +84,21 @@ fn run_to_load<S: Site>(
     site: &mut S,
     graph: &Graph,
     cone: &Cone,
-    tick: &str,
     state: &mut State<'_>,
 ) -> Result<Pause, Stop>
     requires running { (S.world site.old).stopped ≡ false }
-    requires begins { IsBeginning S.tells tick.now graph.now cone.now state.old (S.world site.old) }
+    requires begins { IsBeginning S.tells graph.now cone.now state.old (S.world site.old) }
     ensures pause { IfOk result (IsPauseOf graph.now) }
     ensures well { OnOk result (GoesWell (S.world site.old) (S.world site.new)) }
-    ensures paused { IfOk result (PausesFrom S.tells tick.now graph.now cone.now state.old (S.world site.old) state.new (S.world site.new)) }
+    ensures paused { IfOk result (PausesFrom S.tells graph.now cone.now state.old (S.world site.old) state.new (S.world site.new)) }
     ensures stop { IfErr result (IsStopOf (S.world site.old) (S.world site.new)) }
-    ensures halted { IfErr result (HaltsOver S.tells tick.now graph.now cone.now state.old (S.world site.old) state.new (S.world site.new)) }
+    ensures halted { IfErr result (HaltsOver S.tells graph.now cone.now state.old (S.world site.old) state.new (S.world site.new)) }
 {
     match source_to_load(graph, &state.plan) {
         Some(file) => Ok(Pause::Load(file)),
         None => {
             ask_for_sources(alloc, site, graph, cone, state)?;
-            Ok(run_plan(site, Setting { alloc, graph, tick }, state)?)
+            Ok(run_plan(site, Setting { alloc, graph }, state)?)
         }
     }
 }
@@ -138,12 +135,12 @@ fn ask_for_sources<S: Site>(
     state: &mut State<'_>,
 ) -> Result<(), Stop>
     requires running { (S.world site.old).stopped ≡ false }
-    requires begins { IsBeginningBy S.tells graph.now cone.now state.old (S.world site.old) }
+    requires begins { IsBeginning S.tells graph.now cone.now state.old (S.world site.old) }
     requires made { NoSourceIsDue graph.now state.old.plan }
     ensures well { OnOk result (GoesWell (S.world site.old) (S.world site.new)) }
     ensures asked { OnOk result (AsksFrom S.tells graph.now cone.now state.old (S.world site.old) state.new (S.world site.new)) }
     ensures stop { IfErr result (IsStopOf (S.world site.old) (S.world site.new)) }
-    ensures halted { IfErr result (HaltsAsking S.tells graph.now cone.now state.old (S.world site.old) state.new (S.world site.new)) }
+    ensures halted { IfErr result (HaltsOver S.tells graph.now cone.now state.old (S.world site.old) state.new (S.world site.new)) }
 {
     log_stays();
     lists_stand(graph);
@@ -204,10 +201,10 @@ fn given_up<S: Site>(site: &mut S, plan: &Plan, stop: Stop) -> Stop
 
 /// After a refusal what runs is taken in, recorded and shown, which may meet a fault; a fault stays as it is.
 fn finished<S: Site>(site: &mut S, setting: Setting<'_>, state: &mut State<'_>, stop: Stop) -> Stop
-    requires refused { IfRefused stop (IsRefusedOf S.tells setting.tick.now setting.graph.now state.old (S.world site.old)) }
+    requires refused { IfRefused stop (IsRefusedOf S.tells setting.graph.now state.old (S.world site.old)) }
     requires stop { (entry : World) × IsStopOf entry (S.world site.old) stop }
     ensures stop { (entry : World) → IsStopOf entry (S.world site.old) stop → IsStopOf entry (S.world site.new) result }
-    ensures ended { EndsHalted S.tells setting.entry.tick.now setting.entry.graph.now state.old (S.world site.old) (S.world site.new) stop result }
+    ensures ended { EndsHalted S.tells setting.entry.graph.now state.old (S.world site.old) (S.world site.new) stop result }
 {
     match stop {
         Stop::Fault(fault) => Stop::Fault(fault),

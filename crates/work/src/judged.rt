@@ -29,7 +29,7 @@ pub fn judge<S: Site>(
     edge: EdgeId,
 ) -> Result<(), SiteFault>
     requires running { (S.world site.old).stopped ≡ false }
-    requires going { IsGoing S.tells true setting.tick.now setting.graph.now state.old (S.world site.old) }
+    requires going { IsGoing S.tells true setting.graph.now state.old (S.world site.old) }
     requires next { IsNext state.old.plan (step.Judge edge) }
     requires summed { AreSums setting.graph.now state.old.plan.changed.items state.old.looks.seen.items sums.old }
     requires marked { AreMarked setting.graph.now state.old.plan.changed.items state.old.looks.seen.items sums.old }

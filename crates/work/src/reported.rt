@@ -101,7 +101,7 @@ pub fn report<S: Site>(
     told: &Told<'_>,
 ) -> Result<(), SiteFault>
     requires running { (S.world site.old).stopped ≡ false }
-    requires taken_in { IsTakenInOf S.tells setting.tick.now setting.graph.now edge start true told.now state.old (S.world site.old) }
+    requires taken_in { IsTakenInOf S.tells setting.graph.now edge start true told.now state.old (S.world site.old) }
     ensures cause { HasCause (S.world site.old) (S.world site.new) result }
     ensures writes { WritesAt S.tells state.old.records.logs.deps_log.path (S.world site.old) (S.world site.new) }
     ensures plan { state.new.plan ≡ state.old.plan }

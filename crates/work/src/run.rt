@@ -42,7 +42,7 @@ pub fn run_plan<S: Site>(
     state: &mut State<'_>,
 ) -> Result<Pause, Cut>
     requires running { (S.world site.old).stopped ≡ false }
-    requires going { IsGoing S.tells true setting.tick.now setting.graph.now state.old (S.world site.old) }
+    requires going { IsGoing S.tells true setting.graph.now state.old (S.world site.old) }
     ensures ran { PausesSo S.tells setting.entry (S.world site.old) (S.world site.new) state.old state.new result }
     ensures pause { IfOk result (IsPauseOf setting.entry.graph.now) }
     ensures grows { ComesAfter S.tells (S.world site.old) (S.world site.new) }
@@ -62,7 +62,7 @@ pub fn run_plan<S: Site>(
 /// Does what the plan says until it says no step.
 fn run<S: Site>(site: &mut S, setting: Setting<'_>, state: &mut State<'_>) -> Result<Halt, Cut>
     requires running { (S.world site.old).stopped ≡ false }
-    requires going { IsGoing S.tells true setting.tick.now setting.graph.now state.old (S.world site.old) }
+    requires going { IsGoing S.tells true setting.graph.now state.old (S.world site.old) }
     ensures cuts { Cuts (S.world site.old) (S.world site.new) result }
     ensures grows { ComesAfter S.tells (S.world site.old) (S.world site.new) }
     ensures looked { OnOk result (LooksUnlessMore S.tells setting.entry.graph.now (S.world site.old) (S.world site.new) state.old.looks state.new.looks) }

@@ -8,6 +8,4 @@ use std::alloc::Global;
 pub struct Setting<'a> {
     pub alloc: Global,
     pub graph: &'a Graph,
-    /// The file that gets a new stamp before each start.
-    pub tick: &'a str,
 }

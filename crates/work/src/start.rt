@@ -39,7 +39,7 @@ pub fn start_edge<S: Site>(
     edge: EdgeId,
 ) -> Result<(), SiteFault>
     requires running { (S.world site.old).stopped ≡ false }
-    requires going { IsGoing S.tells true setting.tick.now setting.graph.now state.old (S.world site.old) }
+    requires going { IsGoing S.tells true setting.graph.now state.old (S.world site.old) }
     requires next { IsNext state.old.plan (step.Start edge) }
     ensures cause { HasCause (S.world site.old) (S.world site.new) result }
     ensures starts { StartsUnrefused (S.world site.old) (S.world site.new) }
@@ -52,7 +52,7 @@ pub fn start_edge<S: Site>(
     ensures cut { OnErr result (CutsOff S.tells setting.entry (S.world site.old) (S.world site.new) state.old state.new) }
 {
     log_stays();
-    make_folders(site, setting, edge)?;
+    make_folders(site, setting, state, edge)?;
     state
         .display
         .start(site, setting.graph, edge, progress(&state.plan))?;
@@ -63,14 +63,19 @@ pub fn start_edge<S: Site>(
 }
 
 /// Makes the folder of the logs, and those of what the edge makes, of its depfile and of its response file.
-fn make_folders<S: Site>(site: &mut S, setting: Setting<'_>, edge: EdgeId) -> Result<(), SiteFault>
+fn make_folders<S: Site>(
+    site: &mut S,
+    setting: Setting<'_>,
+    state: &State<'_>,
+    edge: EdgeId,
+) -> Result<(), SiteFault>
     requires running { (S.world site.old).stopped ≡ false }
     requires within { edge < length setting.graph.now.manifest.lines }
     requires command { IsCommand (declared_by setting.graph.now).edges (suc edge) }
     ensures looks { OnlyLooks S.tells (S.world site.old) (S.world site.new) }
     ensures cause { HasCause (S.world site.old) (S.world site.new) result }
 {
-    make_folder(site, setting.tick)?;
+    make_folder(site, state.tick.as_str())?;
     make_output_folders(site, setting.graph, edge)?;
     let act = act(setting.graph, edge);
     make_folder(site, act.depfile.as_str())?;
@@ -85,7 +90,7 @@ fn launch<S: Site>(
     edge: EdgeId,
 ) -> Result<(), SiteFault>
     requires running { (S.world site.old).stopped ≡ false }
-    requires begun { IsBegunOf S.tells setting.tick.now setting.graph.now edge state.old (S.world site.old) }
+    requires begun { IsBegunOf S.tells setting.graph.now edge state.old (S.world site.old) }
     requires offered { IsOffered state.old.plan (step.Start edge) }
     ensures cause { HasCause (S.world site.old) (S.world site.new) result }
     ensures starts { StartsUnrefused (S.world site.old) (S.world site.new) }
@@ -101,7 +106,7 @@ fn launch<S: Site>(
     let act = act(setting.graph, edge);
     remove_old_depfile(site, act)?;
     write_response(site, act)?;
-    let stamp = site.tick(setting.tick)?;
+    let stamp = site.tick(state.tick.as_str())?;
     note_stamp(&mut state.starts, edge, stamp);
     let known = site.events().len();
     let result = site.start(edge.job(), act, has_terminal(setting.graph, edge));

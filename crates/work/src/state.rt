@@ -9,6 +9,7 @@ use paths::EdgeId;
 use plan::Plan;
 use records::Records;
 use std::alloc::{AllocError, Global};
+use text::Path;
 
 /// What a run changes: its plan, what it has seen of files, its log, and what it shows. It takes 9 bytes for each edge of the
 /// graph beside these.
@@ -18,6 +19,8 @@ pub struct State<'a> {
     pub looks: Looks,
     pub records: Records,
     pub display: Display<'a>,
+    /// The file that gets a new stamp before each start.
+    pub tick: Path,
     /// For each edge whether it was due before anything ran: so the display counts it.
     pub due: Vec<bool>,
     /// For each edge the stamp of its start, once its command was started.
@@ -35,12 +38,14 @@ impl<'a> State<'a> {
         looks: Looks,
         records: Records,
         display: Display<'a>,
+        tick: Path,
         due: Vec<bool>,
     ) -> Result<State<'a>, AllocError>
         ensures plan { IfOk result (λ state. state.plan ≡ plan) }
         ensures looks { IfOk result (λ state. state.looks ≡ looks) }
         ensures records { IfOk result (λ state. state.records ≡ records) }
         ensures display { IfOk result (λ state. state.display ≡ display.entry) }
+        ensures tick { IfOk result (λ state. state.tick ≡ tick) }
         ensures due { IfOk result (λ state. state.due ≡ due) }
         ensures starts { IfOk result (λ state. vec_len state.starts ≡ length graph.now.manifest.lines) }
         ensures failed { IfOk result (λ state. state.failed.items ≡ []) }
@@ -50,6 +55,7 @@ impl<'a> State<'a> {
             looks,
             records,
             display,
+            tick,
             due,
             starts: vec![in alloc; 0; graph.edges()]?,
             failed: Vec::new(alloc),

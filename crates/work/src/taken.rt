@@ -45,7 +45,7 @@ pub fn take_in<S: Site>(
     state: &mut State<'_>,
 ) -> Result<(), Cut>
     requires running { (S.world site.old).stopped ≡ false }
-    requires going { IsAwaiting S.tells setting.tick.now setting.graph.now state.old (S.world site.old) }
+    requires going { IsAwaiting S.tells setting.graph.now state.old (S.world site.old) }
     ensures cuts { Cuts (S.world site.old) (S.world site.new) result }
     ensures grows { ComesAfter S.tells (S.world site.old) (S.world site.new) }
     ensures some { OnOk result ((S.world site.new).events ≡ (S.world site.old).events → ⊥) }
@@ -88,7 +88,7 @@ fn take_in_told<S: Site>(
     told: &Told<'_>,
 ) -> Result<(), Cut>
     requires running { (S.world site.old).stopped ≡ false }
-    requires ending { IsEndingOf S.tells setting.tick.now setting.graph.now edge finished.ok told.now state.old (S.world site.old) }
+    requires ending { IsEndingOf S.tells setting.graph.now edge finished.ok told.now state.old (S.world site.old) }
     ensures cuts { Cuts (S.world site.old) (S.world site.new) result }
     ensures grows { ComesAfter S.tells (S.world site.old) (S.world site.new) }
     ensures events { (S.world site.new).events ≡ (S.world site.old).events }
@@ -229,7 +229,7 @@ fn record_end<S: Site>(
     told: &Told<'_>,
 ) -> Result<(), SiteFault>
     requires running { (S.world site.old).stopped ≡ false }
-    requires taken_in { IsTakenInOf S.tells setting.tick.now setting.graph.now edge (get_or state.old.starts.items edge 0) ok told.now state.old (S.world site.old) }
+    requires taken_in { IsTakenInOf S.tells setting.graph.now edge (get_or state.old.starts.items edge 0) ok told.now state.old (S.world site.old) }
     ensures cause { HasCause (S.world site.old) (S.world site.new) result }
     ensures grows { ComesAfter S.tells (S.world site.old) (S.world site.new) }
     ensures events { (S.world site.new).events ≡ (S.world site.old).events }

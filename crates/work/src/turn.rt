@@ -36,7 +36,7 @@ pub fn go_on<S: Site>(
     sums: &mut Sums,
 ) -> Result<Option<Halt>, Cut>
     requires running { (S.world site.old).stopped ≡ false }
-    requires going { IsGoing S.tells true setting.tick.now setting.graph.now state.old (S.world site.old) }
+    requires going { IsGoing S.tells true setting.graph.now state.old (S.world site.old) }
     requires summed { AreSums setting.graph.now state.old.plan.changed.items state.old.looks.seen.items sums.old }
     requires marked { AreMarked setting.graph.now state.old.plan.changed.items state.old.looks.seen.items sums.old }
     ensures cuts { Cuts (S.world site.old) (S.world site.new) result }

@@ -18,7 +18,7 @@ pub reason-requires-clause-command : goal.reason-requires-clause-command
 reason-requires-clause-command g c =
     let going = c.requires.going in
     let graph = c.args.setting.graph.now in
-    judged_command going.course graph c.args.setting.tick.now going.suits c.args.edge (c.requires.next.lawful (task_of going.course.asked going.course.store) graph going.on.steps going.on.planned going.on.taken true).0.command
+    judged_command going.course graph going.suits c.args.edge (c.requires.next.lawful (task_of going.course.asked going.course.store) graph going.on.steps going.on.planned going.on.taken true).0.command
 
 pub returns-in_err-reason-clause-looked : goal.returns-in_err-reason-clause-looked
 returns-in_err-reason-clause-looked g c = (c.looks_follow.ensures.follow g.S.Texts.tells (g.S.Texts.world c.args.site.now) (g.S.Texts.world c.ask_before.new.site) (g.S.Texts.world c.reason.new.site)).looked c.args.setting.graph.now c.args.state.now.looks c.ask_before.new.looks c.reason.new.looks c.ask_before.ensures.looked c.reason.ensures.looked
@@ -77,10 +77,10 @@ returns-clause-on g c course suits goes on =
     let graph = c.args.setting.graph.now in
     let state = c.args.state.now in
     let mid = g.S.Texts.world c.ask_before.new.site in
-    judged_on tells course graph c.log_stays.ensures c.args.setting.tick.now suits (with_looks tells course graph state c.ask_before.new.looks) mid (g.S.Texts.world c.reason.new.site) c.args.edge
-    (on_looked tells course graph c.log_stays.ensures c.args.setting.tick.now suits state (g.S.Texts.world c.args.site.now) mid c.ask_before.new.looks c.ask_before.ensures.looked on) goes c.requires.next
+    judged_on tells course graph c.log_stays.ensures suits (with_looks tells course graph state c.ask_before.new.looks) mid (g.S.Texts.world c.reason.new.site) c.args.edge
+    (on_looked tells course graph c.log_stays.ensures suits state (g.S.Texts.world c.args.site.now) mid c.ask_before.new.looks c.ask_before.ensures.looked on) goes c.requires.next
     c.reason.ensures.looked.looks c.reason.new.looks c.in_ok-reason.reason (is_stale c.verdict_of-verdict.result) c.verdict_of-verdict.ensures c.reason.ensures.looked
-    c.lists_stand.ensures (asked_outputs course graph c.args.setting.tick.now suits c.args.edge c.ask_before.new.looks c.in_ok-ask_before.ensures.asked)
+    c.lists_stand.ensures (asked_outputs course graph suits c.args.edge c.ask_before.new.looks c.in_ok-ask_before.ensures.asked)
     (subst
     (λ (flags : List Bool). (rs : List Record) (ds : List DepsRecord) → AreKnown graph rs ds state.records
     → KeepsDepfile tells (declared_by graph).edges mid (g.S.Texts.world c.reason.new.site) (suc c.args.edge)

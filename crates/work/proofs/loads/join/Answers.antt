@@ -12,7 +12,7 @@ pub returns-in_err-before-clause-undone : goal.returns-in_err-before-clause-undo
 returns-in_err-before-clause-undone c = on_err c.from_residual.result (record {
   graph_is = c.in_err-before.ensures.err;
   cone_is = refl;
-  state = record { plan = refl; looks = refl; logs = refl; starts = refl; failed = refl };
+  state = record { plan = refl; looks = refl; logs = refl; tick = refl; starts = refl; failed = refl };
   known = λ rs ds known. known;
 })
 
@@ -62,6 +62,7 @@ returns-in-Err-clause-undone c =
             ∙ (ap (λ (n : ℕ). take n now.looks.seen.items) (sym may.seen)
             ∙ c.in-Err.ensures.looks));
         logs = c.shrink.ensures.logs ∙ c.join_parts.ensures.beside.logs;
+        tick = c.join_parts.ensures.beside.tick;
         starts = c.join_parts.ensures.beside.starts;
         failed = c.join_parts.ensures.beside.failed;
       };

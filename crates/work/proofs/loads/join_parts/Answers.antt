@@ -25,7 +25,7 @@ join_inputs-requires-clause-known c =
     (c.requires.loaded.2, j.has.added, store.records, store.deps, j.has.paths, j.may.known)
 
 pub returns-in_err-join_inputs-clause-beside : goal.returns-in_err-join_inputs-clause-beside
-returns-in_err-join_inputs-clause-beside c = record { logs = c.join_inputs.ensures.logs; starts = refl; failed = refl }
+returns-in_err-join_inputs-clause-beside c = record { logs = c.join_inputs.ensures.logs; tick = refl; starts = refl; failed = refl }
 
 pub returns-in_err-join_inputs-clause-grown : goal.returns-in_err-join_inputs-clause-grown
 returns-in_err-join_inputs-clause-grown c = on_err c.from_residual.result c.join_inputs.ensures.grown
@@ -60,7 +60,7 @@ cone_again-requires-clause-asked c =
     )
 
 pub returns-in_err-grown-clause-beside : goal.returns-in_err-grown-clause-beside
-returns-in_err-grown-clause-beside c = record { logs = c.join_inputs.ensures.logs; starts = refl; failed = refl }
+returns-in_err-grown-clause-beside c = record { logs = c.join_inputs.ensures.logs; tick = refl; starts = refl; failed = refl }
 
 pub returns-in_err-grown-clause-grown : goal.returns-in_err-grown-clause-grown
 returns-in_err-grown-clause-grown c = on_err c.from_residual-in_err-grown.result c.join_inputs.ensures.grown
@@ -101,6 +101,7 @@ grow-requires-clause-fits c =
 pub returns-in_err-grow-clause-beside : goal.returns-in_err-grow-clause-beside
 returns-in_err-grow-clause-beside c = record {
   logs = ap (λ (r : Records). r.logs) c.grow.ensures.records ∙ c.join_inputs.ensures.logs;
+  tick = c.grow.ensures.beside.tick;
   starts = c.grow.ensures.beside.starts;
   failed = c.grow.ensures.beside.failed;
 }
@@ -128,7 +129,7 @@ returns-clause-goes c asked store graph j =
 pub returns-clause-room : goal.returns-clause-room
 returns-clause-room c =
     let room = c.in_ok-grow.ensures.room in
-    record { fits = room.fits; looks = room.looks; changed = room.changed; starts = room.starts; failed = room.failed }
+    record { fits = room.fits; looks = room.looks; changed = room.changed; tick = room.tick; starts = room.starts; failed = room.failed }
 
 pub returns-clause-known : goal.returns-clause-known
 returns-clause-known c was more is rs ds known =
@@ -138,6 +139,7 @@ returns-clause-known c was more is rs ds known =
 pub returns-clause-beside : goal.returns-clause-beside
 returns-clause-beside c = record {
   logs = ap (λ (r : Records). r.logs) c.grow.ensures.records ∙ c.join_inputs.ensures.logs;
+  tick = c.grow.ensures.beside.tick;
   starts = c.grow.ensures.beside.starts;
   failed = c.grow.ensures.beside.failed;
 }

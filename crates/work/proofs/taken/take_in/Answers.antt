@@ -36,7 +36,7 @@ take_in_told-requires-clause-ending g c =
     let job_is : c.in-Ok.finished.job ≡ suc c.edge-edge.result = omega (arith, runs.is, c.edge-edge.ensures) in (
       going.course,
       going.suits,
-      ending_of g.S.Texts.tells going.course c.args.setting.tick.now c.args.setting.graph.now going.suits c.args.state.now (g.S.Texts.world c.args.site.now) (g.S.Texts.world c.wait_any.new.self) (g.S.Texts.world c.read_told.new.site) c.in-Ok.finished.job c.edge-edge.result c.in-Ok.finished.ok c.in-Ok-read_told.told c.act.result.now job_is going.on (may_take going.course c.args.setting.graph.now c.args.state.now.plan going.on.steps c.requires.going.goes going.is going.on.planned going.on.taken c.requires.going.may) c.in-Ok.ensures.finishes c.read_told.ensures.looks
+      ending_of g.S.Texts.tells going.course c.args.setting.graph.now going.suits c.args.state.now (g.S.Texts.world c.args.site.now) (g.S.Texts.world c.wait_any.new.self) (g.S.Texts.world c.read_told.new.site) c.in-Ok.finished.job c.edge-edge.result c.in-Ok.finished.ok c.in-Ok-read_told.told c.act.result.now job_is going.on (may_take going.course c.args.setting.graph.now c.args.state.now.plan going.on.steps c.requires.going.goes going.is going.on.planned going.on.taken c.requires.going.may) c.in-Ok.ensures.finishes c.read_told.ensures.looks
           c.act.ensures c.in-Ok-read_told.ensures.read,
     )
 
@@ -69,7 +69,7 @@ returns-in-Ok-read_told-clause-on g c =
     let turn = may_take course c.args.setting.graph.now c.args.state.now.plan on.steps goes is on.planned on.taken may in
     let runs = running_edge g.S.Texts.tells course c.args.setting.graph.now None c.args.state.now (g.S.Texts.world c.args.site.now) on c.in-Ok.finished.job c.in-Ok.ensures.finishes.ran in
     let job_is : c.in-Ok.finished.job ≡ suc c.edge-edge.result = omega (arith, runs.is, c.edge-edge.ensures) in
-    so course suits (ending_of g.S.Texts.tells course c.args.setting.tick.now c.args.setting.graph.now suits c.args.state.now (g.S.Texts.world c.args.site.now) (g.S.Texts.world c.wait_any.new.self) (g.S.Texts.world c.read_told.new.site) c.in-Ok.finished.job c.edge-edge.result c.in-Ok.finished.ok c.in-Ok-read_told.told c.act.result.now job_is on turn c.in-Ok.ensures.finishes c.read_told.ensures.looks
+    so course suits (ending_of g.S.Texts.tells course c.args.setting.graph.now suits c.args.state.now (g.S.Texts.world c.args.site.now) (g.S.Texts.world c.wait_any.new.self) (g.S.Texts.world c.read_told.new.site) c.in-Ok.finished.job c.edge-edge.result c.in-Ok.finished.ok c.in-Ok-read_told.told c.act.result.now job_is on turn c.in-Ok.ensures.finishes c.read_told.ensures.looks
     c.act.ensures c.in-Ok-read_told.ensures.read))
 
 pub returns-in-Ok-read_told-clause-cut : goal.returns-in-Ok-read_told-clause-cut
@@ -78,7 +78,7 @@ returns-in-Ok-read_told-clause-cut g c =
     let turn = may_take course c.args.setting.graph.now c.args.state.now.plan on.steps goes is on.planned on.taken may in
     let runs = running_edge g.S.Texts.tells course c.args.setting.graph.now None c.args.state.now (g.S.Texts.world c.args.site.now) on c.in-Ok.finished.job c.in-Ok.ensures.finishes.ran in
     let job_is : c.in-Ok.finished.job ≡ suc c.edge-edge.result = omega (arith, runs.is, c.edge-edge.ensures) in
-    so course suits (ending_of g.S.Texts.tells course c.args.setting.tick.now c.args.setting.graph.now suits c.args.state.now (g.S.Texts.world c.args.site.now) (g.S.Texts.world c.wait_any.new.self) (g.S.Texts.world c.read_told.new.site) c.in-Ok.finished.job c.edge-edge.result c.in-Ok.finished.ok c.in-Ok-read_told.told c.act.result.now job_is on turn c.in-Ok.ensures.finishes c.read_told.ensures.looks
+    so course suits (ending_of g.S.Texts.tells course c.args.setting.graph.now suits c.args.state.now (g.S.Texts.world c.args.site.now) (g.S.Texts.world c.wait_any.new.self) (g.S.Texts.world c.read_told.new.site) c.in-Ok.finished.job c.edge-edge.result c.in-Ok.finished.ok c.in-Ok-read_told.told c.act.result.now job_is on turn c.in-Ok.ensures.finishes c.read_told.ensures.looks
     c.act.ensures c.in-Ok-read_told.ensures.read))
 
 pub returns-in-Err-read_told-clause-cut : goal.returns-in-Err-read_told-clause-cut
@@ -86,7 +86,7 @@ returns-in-Err-read_told-clause-cut g c goes may course suits is on =
     let turn = may_take course c.args.setting.graph.now c.args.state.now.plan on.steps goes is on.planned on.taken may in
     let runs = running_edge g.S.Texts.tells course c.args.setting.graph.now None c.args.state.now (g.S.Texts.world c.args.site.now) on c.in-Ok.finished.job c.in-Ok.ensures.finishes.ran in
     let job_is : c.in-Ok.finished.job ≡ suc c.edge-edge.result = omega (arith, runs.is, c.edge-edge.ensures) in
-    end_unread g.S.Texts.tells course c.args.setting.tick.now c.args.setting.graph.now suits c.args.state.now (g.S.Texts.world c.args.site.now) (g.S.Texts.world c.wait_any.new.self) (g.S.Texts.world c.read_told.new.site) c.edge-edge.result c.in-Ok.finished.ok on turn
+    end_unread g.S.Texts.tells course c.args.setting.graph.now suits c.args.state.now (g.S.Texts.world c.args.site.now) (g.S.Texts.world c.wait_any.new.self) (g.S.Texts.world c.read_told.new.site) c.edge-edge.result c.in-Ok.finished.ok on turn
     (subst (λ (n : ℕ). Finishes g.S.Texts.tells n c.in-Ok.finished.ok (g.S.Texts.world c.args.site.now) (g.S.Texts.world c.wait_any.new.self)) job_is c.in-Ok.ensures.finishes) c.read_told.ensures.looks
     (λ none. c.in-Err-read_told.ensures.named (ap (λ (a : Act). a.depfile) c.act.ensures ∙ (ap (λ (b : BuildGraph). (edge_at b.edges (suc c.edge-edge.result)).act.depfile) (sym suits.same) ∙ none)))
     c.note_unread.new.state.plan c.note_unread.ensures.planned
