@@ -115,12 +115,11 @@ fn explain_graph<S: Site>(
 {
     let mut cone = cone_of(alloc, graph, asked)?;
     let mut state = state_of(alloc, graph, &cone, asked, options, records)?;
-    explain_state(alloc, site, graph, &mut cone, &mut state)
+    explain_state(site, graph, &mut cone, &mut state)
 }
 
 /// The same of a run that begins.
 fn explain_state<S: Site>(
-    alloc: Global,
     site: &mut S,
     graph: &mut Graph,
     cone: &mut Cone,
@@ -131,13 +130,12 @@ fn explain_state<S: Site>(
     ensures looks { OnlyLooks S.tells (S.world site.old) (S.world site.new) }
     ensures explains { IfOk result (λ explained. ExplainsFrom S.tells graph.old cone.old state.old (S.world site.old) (S.world site.new) explained.commands.items) }
 {
-    load_sources(alloc, site, graph, cone, state)?;
-    Ok(explain_run(alloc, site, graph, cone, state)?)
+    load_sources(site, graph, cone, state)?;
+    Ok(explain_run(site, graph, cone, state)?)
 }
 
 /// Loads the dyndep files that no edge makes, as a build does before anything is started.
 fn load_sources<S: Site>(
-    alloc: Global,
     site: &mut S,
     graph: &mut Graph,
     cone: &mut Cone,
@@ -152,7 +150,7 @@ fn load_sources<S: Site>(
     sources_load();
     'sources: loop {
         match source_to_load(graph, &state.plan) {
-            Some(file) => load(alloc, site, graph, cone, state, file)?,
+            Some(file) => load(site, graph, cone, state, file)?,
             None => return Ok(()),
         }
     }
@@ -160,7 +158,6 @@ fn load_sources<S: Site>(
 
 /// The same where no dyndep file that no edge makes is to be loaded.
 fn explain_run<S: Site>(
-    alloc: Global,
     site: &mut S,
     graph: &Graph,
     cone: &Cone,
@@ -173,7 +170,7 @@ fn explain_run<S: Site>(
 {
     orders_stand(graph);
     let due = check_sources(
-        alloc,
+        state.alloc,
         site,
         graph,
         cone,
@@ -182,7 +179,7 @@ fn explain_run<S: Site>(
         &state.records,
     )?;
     let explained = explain_due(
-        alloc,
+        state.alloc,
         site,
         graph,
         cone,

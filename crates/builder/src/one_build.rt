@@ -234,7 +234,7 @@ fn build_graph<S: Site>(
 {
     let mut cone = cone_of(alloc, graph, asked)?;
     let mut state = state_of(alloc, graph, &cone, asked, options, records)?;
-    let told = run_state(alloc, site, graph, &mut cone, &mut state);
+    let told = run_state(site, graph, &mut cone, &mut state);
     *held = Some(Held::of(cone, state));
     told
 }
@@ -270,7 +270,6 @@ fn tick_path(alloc: Global, asked: &Asked<'_>) -> Result<Path, AllocError>
 
 /// Runs what is to be done, and reports how that ended.
 fn run_state<S: Site>(
-    alloc: Global,
     site: &mut S,
     graph: &mut Graph,
     cone: &mut Cone,
@@ -280,8 +279,8 @@ fn run_state<S: Site>(
     requires begins { IsBeginning S.tells graph.old cone.old state.old (S.world site.old) }
     ensures { IsReported S.tells graph.old cone.old state.old (S.world site.old) graph.new cone.new (S.world site.new) (report_in result) }
 {
-    let summary = run_graph(alloc, site, graph, cone, state)?;
-    Ok(report(alloc, graph, summary)?)
+    let summary = run_graph(site, graph, cone, state)?;
+    Ok(report(state.alloc, graph, summary)?)
 }
 
 /// The cone of what was asked for.

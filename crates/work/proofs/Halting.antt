@@ -165,7 +165,7 @@ module _ (tells : Bool) (course : Course) (edges : List Edge) (phases : List Pha
     -- with what is shown, and what is due
     abbrev pub with_sources : Showing → Vec Bool Global → State
     with_sources display due =
-        record { plan = state.plan; looks = after; records = state.records; display = display; tick = state.tick; due = due; starts = state.starts; failed = state.failed }
+        record { alloc = state.alloc; plan = state.plan; looks = after; records = state.records; display = display; tick = state.tick; due = due; starts = state.starts; failed = state.failed }
 
     abbrev pub on_sources : (display : Showing) (due : Vec Bool Global) → IsOn tells here graph None (with_sources display due) new
     on_sources display due = record {

@@ -332,7 +332,7 @@ module _ (tells : Bool) (course : Course) (graph : Graph) where
   -- the state with other records
   abbrev pub with_records : State → Records → State
   with_records state records =
-      record { plan = state.plan; looks = state.looks; records = records; display = state.display; tick = state.tick; due = state.due; starts = state.starts; failed = state.failed }
+      record { alloc = state.alloc; plan = state.plan; looks = state.looks; records = records; display = state.display; tick = state.tick; due = state.due; starts = state.starts; failed = state.failed }
 
   -- what is known stays where only what may be done with the files changed
   pub known_by : (rs : List Record) (ds : List DepsRecord) (old new : Records) → AreSameLogs old.logs new.logs → new.places.items ≡ old.places.items → new.deps_places.items ≡ old.deps_places.items

@@ -48,7 +48,7 @@ use Rattle.work.proofs.Running.{cone_within}
 
 abbrev pub with_display : State → Showing → State
 with_display state display =
-    record { plan = state.plan; looks = state.looks; records = state.records; display = display; tick = state.tick; due = state.due; starts = state.starts; failed = state.failed }
+    record { alloc = state.alloc; plan = state.plan; looks = state.looks; records = state.records; display = display; tick = state.tick; due = state.due; starts = state.starts; failed = state.failed }
 
 abbrev pub on_shown : (tells : Bool) (course : Course) (graph : Graph) (hand : Option ℕ) (state : State) (display : Showing) (now : World) → IsOn tells course graph hand state now → IsOn tells course graph hand (with_display state display) now
 on_shown tells course graph hand state display now on = record {

@@ -12,7 +12,6 @@ use Rattle.plan.specs.declared.step.End.TheVariants as ending
 use Rattle.plan.specs.declared.step.Step.TheVariants.{Ended as Over}
 use Rattle.plan.specs.Planned.{IsNextOf}
 use Rattle.work.specs.declared.cut.Cut.{Cut}
-use Rattle.work.specs.declared.setting.Setting.{Setting}
 use Rattle.work.specs.declared.state.State.{State}
 use Rattle.work.specs.declared.summary.Pause.{Pause}
 use Rattle.work.specs.declared.summary.Pause.TheVariants.{Load, Ended}
@@ -63,12 +62,12 @@ HasFinished tells course graph state new (Ok done) = IsFinished tells course gra
 HasFinished tells course graph state new (Err cut) = HasRun tells course new (Err cut)
 
 -- of each course on which the run stood there, and went on, it has paused so,
-abbrev pub PausesSo : Bool → Setting → World → World → State → State → Result Pause Cut → Type 0
-PausesSo tells setting old new before after result = From tells true setting before old (λ course. HasPaused tells course setting.graph.now after new result)
+abbrev pub PausesSo : Bool → Graph → World → World → State → State → Result Pause Cut → Type 0
+PausesSo tells graph old new before after result = From tells true graph before old (λ course. HasPaused tells course graph after new result)
 
 -- or ended so after a refused load
-abbrev pub EndsSo : Bool → Setting → World → World → State → State → Result (Unit {0}) Cut → Type 0
-EndsSo tells setting old new before after result = From tells false setting before old (λ course. HasFinished tells course setting.graph.now after new result)
+abbrev pub EndsSo : Bool → Graph → World → World → State → State → Result (Unit {0}) Cut → Type 0
+EndsSo tells graph old new before after result = From tells false graph before old (λ course. HasFinished tells course graph after new result)
 
 -- what had cut a run off, whatever its course, its steps and the edge that met it, has cut it off still
 abbrev pub CutsStay : Bool → World → World → Type 0

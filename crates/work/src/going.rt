@@ -19,7 +19,6 @@ use crate::commands::unstarted_commands;
 use crate::loads::load;
 use crate::rest::give_up;
 use crate::run::run_plan;
-use crate::setting::Setting;
 use crate::sources::check_sources;
 use crate::state::State;
 use crate::stop::Stop;
@@ -29,13 +28,11 @@ use paths::PathId;
 use plan::{Plan, Step};
 use records::log_stays;
 use site::Site;
-use std::alloc::Global;
 
 /// Runs the plan until nothing is left to do, and loads the dyndep files that become known (manual: "Dynamic Dependencies").
 ///
 /// A refused load or a missing source ends the build: what runs is taken in, recorded and shown. After a fault it is taken in alone.
 pub fn run_graph<S: Site>(
-    alloc: Global,
     site: &mut S,
     graph: &mut Graph,
     cone: &mut Cone,
@@ -48,15 +45,14 @@ pub fn run_graph<S: Site>(
     ensures seen { IfErr result (λ stop. IfFault stop (IsSeen (S.world site.old) (S.world site.new))) }
     ensures faults { PassesNoFault (S.world site.old) (S.world site.new) (stop_answer result) }
 {
-    match run_and_load(alloc, site, graph, cone, state) {
+    match run_and_load(site, graph, cone, state) {
         Ok(summary) => Ok(summary),
-        Err(stop) => Err(finished(site, Setting { alloc, graph }, state, stop)),
+        Err(stop) => Err(finished(site, graph, state, stop)),
     }
 }
 
 /// The same, but that after a refusal commands may run.
 fn run_and_load<S: Site>(
-    alloc: Global,
     site: &mut S,
     graph: &mut Graph,
     cone: &mut Cone,
@@ -71,16 +67,15 @@ fn run_and_load<S: Site>(
     ensures halted { IfErr result (HaltsFrom S.tells graph.old cone.old state.old (S.world site.old) graph.new cone.new state.new (S.world site.new)) }
 {
     'run: loop {
-        match run_to_load(alloc, site, graph, cone, state)? {
+        match run_to_load(site, graph, cone, state)? {
             Pause::Ended(summary) => return Ok(summary),
-            Pause::Load(file) => load_file(alloc, site, graph, cone, state, file)?,
+            Pause::Load(file) => load_file(site, graph, cone, state, file)?,
         }
     }
 }
 
 /// Asks for sources, and runs the plan until it pauses. Where a file that no edge makes is to be loaded, that is done first.
 fn run_to_load<S: Site>(
-    alloc: Global,
     site: &mut S,
     graph: &Graph,
     cone: &Cone,
@@ -97,8 +92,8 @@ fn run_to_load<S: Site>(
     match source_to_load(graph, &state.plan) {
         Some(file) => Ok(Pause::Load(file)),
         None => {
-            ask_for_sources(alloc, site, graph, cone, state)?;
-            Ok(run_plan(site, Setting { alloc, graph }, state)?)
+            ask_for_sources(site, graph, cone, state)?;
+            Ok(run_plan(site, graph, state)?)
         }
     }
 }
@@ -128,7 +123,6 @@ fn source(graph: &Graph, path: PathId) -> Option<PathId>
 
 /// Refuses a cone of which a source is missing; else what is due by now is noted, and counted by what is shown. Commands may run.
 fn ask_for_sources<S: Site>(
-    alloc: Global,
     site: &mut S,
     graph: &Graph,
     cone: &Cone,
@@ -145,7 +139,7 @@ fn ask_for_sources<S: Site>(
     log_stays();
     lists_stand(graph);
     match check_sources(
-        alloc,
+        state.alloc,
         site,
         graph,
         cone,
@@ -165,7 +159,6 @@ fn ask_for_sources<S: Site>(
 
 /// Loads the dyndep file, which is to be loaded next. Commands may run.
 fn load_file<S: Site>(
-    alloc: Global,
     site: &mut S,
     graph: &mut Graph,
     cone: &mut Cone,
@@ -180,7 +173,7 @@ fn load_file<S: Site>(
     ensures stop { IfErr result (IsStopOf (S.world site.old) (S.world site.new)) }
     ensures halted { IfErr result (HaltsAt S.tells file graph.old cone.old state.old (S.world site.old) graph.new cone.new state.new (S.world site.new)) }
 {
-    match load(alloc, site, graph, cone, state, file) {
+    match load(site, graph, cone, state, file) {
         Ok(()) => Ok(()),
         Err(stop) => Err(given_up(site, &state.plan, stop)),
     }
@@ -200,15 +193,15 @@ fn given_up<S: Site>(site: &mut S, plan: &Plan, stop: Stop) -> Stop
 }
 
 /// After a refusal what runs is taken in, recorded and shown, which may meet a fault; a fault stays as it is.
-fn finished<S: Site>(site: &mut S, setting: Setting<'_>, state: &mut State<'_>, stop: Stop) -> Stop
-    requires refused { IfRefused stop (IsRefusedOf S.tells setting.graph.now state.old (S.world site.old)) }
+fn finished<S: Site>(site: &mut S, graph: &Graph, state: &mut State<'_>, stop: Stop) -> Stop
+    requires refused { IfRefused stop (IsRefusedOf S.tells graph.now state.old (S.world site.old)) }
     requires stop { (entry : World) × IsStopOf entry (S.world site.old) stop }
     ensures stop { (entry : World) → IsStopOf entry (S.world site.old) stop → IsStopOf entry (S.world site.new) result }
-    ensures ended { EndsHalted S.tells setting.entry.graph.now state.old (S.world site.old) (S.world site.new) stop result }
+    ensures ended { EndsHalted S.tells graph.now state.old (S.world site.old) (S.world site.new) stop result }
 {
     match stop {
         Stop::Fault(fault) => Stop::Fault(fault),
-        Stop::Refused(refusal) => match finish(site, setting, state) {
+        Stop::Refused(refusal) => match finish(site, graph, state) {
             Ok(()) => Stop::Refused(refusal),
             Err(cut) => Stop::Fault(cut.fault()),
         },

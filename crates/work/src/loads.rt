@@ -38,7 +38,6 @@ use text::{Items, Path};
 ///
 /// Where it is refused, or what it adds is, and after a fault, all is as before, but for how the records are kept.
 pub fn load<S: Site>(
-    alloc: Global,
     site: &mut S,
     graph: &mut Graph,
     cone: &mut Cone,
@@ -59,8 +58,8 @@ pub fn load<S: Site>(
     log_stays();
     one_answer();
     lists_stand(graph);
-    let additions = additions_in(alloc, site, graph, file)?;
-    let joined = join(alloc, graph, cone, state, file, additions.as_slice());
+    let additions = additions_in(state.alloc, site, graph, file)?;
+    let joined = join(graph, cone, state, file, additions.as_slice());
     lists_stand(graph);
     task_of(graph);
     match joined {
@@ -73,7 +72,6 @@ pub fn load<S: Site>(
 ///
 /// Where it does not, all is as before, but for how the records are kept.
 fn join(
-    alloc: Global,
     graph: &mut Graph,
     cone: &mut Cone,
     state: &mut State<'_>,
@@ -89,8 +87,9 @@ fn join(
     ensures cause { IfErr result (λ stop. IfRefused stop (UnjoinedBy file (map addition_of additions.now) graph.old cone.old state.old)) }
     ensures memory { IfErr result IsMemory }
 {
+    let alloc = state.alloc;
     let before = extend(alloc, graph, file, additions)?;
-    match join_parts(alloc, graph, cone, state, &before) {
+    match join_parts(graph, cone, state, &before) {
         Ok(()) => Ok(()),
         Err(stop) => {
             graph.take_back(alloc, before);
@@ -106,7 +105,6 @@ fn join(
 ///
 /// Where that fails, the cone and the plan are as before, and what else was done can be undone.
 fn join_parts(
-    alloc: Global,
     graph: &mut Graph,
     cone: &mut Cone,
     state: &mut State<'_>,
@@ -127,9 +125,10 @@ fn join_parts(
 {
     loads_go_on();
     files_stand();
+    let alloc = state.alloc;
     join_inputs(alloc, graph, &mut state.records, before)?;
     let grown = cone_again(alloc, graph, cone)?;
-    grow(alloc, graph, &grown, state)?;
+    grow(graph, &grown, state)?;
     *cone = grown;
     Ok(())
 }
@@ -192,7 +191,7 @@ fn cone_again(alloc: Global, graph: &Graph, cone: &Cone) -> Result<Cone, Stop>
 }
 
 /// The run goes on over the graph as it is now, of whose targets this is the cone.
-fn grow(alloc: Global, graph: &Graph, cone: &Cone, state: &mut State<'_>) -> Result<(), AllocError>
+fn grow(graph: &Graph, cone: &Cone, state: &mut State<'_>) -> Result<(), AllocError>
     requires marks { vec_len cone.now.marks ≡ length graph.now.manifest.lines }
     requires may { MayGoOn graph.now state.old.plan }
     requires fits { length state.old.looks.seen.items ≤ length graph.now.manifest.paths }
@@ -204,7 +203,7 @@ fn grow(alloc: Global, graph: &Graph, cone: &Cone, state: &mut State<'_>) -> Res
     ensures looks { take (length state.old.looks.seen.items) state.new.looks.seen.items ≡ state.old.looks.seen.items }
 {
     state.looks.grow(graph)?;
-    state.plan.extend(alloc, graph, cone)?;
+    state.plan.extend(state.alloc, graph, cone)?;
     Ok(())
 }
 

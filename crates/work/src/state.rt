@@ -15,6 +15,7 @@ use text::Path;
 /// graph beside these.
 #[derive(Drop)]
 pub struct State<'a> {
+    pub alloc: Global,
     pub plan: Plan,
     pub looks: Looks,
     pub records: Records,
@@ -51,6 +52,7 @@ impl<'a> State<'a> {
         ensures failed { IfOk result (λ state. state.failed.items ≡ []) }
     {
         Ok(State {
+            alloc,
             plan,
             looks,
             records,

@@ -15,13 +15,13 @@ use Rattle.work.proofs.start.launch.Goals as goal
 pub returns-in_err-remove_old_depfile-clause-cut : goal.returns-in_err-remove_old_depfile-clause-cut
 returns-in_err-remove_old_depfile-clause-cut g c =
     on_err c.from_residual.result (λ course suits begun.
-    cut_clearing g.S.Texts.tells course c.args.setting.graph.now c.log_stays.ensures suits c.args.state.now (g.S.Texts.world c.args.site.now) (g.S.Texts.world c.remove_old_depfile.new.site) c.args.edge c.act-act.result.now
+    cut_clearing g.S.Texts.tells course c.args.graph.now c.log_stays.ensures suits c.args.state.now (g.S.Texts.world c.args.site.now) (g.S.Texts.world c.remove_old_depfile.new.site) c.args.edge c.act-act.result.now
     c.act-act.ensures begun c.remove_old_depfile.ensures.at)
 
 pub returns-in_err-write_response-clause-cut : goal.returns-in_err-write_response-clause-cut
 returns-in_err-write_response-clause-cut g c =
     on_err c.from_residual-in_err-write_response.result (λ course suits begun.
-    cut_writing g.S.Texts.tells course c.args.setting.graph.now c.log_stays.ensures suits c.args.state.now (g.S.Texts.world c.args.site.now) (g.S.Texts.world c.remove_old_depfile.new.site) c.args.edge c.act-act.result.now
+    cut_writing g.S.Texts.tells course c.args.graph.now c.log_stays.ensures suits c.args.state.now (g.S.Texts.world c.args.site.now) (g.S.Texts.world c.remove_old_depfile.new.site) c.args.edge c.act-act.result.now
     c.act-act.ensures begun c.remove_old_depfile.ensures.at (g.S.Texts.world c.write_response.new.site) c.write_response.ensures.at)
 
 pub returns-in_err-stamp-clause-cause : goal.returns-in_err-stamp-clause-cause
@@ -37,14 +37,14 @@ returns-in_err-stamp-clause-cause g c =
 pub returns-in_err-stamp-clause-cut : goal.returns-in_err-stamp-clause-cut
 returns-in_err-stamp-clause-cut g c =
     on_err c.from_residual-in_err-stamp.result (λ course suits begun.
-    cut_ticking g.S.Texts.tells course c.args.setting.graph.now c.log_stays.ensures suits c.args.state.now (g.S.Texts.world c.args.site.now) (g.S.Texts.world c.remove_old_depfile.new.site) c.args.edge c.act-act.result.now
+    cut_ticking g.S.Texts.tells course c.args.graph.now c.log_stays.ensures suits c.args.state.now (g.S.Texts.world c.args.site.now) (g.S.Texts.world c.remove_old_depfile.new.site) c.args.edge c.act-act.result.now
     c.act-act.ensures begun c.remove_old_depfile.ensures.at (g.S.Texts.world c.write_response.new.site) c.write_response.ensures.at (g.S.Texts.world c.tick.new.self) (ticks_or_not_at g.S.Texts.tells (g.S.Texts.world c.write_response.new.site) (g.S.Texts.world c.tick.new.self) c.as_str.result.now c.args.state.now.tick c.as_str.ensures c.in_err-stamp.ensures.err))
 
 pub start-result-requires : goal.start-result-requires
 start-result-requires g c =
     let course = c.requires.begun.course in
     ap (λ (n : ℕ). runs n (g.S.Texts.world c.tick.new.self).events) c.job.ensures
-    ∙ starts_idle g.S.Texts.tells course c.args.setting.graph.now c.log_stays.ensures c.requires.begun.suits c.args.state.now (g.S.Texts.world c.args.site.now) (g.S.Texts.world c.remove_old_depfile.new.site) c.args.edge c.act-act.result.now
+    ∙ starts_idle g.S.Texts.tells course c.args.graph.now c.log_stays.ensures c.requires.begun.suits c.args.state.now (g.S.Texts.world c.args.site.now) (g.S.Texts.world c.remove_old_depfile.new.site) c.args.edge c.act-act.result.now
     c.act-act.ensures c.requires.begun.begun c.remove_old_depfile.ensures.at (g.S.Texts.world c.write_response.new.site) c.write_response.ensures.at (g.S.Texts.world c.tick.new.self) c.in_ok-stamp.stamp (ticks_at g.S.Texts.tells c.in_ok-stamp.stamp (g.S.Texts.world c.write_response.new.site) (g.S.Texts.world c.tick.new.self) c.as_str.result.now c.args.state.now.tick c.as_str.ensures c.in_ok-stamp.ensures.ticks)
 
 pub returns-clause-nearer : goal.returns-clause-nearer
@@ -57,7 +57,7 @@ returns-clause-nearer g c =
 pub returns-clause-on : goal.returns-clause-on
 returns-clause-on g c =
     ok_then c.start-result.result c.start-result.ensures.starts (λ made course suits begun.
-    launch_on g.S.Texts.tells course c.args.setting.graph.now c.log_stays.ensures suits c.args.state.now (g.S.Texts.world c.args.site.now) (g.S.Texts.world c.remove_old_depfile.new.site) c.args.edge c.act-act.result.now
+    launch_on g.S.Texts.tells course c.args.graph.now c.log_stays.ensures suits c.args.state.now (g.S.Texts.world c.args.site.now) (g.S.Texts.world c.remove_old_depfile.new.site) c.args.edge c.act-act.result.now
     c.act-act.ensures begun c.remove_old_depfile.ensures.at (g.S.Texts.world c.write_response.new.site) c.write_response.ensures.at (g.S.Texts.world c.tick.new.self) c.in_ok-stamp.stamp (ticks_at g.S.Texts.tells c.in_ok-stamp.stamp (g.S.Texts.world c.write_response.new.site) (g.S.Texts.world c.tick.new.self) c.as_str.result.now c.args.state.now.tick c.as_str.ensures c.in_ok-stamp.ensures.ticks)
     (g.S.Texts.world c.start-result.new.self) c.job.result c.job.ensures (with_items c.args.state.now.starts c.note_stamp.new.starts) (one_set c.args.state.now.starts c.note_stamp.new.starts c.args.edge c.in_ok-stamp.stamp (c.note_stamp.ensures ∙ ap (λ (l : List ℕ). slice_set l c.args.edge c.in_ok-stamp.stamp) c.deref_mut.ensures.value)) c.note_start.new.plan c.in_ok-remove_old_depfile.ensures.removed c.in_ok-write_response.ensures.written
     c.events-known.result.now c.events.result.now c.events-known.ensures c.events.ensures c.start-result.ensures.cause.earlier c.note_start.ensures.still c.note_start.ensures.planned c.note_start.ensures.flags made)
@@ -65,7 +65,7 @@ returns-clause-on g c =
 pub returns-clause-cut : goal.returns-clause-cut
 returns-clause-cut g c =
     err_then c.start-result.result c.start-result.ensures.err (λ made course suits begun.
-    launch_cut g.S.Texts.tells course c.args.setting.graph.now c.log_stays.ensures suits c.args.state.now (g.S.Texts.world c.args.site.now) (g.S.Texts.world c.remove_old_depfile.new.site) c.args.edge c.act-act.result.now
+    launch_cut g.S.Texts.tells course c.args.graph.now c.log_stays.ensures suits c.args.state.now (g.S.Texts.world c.args.site.now) (g.S.Texts.world c.remove_old_depfile.new.site) c.args.edge c.act-act.result.now
     c.act-act.ensures begun c.remove_old_depfile.ensures.at (g.S.Texts.world c.write_response.new.site) c.write_response.ensures.at (g.S.Texts.world c.tick.new.self) c.in_ok-stamp.stamp (ticks_at g.S.Texts.tells c.in_ok-stamp.stamp (g.S.Texts.world c.write_response.new.site) (g.S.Texts.world c.tick.new.self) c.as_str.result.now c.args.state.now.tick c.as_str.ensures c.in_ok-stamp.ensures.ticks)
     (g.S.Texts.world c.start-result.new.self) c.job.result c.job.ensures (with_items c.args.state.now.starts c.note_stamp.new.starts) (one_set c.args.state.now.starts c.note_stamp.new.starts c.args.edge c.in_ok-stamp.stamp (c.note_stamp.ensures ∙ ap (λ (l : List ℕ). slice_set l c.args.edge c.in_ok-stamp.stamp) c.deref_mut.ensures.value)) c.note_start.new.plan c.in_ok-remove_old_depfile.ensures.removed c.in_ok-write_response.ensures.written
     c.events-known.result.now c.events.result.now c.events-known.ensures c.events.ensures c.start-result.ensures.cause.earlier c.note_start.ensures.still c.note_start.ensures.planned c.note_start.ensures.flags made)
