@@ -55,24 +55,23 @@ pub record Explains (tells : Bool) (course : Course) (old new : World) (said : L
   pub edges : List Edge
   pub phases : List Phase
   pub graph : Graph
-  pub cone : Cone
   pub state : State
   pub begun : World
   pub looks : OnlyLooks tells old begun
-  pub begins : BeginsAt tells course edges phases graph cone state begun
+  pub begins : BeginsAt tells course edges phases graph state begun
   pub after : Looks
-  pub dues : TellsDue tells graph cone state.plan state.records begun new state.looks after said
+  pub dues : TellsDue tells graph state.cone state.plan state.records begun new state.looks after said
 
 -- so it is of each build that begins a phase here
-abbrev pub ExplainsFrom : Bool → Graph → Cone → State → World → World → List Explanation → Type 0
-ExplainsFrom tells graph cone state old new said =
-    (course : Course) (edges : List Edge) (phases : List Phase) → BeginsAt tells course edges phases graph cone state old → Explains tells course old new said
+abbrev pub ExplainsFrom : Bool → Graph → State → World → World → List Explanation → Type 0
+ExplainsFrom tells graph state old new said =
+    (course : Course) (edges : List Edge) (phases : List Phase) → BeginsAt tells course edges phases graph state old → Explains tells course old new said
 
 -- each build that began a phase here begins one there
-abbrev pub BeginsStill : Bool → Graph → Cone → State → World → Graph → Cone → State → World → Type 0
-BeginsStill tells graph cone state old grown next after new =
-    (course : Course) (edges : List Edge) (phases : List Phase) → BeginsAt tells course edges phases graph cone state old
-    → (many : List Edge) × (more : List Phase) × BeginsAt tells course many more grown next after new
+abbrev pub BeginsStill : Bool → Graph → State → World → Graph → State → World → Type 0
+BeginsStill tells graph state old grown after new =
+    (course : Course) (edges : List Edge) (phases : List Phase) → BeginsAt tells course edges phases graph state old
+    → (many : List Edge) × (more : List Phase) × BeginsAt tells course many more grown after new
 
 -- So it is of a build of what was asked over this graph, with what the loads add that it does before it starts anything, and for some files of
 -- its own, format of logs and reading of depfiles and dyndep files.

@@ -232,10 +232,10 @@ fn build_graph<S: Site>(
     requires read { (course : Course) × HasRead S.tells graph.old asked.now records course (S.world site.old) }
     ensures { (grown : List Edge) × ((course : Course) → HasRead S.tells graph.old asked.now records course (S.world site.old) → Builds S.tells course.behaviour course.format course.own (declared_by graph.old) asked.now.folder asked.now.limits asked.now.given.now asked.now.targets grown course.entry (S.world site.new) (report_in result)) }
 {
-    let mut cone = cone_of(alloc, graph, asked)?;
-    let mut state = state_of(alloc, graph, &cone, asked, options, records)?;
-    let told = run_state(site, graph, &mut cone, &mut state);
-    *held = Some(Held::of(cone, state));
+    let cone = cone_of(alloc, graph, asked)?;
+    let mut state = state_of(alloc, graph, cone, asked, options, records)?;
+    let told = run_state(site, graph, &mut state);
+    *held = Some(Held::of(state));
     told
 }
 
@@ -243,20 +243,20 @@ fn build_graph<S: Site>(
 pub(crate) fn state_of<'a>(
     alloc: Global,
     graph: &Graph,
-    cone: &Cone,
+    cone: Cone,
     asked: &Asked<'_>,
     options: &'a Options,
     records: Records,
 ) -> Result<State<'a>, AllocError>
-    requires marks { vec_len cone.now.marks ≡ length graph.now.manifest.lines }
-    ensures fresh { IfOk result (IsFresh graph.now cone.now asked.now records) }
+    requires marks { vec_len cone.marks ≡ length graph.now.manifest.lines }
+    ensures fresh { IfOk result (IsFresh graph.now cone asked.now records) }
 {
-    let plan = plan_of(alloc, graph, cone, asked.limits)?;
+    let plan = plan_of(alloc, graph, &cone, asked.limits)?;
     let looks = Looks::new(alloc, graph)?;
     let display = Display::new(alloc, &options.pattern, options.verbose, 0);
     let tick = tick_path(alloc, asked)?;
     let due = vec![in alloc; false; graph.edges()]?;
-    let state = State::new(alloc, graph, plan, looks, records, display, tick, due)?;
+    let state = State::new(alloc, graph, cone, plan, looks, records, display, tick, due)?;
     Ok(state)
 }
 
@@ -272,14 +272,13 @@ fn tick_path(alloc: Global, asked: &Asked<'_>) -> Result<Path, AllocError>
 fn run_state<S: Site>(
     site: &mut S,
     graph: &mut Graph,
-    cone: &mut Cone,
     state: &mut State<'_>,
 ) -> Result<Report, Report>
     requires running { (S.world site.old).stopped ≡ false }
-    requires begins { IsBeginning S.tells graph.old cone.old state.old (S.world site.old) }
-    ensures { IsReported S.tells graph.old cone.old state.old (S.world site.old) graph.new cone.new (S.world site.new) (report_in result) }
+    requires begins { IsBeginning S.tells graph.old state.old (S.world site.old) }
+    ensures { IsReported S.tells graph.old state.old (S.world site.old) graph.new state.new (S.world site.new) (report_in result) }
 {
-    let summary = run_graph(site, graph, cone, state)?;
+    let summary = run_graph(site, graph, state)?;
     Ok(report(state.alloc, graph, summary)?)
 }
 

@@ -8,7 +8,6 @@ use Rattle.model.specs.Schedule.{Task, Step as Done, started_in}
 use Rattle.model.specs.SingleBuild.{asked_with}
 use Rattle.theory.proofs.Lists.{same_rest}
 use Rattle.theory.specs.Ledger.{IsRefused}
-use Rattle.graph.specs.declared.cone.Cone.{Cone}
 use Rattle.graph.specs.declared.graph.Graph.{Graph}
 use Rattle.work.specs.declared.cut.Cut.{Cut}
 use Rattle.work.specs.declared.state.State.{State}
@@ -25,11 +24,11 @@ use Rattle.work.specs.Standing.{grown_course, ended_course, task_over, StandsAt,
 use Rattle.work.proofs.Asking.{had_asked_on, whole}
 use Rattle.work.proofs.Halting.{still_unstarted}
 
-module _ (tells : Bool) (course : Course) (edges : List Edge) (graph : Graph) (cone : Cone) (state : State) (now : World) (refusal : Refusal) (refused : IsRefusedAt tells course edges graph cone state now refusal) where
+module _ (tells : Bool) (course : Course) (edges : List Edge) (graph : Graph) (state : State) (now : World) (refusal : Refusal) (refused : IsRefusedAt tells course edges graph state now refusal) where
   abbrev phases : List Phase
   phases = refused.phases
 
-  abbrev stands : StandsAt tells course edges phases graph cone state now
+  abbrev stands : StandsAt tells course edges phases graph state now
   stands = refused.stopped.stands
 
   abbrev task : Task

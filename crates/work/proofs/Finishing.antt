@@ -30,6 +30,7 @@ use Rattle.theory.proofs.Ledger.{SaysAtEnd, ReadAtEnd, command_of, running_of, c
 use Rattle.theory.proofs.TakenIn.{ended_here, depfile_since}
 use Rattle.plan.specs.Flags as flags
 use Rattle.paths.specs.Told.{text_at}
+use Rattle.graph.specs.declared.cone.Cone.{Cone}
 use Rattle.graph.specs.declared.graph.Graph.{Graph}
 use Rattle.graph.specs.Links.{links_of}
 use Rattle.graph.specs.Linked.{StandFor}
@@ -47,7 +48,7 @@ use Rattle.records.specs.Logging.{NoneInForce}
 use Rattle.records.specs.Laws.{LogStays, NoneWhileRunning}
 use Rattle.work.specs.declared.reported.Told.{Told}
 use Rattle.work.specs.declared.state.State.{State}
-use Rattle.work.specs.Course.{Course, IsOwnTick, goes_on, Suits, IsSince, edges_of, is_quiet, IsSeenStill, AreAnew, AreSeenBefore, AreTold, HasRoom, IsOn}
+use Rattle.work.specs.Course.{Course, IsOwnTick, HasCone, goes_on, Suits, IsSince, edges_of, is_quiet, IsSeenStill, AreAnew, AreSeenBefore, AreTold, HasRoom, IsOn}
 use Rattle.work.specs.Going.{MayTakeIn, IsCut, IsInHand, HasEnded, failed_after}
 use Rattle.work.specs.Removing.{DepfilesStay, AreRemoved}
 use Rattle.work.specs.Restat.{is_same_look, IsFlagged}
@@ -511,6 +512,7 @@ module _ (tells : Bool) (course : Course) (graph : Graph) (suits : Suits course 
       started = λ k runs. stamp_kept k (ran_before on.steps (suc e) (suc k) is_well runs);
       removed = end_removed tells course graph suits state now mid new e ok on turn finish looked one told read_new;
       room = noted_room;
+      cone = subst (λ (k : Cone). HasCone course.asked course.store graph k) (sym {A = Cone} noted_so.beside.cone) on.cone;
       ticking = subst (λ (t : List ℕ). IsOwnTick course.own t) (sym {A = List ℕ} noted_so.beside.tick) on.ticking;
       noted = ap (map suc) noted ∙ noted_after state.failed.items on.steps e is_well on.noted;
     }

@@ -232,7 +232,7 @@ module _ (tells : Bool) (course : Course) (graph : Graph) (stays : LogStays) (su
     judged_started k runs = started_more (suc k) _ course.entry now new [] (looks.events ∙ sym (append-nil now.events)) (on.started k (sym (running_judged on.steps (suc e) stale (suc k)) ∙ runs))
 
     pub judged_on : (plan : Plan) (display : Display) → TakesStep graph state.plan plan (Judged (suc e) stale) → plan.changed ≡ state.plan.changed
-        → IsOn tells course graph None (record { alloc = state.alloc; plan = plan; looks = after; records = state.records; display = display; tick = state.tick; due = state.due; starts = state.starts; failed = state.failed }) new
+        → IsOn tells course graph None (record { alloc = state.alloc; cone = state.cone; plan = plan; looks = after; records = state.records; display = display; tick = state.tick; due = state.due; starts = state.starts; failed = state.failed }) new
     judged_on plan display takes flags_same =
         let now_told = told_over tells course graph on.steps state now new (looks_quiet tells course graph stays None state now new on looks) on.told in
         record {
@@ -249,6 +249,7 @@ module _ (tells : Bool) (course : Course) (graph : Graph) (stays : LogStays) (su
           started = judged_started;
           removed = removed_steps tells course.own (edges_of course) on.steps more course.entry new None (well_judged on.steps (suc e) stale) (looks_removed tells course graph stays None state now new on looks);
           room = record { looks = looked.fits ∙ on.room.looks; starts = on.room.starts };
+          cone = on.cone;
           ticking = on.ticking;
           noted = on.noted ∙ sym (failed_judged on.steps (suc e) stale);
         }

@@ -204,6 +204,7 @@ module _ (tells : Bool) (course : Course) (graph : Graph) where
       started = started_over on.steps state now new events on.started;
       removed = removed;
       room = on.room;
+      cone = on.cone;
       ticking = on.ticking;
       noted = on.noted;
     }
@@ -323,6 +324,7 @@ module _ (tells : Bool) (course : Course) (graph : Graph) where
     started = on.started;
     removed = removed_hand tells course.own (edges_of course) on.steps course.entry now (Some i) on.removed;
     room = on.room;
+    cone = on.cone;
     ticking = on.ticking;
     noted = on.noted;
   }
@@ -332,7 +334,7 @@ module _ (tells : Bool) (course : Course) (graph : Graph) where
   -- the state with other records
   abbrev pub with_records : State → Records → State
   with_records state records =
-      record { alloc = state.alloc; plan = state.plan; looks = state.looks; records = records; display = state.display; tick = state.tick; due = state.due; starts = state.starts; failed = state.failed }
+      record { alloc = state.alloc; cone = state.cone; plan = state.plan; looks = state.looks; records = records; display = state.display; tick = state.tick; due = state.due; starts = state.starts; failed = state.failed }
 
   -- what is known stays where only what may be done with the files changed
   pub known_by : (rs : List Record) (ds : List DepsRecord) (old new : Records) → AreSameLogs old.logs new.logs → new.places.items ≡ old.places.items → new.deps_places.items ≡ old.deps_places.items
@@ -393,6 +395,7 @@ module _ (tells : Bool) (course : Course) (graph : Graph) where
       started = started_over on.steps state now new writes.events on.started;
       removed = subst (λ (h : Option ℕ). AreRemoved tells course.own (edges_of course) on.steps h course.entry new) held log_removed;
       room = record { looks = on.room.looks; starts = on.room.starts };
+      cone = on.cone;
       ticking = on.ticking;
       noted = on.noted;
     }

@@ -73,11 +73,11 @@ module _ (tells : Bool) (course : Course) (graph : Graph) where
   -- the state with other stamps, and with another plan
   abbrev pub with_starts : State → Vec ℕ Global → State
   with_starts state starts =
-      record { alloc = state.alloc; plan = state.plan; looks = state.looks; records = state.records; display = state.display; tick = state.tick; due = state.due; starts = starts; failed = state.failed }
+      record { alloc = state.alloc; cone = state.cone; plan = state.plan; looks = state.looks; records = state.records; display = state.display; tick = state.tick; due = state.due; starts = starts; failed = state.failed }
 
   abbrev pub with_plan : State → Plan → State
   with_plan state plan =
-      record { alloc = state.alloc; plan = plan; looks = state.looks; records = state.records; display = state.display; tick = state.tick; due = state.due; starts = state.starts; failed = state.failed }
+      record { alloc = state.alloc; cone = state.cone; plan = plan; looks = state.looks; records = state.records; display = state.display; tick = state.tick; due = state.due; starts = state.starts; failed = state.failed }
 
   module _ (hand : Option ℕ) (state : State) (now : World) (e stamp : ℕ) (starts : Vec ℕ Global) (is : starts.items ≡ slice_set state.starts.items e stamp) (on : IsOn tells course graph hand state now) (unstarted : has_number (started_in on.steps) (suc e) ≡ false) where
     pub stamped_started : AreStarted course on.steps (with_starts state starts) now
@@ -104,6 +104,7 @@ module _ (tells : Bool) (course : Course) (graph : Graph) where
       started = stamped_started;
       removed = on.removed;
       room = record { looks = on.room.looks; starts = ap length is ∙ (length-set state.starts.items e stamp ∙ on.room.starts) };
+      cone = on.cone;
       ticking = on.ticking;
       noted = on.noted;
     }
@@ -198,6 +199,7 @@ module _ (tells : Bool) (course : Course) (graph : Graph) where
       started = start_started stamped;
       removed = start_removed;
       room = record { looks = on.room.looks; starts = on.room.starts };
+      cone = on.cone;
       ticking = on.ticking;
       noted = on.noted ∙ sym (failed_started on.steps (suc e));
     }

@@ -27,7 +27,7 @@ module _ (tells : Bool) (course : Course) (graph : Graph) where
   -- the state with other looks
   abbrev pub with_looks : State → Looks → State
   with_looks state looks =
-      record { alloc = state.alloc; plan = state.plan; looks = looks; records = state.records; display = state.display; tick = state.tick; due = state.due; starts = state.starts; failed = state.failed }
+      record { alloc = state.alloc; cone = state.cone; plan = state.plan; looks = looks; records = state.records; display = state.display; tick = state.tick; due = state.due; starts = state.starts; failed = state.failed }
 
   -- what was seen of outputs before is still known where nothing is forgotten
   pub before_kept : (steps : List Done) (state : State) (now : World) (after : Looks) → ((p : ℕ) → is_asked (look_at state.looks.seen.items p) ≡ true → look_at after.seen.items p ≡ look_at state.looks.seen.items p)
@@ -58,6 +58,7 @@ module _ (tells : Bool) (course : Course) (graph : Graph) where
         started = started_over tells course graph on.steps state now new looked.looks.events on.started;
         removed = looks_removed tells course graph stays None state now new on looked.looks;
         room = record { looks = looked.fits ∙ on.room.looks; starts = on.room.starts };
+        cone = on.cone;
         ticking = on.ticking;
         noted = on.noted;
       }

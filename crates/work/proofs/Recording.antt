@@ -48,7 +48,7 @@ use Rattle.work.proofs.Running.{cone_within}
 
 abbrev pub with_display : State → Showing → State
 with_display state display =
-    record { alloc = state.alloc; plan = state.plan; looks = state.looks; records = state.records; display = display; tick = state.tick; due = state.due; starts = state.starts; failed = state.failed }
+    record { alloc = state.alloc; cone = state.cone; plan = state.plan; looks = state.looks; records = state.records; display = display; tick = state.tick; due = state.due; starts = state.starts; failed = state.failed }
 
 abbrev pub on_shown : (tells : Bool) (course : Course) (graph : Graph) (hand : Option ℕ) (state : State) (display : Showing) (now : World) → IsOn tells course graph hand state now → IsOn tells course graph hand (with_display state display) now
 on_shown tells course graph hand state display now on = record {
@@ -65,6 +65,7 @@ on_shown tells course graph hand state display now on = record {
   started = on.started;
   removed = on.removed;
   room = record { looks = on.room.looks; starts = on.room.starts };
+  cone = on.cone;
   ticking = on.ticking;
   noted = on.noted;
 }
@@ -340,6 +341,7 @@ module _ (tells : Bool) (course : Course) (graph : Graph) (suits : Suits course 
             (Some job) cleared.removed job refl (command_here tells course graph suits state now e done.on done.before done.last) (depfile_gone removes_depfile)
             (subst (λ (a : Act). a.response_path ≢ [] → Writes tells a.response_path None gone new) act_here writes_it) removes_it.history;
         room = held.room;
+        cone = held.cone;
         ticking = held.ticking;
         noted = held.noted;
       }

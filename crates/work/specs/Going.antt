@@ -153,6 +153,7 @@ CutsTaking tells graph old new before after = IsCutFrom tells false graph old ne
 -- the end of a command changes nothing of these
 pub record IsSameBeside (old new : State) : Type 0 where
   pub records : new.records ≡ old.records
+  pub cone : new.cone ≡ old.cone
   pub tick : new.tick ≡ old.tick
   pub starts : new.starts.items ≡ old.starts.items
 

@@ -18,7 +18,7 @@ use Rattle.work.specs.declared.summary.Pause.TheVariants.{Load, Ended}
 use Rattle.work.specs.declared.summary.Summary.{Summary}
 use Rattle.work.specs.declared.summary.Summary.TheVariants.{Well, Failed}
 use Rattle.work.specs.declared.turn.Halt.{Halt}
-use Rattle.work.specs.Course.{Course, edges_of, IsSince}
+use Rattle.work.specs.Course.{Course, HasCone, edges_of, IsSince}
 use Rattle.work.specs.Going.{IsInHand, IsAtLoad, IsFinished, IsHalted, IsCut, From}
 use Rattle.work.specs.Removing.{AreRemoved}
 
@@ -50,10 +50,10 @@ abbrev pub AreEdgesOf : Graph → Summary → Type 0
 AreEdgesOf graph (Well started) = Unit {0}
 AreEdgesOf graph (Failed edges) = All (λ e. e < length graph.manifest.lines) edges.items
 
--- What a run leaves that went on: it stands before the next load, or has ended, or a fault has cut it off.
+-- What a run leaves that went on: it stands before the next load, or has ended, over the cone that the state has, or a fault has cut it off.
 abbrev pub HasPaused : Bool → Course → Graph → State → World → Result Pause Cut → Type 0
 HasPaused tells course graph state new (Ok (Load file)) = IsAtLoad tells course graph state file new
-HasPaused tells course graph state new (Ok (Ended summary)) = HasRun tells course new (Ok summary)
+HasPaused tells course graph state new (Ok (Ended summary)) = HasRun tells course new (Ok summary) × HasCone course.asked course.store graph state.cone
 HasPaused tells course graph state new (Err cut) = HasRun tells course new (Err cut)
 
 -- What a run leaves that a refused load has ended: all that ran was taken in, or a fault has cut it off.

@@ -23,7 +23,7 @@ use crate::sources::check_sources;
 use crate::state::State;
 use crate::stop::Stop;
 use crate::summary::{Pause, Summary};
-use graph::{Cone, Graph, lists_stand};
+use graph::{Graph, lists_stand};
 use paths::PathId;
 use plan::{Plan, Step};
 use records::log_stays;
@@ -35,17 +35,16 @@ use site::Site;
 pub fn run_graph<S: Site>(
     site: &mut S,
     graph: &mut Graph,
-    cone: &mut Cone,
     state: &mut State<'_>,
 ) -> Result<Summary, Stop>
     requires running { (S.world site.old).stopped ≡ false }
-    requires begins { IsBeginning S.tells graph.old cone.old state.old (S.world site.old) }
-    ensures ended { EndsFrom S.tells graph.old cone.old state.old (S.world site.old) graph.new cone.new (S.world site.new) result }
+    requires begins { IsBeginning S.tells graph.old state.old (S.world site.old) }
+    ensures ended { EndsFrom S.tells graph.old state.old (S.world site.old) graph.new state.new (S.world site.new) result }
     ensures edges { IfOk result (AreEdgesOf graph.new) }
     ensures seen { IfErr result (λ stop. IfFault stop (IsSeen (S.world site.old) (S.world site.new))) }
     ensures faults { PassesNoFault (S.world site.old) (S.world site.new) (stop_answer result) }
 {
-    match run_and_load(site, graph, cone, state) {
+    match run_and_load(site, graph, state) {
         Ok(summary) => Ok(summary),
         Err(stop) => Err(finished(site, graph, state, stop)),
     }
@@ -55,44 +54,38 @@ pub fn run_graph<S: Site>(
 fn run_and_load<S: Site>(
     site: &mut S,
     graph: &mut Graph,
-    cone: &mut Cone,
     state: &mut State<'_>,
 ) -> Result<Summary, Stop>
     requires running { (S.world site.old).stopped ≡ false }
-    requires begins { IsBeginning S.tells graph.old cone.old state.old (S.world site.old) }
-    ensures done { IfOk result (DoneFrom S.tells graph.old cone.old state.old (S.world site.old) graph.new cone.new (S.world site.new)) }
+    requires begins { IsBeginning S.tells graph.old state.old (S.world site.old) }
+    ensures done { IfOk result (DoneFrom S.tells graph.old state.old (S.world site.old) graph.new state.new (S.world site.new)) }
     ensures edges { IfOk result (AreEdgesOf graph.new) }
     ensures well { OnOk result (GoesWell (S.world site.old) (S.world site.new)) }
     ensures stop { IfErr result (IsStopOf (S.world site.old) (S.world site.new)) }
-    ensures halted { IfErr result (HaltsFrom S.tells graph.old cone.old state.old (S.world site.old) graph.new cone.new state.new (S.world site.new)) }
+    ensures halted { IfErr result (HaltsFrom S.tells graph.old state.old (S.world site.old) graph.new state.new (S.world site.new)) }
 {
     'run: loop {
-        match run_to_load(site, graph, cone, state)? {
+        match run_to_load(site, graph, state)? {
             Pause::Ended(summary) => return Ok(summary),
-            Pause::Load(file) => load_file(site, graph, cone, state, file)?,
+            Pause::Load(file) => load_file(site, graph, state, file)?,
         }
     }
 }
 
 /// Asks for sources, and runs the plan until it pauses. Where a file that no edge makes is to be loaded, that is done first.
-fn run_to_load<S: Site>(
-    site: &mut S,
-    graph: &Graph,
-    cone: &Cone,
-    state: &mut State<'_>,
-) -> Result<Pause, Stop>
+fn run_to_load<S: Site>(site: &mut S, graph: &Graph, state: &mut State<'_>) -> Result<Pause, Stop>
     requires running { (S.world site.old).stopped ≡ false }
-    requires begins { IsBeginning S.tells graph.now cone.now state.old (S.world site.old) }
+    requires begins { IsBeginning S.tells graph.now state.old (S.world site.old) }
     ensures pause { IfOk result (IsPauseOf graph.now) }
     ensures well { OnOk result (GoesWell (S.world site.old) (S.world site.new)) }
-    ensures paused { IfOk result (PausesFrom S.tells graph.now cone.now state.old (S.world site.old) state.new (S.world site.new)) }
+    ensures paused { IfOk result (PausesFrom S.tells graph.now state.old (S.world site.old) state.new (S.world site.new)) }
     ensures stop { IfErr result (IsStopOf (S.world site.old) (S.world site.new)) }
-    ensures halted { IfErr result (HaltsOver S.tells graph.now cone.now state.old (S.world site.old) state.new (S.world site.new)) }
+    ensures halted { IfErr result (HaltsOver S.tells graph.now state.old (S.world site.old) state.new (S.world site.new)) }
 {
     match source_to_load(graph, &state.plan) {
         Some(file) => Ok(Pause::Load(file)),
         None => {
-            ask_for_sources(site, graph, cone, state)?;
+            ask_for_sources(site, graph, state)?;
             Ok(run_plan(site, graph, state)?)
         }
     }
@@ -122,19 +115,14 @@ fn source(graph: &Graph, path: PathId) -> Option<PathId>
 }
 
 /// Refuses a cone of which a source is missing; else what is due by now is noted, and counted by what is shown. Commands may run.
-fn ask_for_sources<S: Site>(
-    site: &mut S,
-    graph: &Graph,
-    cone: &Cone,
-    state: &mut State<'_>,
-) -> Result<(), Stop>
+fn ask_for_sources<S: Site>(site: &mut S, graph: &Graph, state: &mut State<'_>) -> Result<(), Stop>
     requires running { (S.world site.old).stopped ≡ false }
-    requires begins { IsBeginning S.tells graph.now cone.now state.old (S.world site.old) }
+    requires begins { IsBeginning S.tells graph.now state.old (S.world site.old) }
     requires made { NoSourceIsDue graph.now state.old.plan }
     ensures well { OnOk result (GoesWell (S.world site.old) (S.world site.new)) }
-    ensures asked { OnOk result (AsksFrom S.tells graph.now cone.now state.old (S.world site.old) state.new (S.world site.new)) }
+    ensures asked { OnOk result (AsksFrom S.tells graph.now state.old (S.world site.old) state.new (S.world site.new)) }
     ensures stop { IfErr result (IsStopOf (S.world site.old) (S.world site.new)) }
-    ensures halted { IfErr result (HaltsOver S.tells graph.now cone.now state.old (S.world site.old) state.new (S.world site.new)) }
+    ensures halted { IfErr result (HaltsOver S.tells graph.now state.old (S.world site.old) state.new (S.world site.new)) }
 {
     log_stays();
     lists_stand(graph);
@@ -142,7 +130,7 @@ fn ask_for_sources<S: Site>(
         state.alloc,
         site,
         graph,
-        cone,
+        &state.cone,
         &state.plan,
         &mut state.looks,
         &state.records,
@@ -161,19 +149,18 @@ fn ask_for_sources<S: Site>(
 fn load_file<S: Site>(
     site: &mut S,
     graph: &mut Graph,
-    cone: &mut Cone,
     state: &mut State<'_>,
     file: PathId,
 ) -> Result<(), Stop>
     requires running { (S.world site.old).stopped ≡ false }
-    requires at { IsLoading S.tells graph.old cone.old state.old file (S.world site.old) }
+    requires at { IsLoading S.tells graph.old state.old file (S.world site.old) }
     ensures well { OnOk result (GoesWell (S.world site.old) (S.world site.new)) }
     ensures fewer { OnOk result (files_left (declared_by graph.new).edges < files_left (declared_by graph.old).edges) }
-    ensures begun { OnOk result (Loads S.tells file graph.old cone.old state.old (S.world site.old) graph.new cone.new state.new (S.world site.new)) }
+    ensures begun { OnOk result (Loads S.tells file graph.old state.old (S.world site.old) graph.new state.new (S.world site.new)) }
     ensures stop { IfErr result (IsStopOf (S.world site.old) (S.world site.new)) }
-    ensures halted { IfErr result (HaltsAt S.tells file graph.old cone.old state.old (S.world site.old) graph.new cone.new state.new (S.world site.new)) }
+    ensures halted { IfErr result (HaltsAt S.tells file graph.old state.old (S.world site.old) graph.new state.new (S.world site.new)) }
 {
-    match load(site, graph, cone, state, file) {
+    match load(site, graph, state, file) {
         Ok(()) => Ok(()),
         Err(stop) => Err(given_up(site, &state.plan, stop)),
     }

@@ -3,7 +3,7 @@
 ghost use Rattle.std.specs.Prelude.{◌≡◌, IfOk, [], length, vec_len};
 
 use crate::display::Display;
-use graph::Graph;
+use graph::{Cone, Graph};
 use judge::Looks;
 use paths::EdgeId;
 use plan::Plan;
@@ -16,6 +16,8 @@ use text::Path;
 #[derive(Drop)]
 pub struct State<'a> {
     pub alloc: Global,
+    /// The cone of what was asked for.
+    pub cone: Cone,
     pub plan: Plan,
     pub looks: Looks,
     pub records: Records,
@@ -35,6 +37,7 @@ impl<'a> State<'a> {
     pub fn new(
         alloc: Global,
         graph: &Graph,
+        cone: Cone,
         plan: Plan,
         looks: Looks,
         records: Records,
@@ -42,6 +45,7 @@ impl<'a> State<'a> {
         tick: Path,
         due: Vec<bool>,
     ) -> Result<State<'a>, AllocError>
+        ensures cone { IfOk result (λ state. state.cone ≡ cone) }
         ensures plan { IfOk result (λ state. state.plan ≡ plan) }
         ensures looks { IfOk result (λ state. state.looks ≡ looks) }
         ensures records { IfOk result (λ state. state.records ≡ records) }
@@ -53,6 +57,7 @@ impl<'a> State<'a> {
     {
         Ok(State {
             alloc,
+            cone,
             plan,
             looks,
             records,

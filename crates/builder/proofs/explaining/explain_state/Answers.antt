@@ -22,7 +22,6 @@ returns-clause-explains g c course edges phases begins =
       edges = at.0;
       phases = at.1;
       graph = c.load_sources.new.graph;
-      cone = c.load_sources.new.cone;
       state = c.load_sources.new.state;
       begun = g.S.Texts.world c.load_sources.new.site;
       looks = c.load_sources.ensures.looks;

@@ -48,7 +48,7 @@ run_state-told-requires-clause-begins g c =
       (declared_by graph).edges,
       [],
       begins_this tells graph asked c.args.records course old c.requires.read.1 c.requires.formed c.requires.once c.requires.inputs c.in_ok-cone.cone c.in_ok-cone.ensures.cone state.plan fresh.plan state.looks
-          fresh.looks state refl refl fresh.kept fresh.failed fresh.starts fresh.tick,
+          fresh.looks state refl refl fresh.kept fresh.failed fresh.starts fresh.tick fresh.cone,
     )
 
 pub returns : goal.returns
@@ -61,10 +61,10 @@ returns g c = (
       let old = g.S.Texts.world c.args.site.now in
       let state = c.in_ok-state.state in
       let fresh = c.in_ok-state.ensures.fresh in
-      builds_reported tells graph asked c.args.records course old has c.requires.once c.requires.inputs c.in_ok-cone.cone c.in_ok-cone.ensures.cone state c.run_state-told.new.graph c.run_state-told.new.cone (g.S.Texts.world c.run_state-told.new.site)
+      builds_reported tells graph asked c.args.records course old has c.requires.once c.requires.inputs c.in_ok-cone.cone c.in_ok-cone.ensures.cone state c.run_state-told.new.graph c.run_state-told.new.state (g.S.Texts.world c.run_state-told.new.site)
       (report_in c.run_state-told.result) c.run_state-told.ensures
       (begins_this tells graph asked c.args.records course old has c.requires.formed c.requires.once c.requires.inputs c.in_ok-cone.cone c.in_ok-cone.ensures.cone state.plan fresh.plan state.looks
-      fresh.looks state refl refl fresh.kept fresh.failed fresh.starts fresh.tick)
+      fresh.looks state refl refl fresh.kept fresh.failed fresh.starts fresh.tick fresh.cone)
       (begins_here tells graph asked c.args.records course old has c.requires.formed c.requires.once c.requires.inputs c.in_ok-cone.cone c.in_ok-cone.ensures.cone state.plan fresh.plan state.looks
-      fresh.looks state refl refl fresh.kept fresh.failed fresh.starts fresh.tick),
+      fresh.looks state refl refl fresh.kept fresh.failed fresh.starts fresh.tick fresh.cone),
 )

@@ -16,7 +16,7 @@ returns-in-Ok-clause-begun g c = c.in-Ok.ensures.begun
 pub given_up-requires-clause-met : goal.given_up-requires-clause-met
 given_up-requires-clause-met g c =
     let at = c.requires.at in
-    stop_met g.S.Texts.tells at.0 (declared_by c.load.new.graph).edges c.load.new.graph c.load.new.cone c.load.new.state (g.S.Texts.world c.load.new.site) c.in-Err.stop (c.in-Err.ensures.halted at.0 at.1 at.2 at.3)
+    stop_met g.S.Texts.tells at.0 (declared_by c.load.new.graph).edges c.load.new.graph c.load.new.state (g.S.Texts.world c.load.new.site) c.in-Err.stop (c.in-Err.ensures.halted at.0 at.1 at.2 at.3)
 
 pub given_up-requires-clause-stop : goal.given_up-requires-clause-stop
 given_up-requires-clause-stop g c = (g.S.Texts.world c.args.site.now, c.in-Err.ensures.stop)
@@ -26,4 +26,4 @@ returns-in-Err-clause-stop g c = c.given_up.ensures.stop (g.S.Texts.world c.args
 
 pub returns-in-Err-clause-halted : goal.returns-in-Err-clause-halted
 returns-in-Err-clause-halted g c course edges phases at =
-    c.given_up.ensures.halted course (declared_by c.load.new.graph).edges c.load.new.graph c.load.new.cone c.load.new.state refl (c.in-Err.ensures.halted course edges phases at)
+    c.given_up.ensures.halted course (declared_by c.load.new.graph).edges c.load.new.graph c.load.new.state refl (c.in-Err.ensures.halted course edges phases at)

@@ -76,7 +76,7 @@ returns-in_err-grown-clause-kept c = on_err c.from_residual-in_err-grown.result 
 -- a circle is one of what was asked, over the edges as they are now
 pub returns-in_err-grown-clause-cause : goal.returns-in_err-grown-clause-cause
 returns-in_err-grown-clause-cause c =
-    passed (λ s. IfRefused s (UnjoinedOver c.args.before.now c.args.graph.now c.args.cone.now c.args.state.now)) c.in_err-grown.field-0.0 c.from_residual-in_err-grown.result c.from_residual-in_err-grown.ensures.1
+    passed (λ s. IfRefused s (UnjoinedOver c.args.before.now c.args.graph.now c.args.state.now)) c.in_err-grown.field-0.0 c.from_residual-in_err-grown.result c.from_residual-in_err-grown.ensures.1
     (refused_then c.in_err-grown.field-0.0 c.in_err-grown.ensures.refused (λ refusal circle asked store graph j.
     let joined = c.in_ok-join_inputs.ensures.joined graph j.has.added j.has.paths store.records store.deps j.may.known (to_join j.may j.undoes j.has) in
     circle_by j.may j.undoes j.has c.files_stand.ensures joined refusal
@@ -108,6 +108,9 @@ returns-in_err-grow-clause-beside c = record {
 
 pub returns-in_err-grow-clause-grown : goal.returns-in_err-grow-clause-grown
 returns-in_err-grow-clause-grown c = on_err c.from_residual-in_err-grow.result c.join_inputs.ensures.grown
+
+pub returns-in_err-grow-clause-cone : goal.returns-in_err-grow-clause-cone
+returns-in_err-grow-clause-cone c = on_err c.from_residual-in_err-grow.result c.grow.ensures.cone
 
 pub returns-in_err-grow-clause-plan : goal.returns-in_err-grow-clause-plan
 returns-in_err-grow-clause-plan c = on_err c.from_residual-in_err-grow.result c.in_err-grow.ensures.plan
