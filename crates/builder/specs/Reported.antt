@@ -27,7 +27,7 @@ use Rattle.work.specs.Ends.{report_of}
 pub record IsFresh (graph : Graph) (cone : Cone) (request : Request) (records : Records) (state : State) : Type 0 where
   pub plan : IsPlanFor graph cone request.limits state.plan
   pub looks : state.looks.seen.items ≡ replicate (length graph.manifest.paths) Unasked
-  pub cone : state.cone ≡ cone
+  pub coned : state.cone ≡ cone
   pub kept : state.records ≡ records
   pub tick : state.tick ≡ file_in request.folder tick_name
   pub failed : state.failed.items ≡ []

@@ -26,7 +26,7 @@ explain_state-requires-clause-begins g c =
       (declared_by graph).edges,
       [],
       begins_this tells graph asked c.args.records course old c.requires.read.1 c.requires.formed c.requires.once c.requires.inputs c.in_ok-cone.cone c.in_ok-cone.ensures.cone state.plan fresh.plan state.looks
-          fresh.looks state refl refl fresh.kept fresh.failed fresh.starts fresh.tick fresh.cone,
+          fresh.looks state refl refl fresh.kept fresh.failed fresh.starts fresh.tick fresh.coned,
     )
 
 pub returns-clause-explains : goal.returns-clause-explains
@@ -41,6 +41,6 @@ returns-clause-explains g c =
     let this = course_of course.behaviour course.format course.own (asked_of (declared_by graph) asked.folder asked.limits asked.targets) course.store course.entry in
     let begins =
     begins_this tells graph asked c.args.records course old c.requires.read.1 c.requires.formed c.requires.once c.requires.inputs c.in_ok-cone.cone c.in_ok-cone.ensures.cone state.plan fresh.plan state.looks
-    fresh.looks state refl refl fresh.kept fresh.failed fresh.starts fresh.tick fresh.cone in
+    fresh.looks state refl refl fresh.kept fresh.failed fresh.starts fresh.tick fresh.coned in
     if_ok_then c.explain_state.result c.explain_state.ensures.explains
     (λ explained so. record { course = this; asked = refl; entry = old; looks = looks_nothing tells old; explains = so this (declared_by graph).edges [] begins })

@@ -48,7 +48,7 @@ run_state-told-requires-clause-begins g c =
       (declared_by graph).edges,
       [],
       begins_this tells graph asked c.args.records course old c.requires.read.1 c.requires.formed c.requires.once c.requires.inputs c.in_ok-cone.cone c.in_ok-cone.ensures.cone state.plan fresh.plan state.looks
-          fresh.looks state refl refl fresh.kept fresh.failed fresh.starts fresh.tick fresh.cone,
+          fresh.looks state refl refl fresh.kept fresh.failed fresh.starts fresh.tick fresh.coned,
     )
 
 pub returns : goal.returns
@@ -64,7 +64,7 @@ returns g c = (
       builds_reported tells graph asked c.args.records course old has c.requires.once c.requires.inputs c.in_ok-cone.cone c.in_ok-cone.ensures.cone state c.run_state-told.new.graph c.run_state-told.new.state (g.S.Texts.world c.run_state-told.new.site)
       (report_in c.run_state-told.result) c.run_state-told.ensures
       (begins_this tells graph asked c.args.records course old has c.requires.formed c.requires.once c.requires.inputs c.in_ok-cone.cone c.in_ok-cone.ensures.cone state.plan fresh.plan state.looks
-      fresh.looks state refl refl fresh.kept fresh.failed fresh.starts fresh.tick fresh.cone)
+      fresh.looks state refl refl fresh.kept fresh.failed fresh.starts fresh.tick fresh.coned)
       (begins_here tells graph asked c.args.records course old has c.requires.formed c.requires.once c.requires.inputs c.in_ok-cone.cone c.in_ok-cone.ensures.cone state.plan fresh.plan state.looks
-      fresh.looks state refl refl fresh.kept fresh.failed fresh.starts fresh.tick fresh.cone),
+      fresh.looks state refl refl fresh.kept fresh.failed fresh.starts fresh.tick fresh.coned),
 )

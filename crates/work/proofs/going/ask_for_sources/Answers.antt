@@ -29,7 +29,7 @@ returns-in-Err-clause-stop g c =
 
 pub returns-in-Err-clause-halted : goal.returns-in-Err-clause-halted
 returns-in-Err-clause-halted g c course edges phases begins =
-    c.given_up.ensures.halted course edges c.args.graph.now c.args.cone.now _ refl
+    c.given_up.ensures.halted course edges c.args.graph.now _ refl
     (lacking_there g.S.Texts.tells course edges phases c.args.graph.now c.args.state.now (g.S.Texts.world c.args.site.now) begins c.log_stays.ensures (g.S.Texts.world c.check_sources.new.site) c.check_sources.new.looks c.check_sources.ensures.looked c.requires.made c.in-Err.stop c.in-Err.ensures.lacking)
 
 pub returns-in-Ok-clause-well : goal.returns-in-Ok-clause-well
