@@ -34,6 +34,24 @@ returns-in_err-stamp-clause-cause g c =
     (unrefused_call (g.S.Texts.world c.remove_old_depfile.new.site) (g.S.Texts.world c.write_response.new.site) _ c.in_ok-write_response.ensures.cause))
     (cause_err (g.S.Texts.world c.write_response.new.site) (g.S.Texts.world c.tick.new.self) c.in_err-stamp.field-0.0 c.in_err-stamp.ensures.cause))
 
+pub returns-in_err-write_response-clause-cause : goal.returns-in_err-write_response-clause-cause
+returns-in_err-write_response-clause-cause g c =
+    let failed = err_from_is_err_and c.from_residual-in_err-write_response.result c.from_residual-in_err-write_response.ensures.1 in
+    rw (failed.1, failed.2)
+    (cause_then (g.S.Texts.world c.args.site.now) (g.S.Texts.world c.remove_old_depfile.new.site) (g.S.Texts.world c.write_response.new.site) (Err c.in_err-write_response.field-0.0)
+    (unrefused_call (g.S.Texts.world c.args.site.now) (g.S.Texts.world c.remove_old_depfile.new.site) _ c.in_ok-remove_old_depfile.ensures.cause)
+    (cause_err (g.S.Texts.world c.remove_old_depfile.new.site) (g.S.Texts.world c.write_response.new.site) c.in_err-write_response.field-0.0 c.in_err-write_response.ensures.cause))
+
+pub returns-clause-cause : goal.returns-clause-cause
+returns-clause-cause g c =
+    cause_then (g.S.Texts.world c.args.site.now) (g.S.Texts.world c.tick.new.self) (g.S.Texts.world c.start-result.new.self) c.start-result.result
+    (unrefused_then (g.S.Texts.world c.args.site.now) (g.S.Texts.world c.write_response.new.site) (g.S.Texts.world c.tick.new.self)
+    (unrefused_then (g.S.Texts.world c.args.site.now) (g.S.Texts.world c.remove_old_depfile.new.site) (g.S.Texts.world c.write_response.new.site)
+    (unrefused_call (g.S.Texts.world c.args.site.now) (g.S.Texts.world c.remove_old_depfile.new.site) _ c.in_ok-remove_old_depfile.ensures.cause)
+    (unrefused_call (g.S.Texts.world c.remove_old_depfile.new.site) (g.S.Texts.world c.write_response.new.site) _ c.in_ok-write_response.ensures.cause))
+    (unrefused_call (g.S.Texts.world c.write_response.new.site) (g.S.Texts.world c.tick.new.self) _ c.in_ok-stamp.ensures.cause))
+    c.start-result.ensures.cause
+
 pub returns-in_err-stamp-clause-cut : goal.returns-in_err-stamp-clause-cut
 returns-in_err-stamp-clause-cut g c =
     on_err c.from_residual-in_err-stamp.result (λ course suits begun.
