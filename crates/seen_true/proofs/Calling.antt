@@ -170,12 +170,11 @@ module _ (front : FrontOfLines forms) (c : Course) (lines : List ℕ) (old new :
         let stamp = (writes.history refl).0 in
         let adds = (writes.history refl).1 in
         let m : Moment = Wrote Program c.knows.seen (Some text) stamp in
-        let before = kept_on c adds.earlier (apart_earlier c old new call (IsRunning old.events) (IsRunning old.events) m adds.earlier adds.later adds.grows adds.all_earlier adds.all_later) (Some text) lines keeps in
-        (
+        let before = kept_on c adds.earlier (apart_earlier c old new call (IsRunning old.events) (IsRunning old.events) m adds.earlier adds.later adds.grows adds.all_earlier adds.all_later) (Some text) lines keeps in (
           written_on c old new call (IsRunning old.events) (IsRunning old.events) m adds.earlier adds.later adds.grows adds.all_earlier adds.all_later None lines
-          (put_once (grown c adds.earlier) text lines stamp before),
+              (put_once (grown c adds.earlier) text lines stamp before),
           written_on c old new call (IsRunning old.events) (IsRunning old.events) m adds.earlier adds.later adds.grows adds.all_earlier adds.all_later (Some text) lines
-          (put_again (grown c adds.earlier) text lines stamp before),
+              (put_again (grown c adds.earlier) text lines stamp before),
         )
 
 pub note_calls_law : FrontOfLines forms → NoteCallsKeepNotes

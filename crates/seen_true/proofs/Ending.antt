@@ -46,6 +46,7 @@ last_of Q (s ∷ rest) all p n is = by (last_of Q rest all.1 p n) (noted_in_forc
     one : (here : Bool) → bytes_eq s.path p ≡ here → (if here then Some (note_of s).noted else None) ≡ Some n → Last Q p n
     one true here so = record { sighting = s; here = same_bytes s.path p here; noted = some_is so; so = all.0 }
     one false here so = absurd (none_some so)
+
     by : (noted_in_force (notes_of rest) p ≡ Some n → Last Q p n) → (behind : Option Noted) → noted_in_force (notes_of rest) p ≡ behind → Last Q p n
     by further (Some m) then_is = further (then_is ∙ (ap (λ (o : Option Noted). option_or o (if bytes_eq s.path p then Some (note_of s).noted else None)) (sym then_is) ∙ is))
     by further None then_is = one (bytes_eq s.path p) refl (ap (λ (o : Option Noted). option_or o (if bytes_eq s.path p then Some (note_of s).noted else None)) (sym then_is) ∙ is)
@@ -71,6 +72,7 @@ not_absent kind n file is looks small = not_less (length file.content) no_size (
     left_of : (a b : Bool) → (a && b) ≡ true → a ≡ true
     left_of true b so = refl
     left_of false b so = so
+
     not_less : (a b : ℕ) → a ≡ b → a < b → ⊥
     not_less a b same less = absurd (omega (arith, same, less))
 
@@ -207,7 +209,7 @@ module _ (files_law : FilesAreTold) (one_reading : OneReading forms) (format : L
 
     -- where it is as noted, that was told
     was_told : IsAs n k.found → WasTold (told c) p file
-    was_told is = by (as_noted p n was.0 bound noted was.1 was.2 (subst (λ (content : List ℕ). length content < no_size) (sym was.3) (others.small p k.found k.stands)))
+    was_told is = by (as_noted p n was.0 bound noted was.1 was.2 (subst (λ (content : List ℕ). length content < no_size) (sym was.3) (others.small p k.found bound k.stands)))
       where
         was : (it : File) × (file_at (real c) p ≡ Some it) × IsAs n it × (it.content ≡ k.found.content)
         was = others.same p n k.found noted k.stands is
@@ -270,6 +272,7 @@ module _ (files_law : FilesAreTold) (one_reading : OneReading forms) (format : L
     where
       k : Counted p file
       k = found_at p file is
+
       by : (mine : Bool) → c.knows.is_own p ≡ mine → (noted : Option Noted) → next.noted p ≡ noted → FileSo p file
       by true own_is noted so = (plain_file p file k (inl own_is), plain_output p file k (inl own_is))
       by false own_is None so = (plain_file p file k (inr so), plain_output p file k (inr so))

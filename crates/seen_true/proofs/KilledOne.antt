@@ -45,13 +45,19 @@ one byte low = IsUtf8-from_ascii (byte ∷ []) (ascii byte low)
 has_log : IsLogOf (forms Two) text (notes_of found)
 has_log = record {
   lines = refl;
-  fit = (record {
-    fits = record { stamp = omega arith; size = omega arith; number = omega arith };
-    texts = (one 115 (omega arith), (one 97 (omega arith), (IsUtf8-from_ascii (decimal 5) (IsAscii-decimal 5 (omega arith)), (IsUtf8-from_ascii (decimal 1) (IsAscii-decimal 1 (omega arith)), (IsUtf8-from_ascii (decimal 0) (IsAscii-decimal 0 (omega arith)), tt)))));
-  }, (record {
-    fits = record { stamp = omega arith; size = omega arith; number = omega arith };
-    texts = (one 115 (omega arith), (one 103 (omega arith), (IsUtf8-from_ascii (decimal 0) (IsAscii-decimal 0 (omega arith)), (IsUtf8-from_ascii (decimal no_size) (IsAscii-decimal no_size (omega arith)), (IsUtf8-from_ascii (decimal 0) (IsAscii-decimal 0 (omega arith)), tt)))));
-  }, tt));
+  fit = (
+    record {
+      fits = record { stamp = omega arith; size = omega arith; number = omega arith };
+      texts = (one 115 (omega arith), (one 97 (omega arith), (IsUtf8-from_ascii (decimal 5) (IsAscii-decimal 5 (omega arith)), (IsUtf8-from_ascii (decimal 1) (IsAscii-decimal 1 (omega arith)), (IsUtf8-from_ascii (decimal 0) (IsAscii-decimal 0 (omega arith)), tt)))));
+    },
+    (
+      record {
+        fits = record { stamp = omega arith; size = omega arith; number = omega arith };
+        texts = (one 115 (omega arith), (one 103 (omega arith), (IsUtf8-from_ascii (decimal 0) (IsAscii-decimal 0 (omega arith)), (IsUtf8-from_ascii (decimal no_size) (IsAscii-decimal no_size (omega arith)), (IsUtf8-from_ascii (decimal 0) (IsAscii-decimal 0 (omega arith)), tt)))));
+      },
+      tt,
+    ),
+  );
 }
 
 abbrev are_true : NotesAreTrue killed
@@ -90,9 +96,9 @@ is_later o made is = early (has (output ∷ []) o) made is
 -- ---- what others did
 
 -- this is noted of the path
-record IsSeen (at : List ℕ) (as : Noted) (p : List ℕ) (n : Noted) : Type 0 where
-  noted : as ≡ n
-  here : bytes_eq at p ≡ true
+record IsSeen (seen_at : List ℕ) (seen_as : Noted) (p : List ℕ) (n : Noted) : Type 0 where
+  noted : seen_as ≡ n
+  here : bytes_eq seen_at p ≡ true
 
 -- a path is one of the sources or another
 by_path : (P : List ℕ → Type 0) → P source → P gone → ((p : List ℕ) → bytes_eq source p ≡ false → bytes_eq gone p ≡ false → P p) → (p : List ℕ) → P p
@@ -137,6 +143,7 @@ is_another p n file is there as_noted = by (noted_so p n is)
     other q m seen stands differs =
         false≢true (sym differs ∙ (ap (λ (k : Noted). is_as_noted k 1 1) seen.noted
         ∙ (ap (λ (f : File). is_as_noted n f.stamp (length f.content)) (some_is (sym stands ∙ (ap (λ (r : List ℕ). file_at later r) (same_bytes q p seen.here) ∙ there))) ∙ as_noted)))
+
     by : IsSeen source source_then p n ⊎ IsSeen gone (absence Source) p n → ⊥
     by (inl seen) = other source source_then seen refl refl
     by (inr seen) = other gone (absence Source) seen refl refl
@@ -168,34 +175,48 @@ not_turned p n is turned = by (noted_so p n is)
 
 -- ---- no file is too large
 
-abbrev PutsSmall : Moment → Type 0
-PutsSmall (Wrote by path content stamp) = (file : File) → written content stamp ≡ Some file → length file.content < no_size
-PutsSmall (Happened event) = Unit {0}
+abbrev PutsSmall : List ℕ → Moment → Type 0
+PutsSmall p (Wrote by path content stamp) = bytes_eq path p ≡ true → (file : File) → written content stamp ≡ Some file → length file.content < no_size
+PutsSmall p (Happened event) = Unit {0}
 
 abbrev IsSmall : Option File → Type 0
 IsSmall held = (file : File) → held ≡ Some file → length file.content < no_size
 
-small_from : (p : List ℕ) (ms : List Moment) (held : Option File) → AllByRecursion PutsSmall ms → IsSmall held → IsSmall (file_from p held ms)
+small_from : (p : List ℕ) (ms : List Moment) (held : Option File) → AllByRecursion (PutsSmall p) ms → IsSmall held → IsSmall (file_from p held ms)
 small_from p [] held all small = small
 small_from p (Wrote by path content stamp ∷ ms) held all small =
     small_from p ms (file_after p held (Wrote by path content stamp)) all.1 (λ file is. elim (cases_Bool (bytes_eq path p)) [
-      | inl here ↦ all.0 file (sym (cond-true (bytes_eq path p) (written content stamp) held here) ∙ is)
+      | inl here ↦ all.0 here file (sym (cond-true (bytes_eq path p) (written content stamp) held here) ∙ is)
       | inr there ↦ small file (sym (cond-false (bytes_eq path p) (written content stamp) held there) ∙ is)
     ])
 small_from p (Happened event ∷ ms) held all small = small_from p ms held all.1 small
 
-puts_small : (content : List ℕ) (stamp : ℕ) → length content < no_size → (file : File) → written (Some content) stamp ≡ Some file → length file.content < no_size
-puts_small content stamp small file is = subst (λ (f : File). length f.content < no_size) (some_is is) small
+one_small : (content : List ℕ) (stamp : ℕ) → length content < no_size → (file : File) → written (Some content) stamp ≡ Some file → length file.content < no_size
+one_small content stamp small file is = subst (λ (f : File). length f.content < no_size) (some_is is) small
 
-all_small : AllByRecursion PutsSmall later
-all_small = (
-  puts_small was 4 (ltb-true 1 no_size refl),
-  (puts_small was 5 (ltb-true 1 no_size refl),
-  (puts_small text 6 (ltb-true (length text) no_size refl),
-  (tt,
-  (puts_small was 8 (ltb-true 1 no_size refl),
-  (puts_small edited 1 (ltb-true 1 no_size refl),
-  (puts_small edited 1 (ltb-true 1 no_size refl), tt)))))),
+not_notes : (a b : Bool) → (a || b) ≡ false → b ≡ false
+not_notes false b is = is
+not_notes true b is = absurd (true≢false is)
+
+all_small : (p : List ℕ) → is_mine p ≡ false → AllByRecursion (PutsSmall p) later
+all_small p bound = (
+  λ here. one_small was 4 (ltb-true 1 no_size refl),
+  (
+    λ here. one_small was 5 (ltb-true 1 no_size refl),
+    (
+      λ here. absurd (false≢true (sym (not_notes (is_log p) (bytes_eq seen p) bound) ∙ here)),
+      (
+        tt,
+        (
+          λ here. one_small was 8 (ltb-true 1 no_size refl),
+          (
+            λ here. one_small edited 1 (ltb-true 1 no_size refl),
+            (λ here. one_small edited 1 (ltb-true 1 no_size refl), tt),
+          ),
+        ),
+      ),
+    ),
+  ),
 )
 
 -- a path that nobody writes in the build
@@ -234,10 +255,6 @@ once file (a ∷ b ∷ c ∷ d ∷ more) rest is there =
     absurd (no_cons d (more ++ rest)
     (tail_is three_of c [] (d ∷ (more ++ rest)) (tail_is two_of b (three_of ∷ []) (c ∷ d ∷ (more ++ rest)) (tail_is one_of a (two_of ∷ three_of ∷ []) (b ∷ c ∷ d ∷ (more ++ rest)) is))))
 
-not_notes : (a b : Bool) → (a || b) ≡ false → b ≡ false
-not_notes false b is = is
-not_notes true b is = absurd (true≢false is)
-
 stands_so : (p : List ℕ) (file : File) → is_mine p ≡ false → Stood killed p (Some file) → file_at (real killed) p ≡ Some file
 stands_so p file bound stood = elim (cases_Bool (bytes_eq output p)) [
   | inl here ↦
@@ -249,7 +266,7 @@ stands_so p file bound stood = elim (cases_Bool (bytes_eq output p)) [
 
 others_so : OthersWroteSo reads own killed next later
 others_so = record {
-  small = λ p file is. small_from p later None all_small (λ held so. absurd (none_some so)) file is;
+  small = λ p file bound is. small_from p later None (all_small p bound) (λ held so. absurd (none_some so)) file is;
   meanwhile = λ p was bound stood file there looks. some_is (sym there ∙ stands_so p was bound stood);
   build_log = refl;
   deps_log = refl;

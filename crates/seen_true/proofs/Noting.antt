@@ -34,18 +34,22 @@ use Rattle.seen_true.proofs.Calling.{Passes, appends_pass, calls_law, finishes_p
 pub next_law : FilesAreTold → OneReading forms → NextIsNoted
 next_law files_law one_reading B format own edges others c next last entry notes was idle fit reads wrote later faithful =
     let soundly = ending_law files_law one_reading format own c next entry.history notes fit reads wrote later in
-    let begins = begins_law B format own edges others (telling next) last entry (told c) (written_in (told c) ++ written_in entry.history) was idle soundly faithful in
-    (begins.0, begins.1, begins.2, record {
-      begins = begins.0;
-      sightings = [];
-      all = tt;
-      file = record {
-        records = reads.records;
-        tail = reads.tail;
-        read = subst (λ (h : List Moment). IsRead forms (content_or_empty (file_at h next.seen)) reads.records reads.tail) (sym (append-nil entry.history)) reads.read;
-        tells = λ p. sym (reads.is p);
-      };
-    })
+    let begins = begins_law B format own edges others (telling next) last entry (told c) (written_in (told c) ++ written_in entry.history) was idle soundly faithful in (
+      begins.0,
+      begins.1,
+      begins.2,
+      record {
+        begins = begins.0;
+        sightings = [];
+        all = tt;
+        file = record {
+          records = reads.records;
+          tail = reads.tail;
+          read = subst (λ (h : List Moment). IsRead forms (content_or_empty (file_at h next.seen)) reads.records reads.tail) (sym (append-nil entry.history)) reads.read;
+          tells = λ p. sym (reads.is p);
+        };
+      },
+    )
 
 -- ---- what a site keeps
 

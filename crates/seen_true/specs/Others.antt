@@ -58,7 +58,7 @@ IsAs n file = is_as_noted n file.stamp (length file.content) ≡ true
 -- they did with one that has a record and that no line makes any more. What counted as absent, since somebody had written it at a time at which no
 -- line made it, is still made by a line.
 pub record OthersWroteSo (format : LogFormat) (own : OwnFiles) (c : Course) (next : Knowing) (later : List Moment) : Type 0 where
-  pub small : (p : List ℕ) (file : File) → file_at later p ≡ Some file → length file.content < no_size
+  pub small : (p : List ℕ) (file : File) → c.knows.is_own p ≡ false → file_at later p ≡ Some file → length file.content < no_size
   pub meanwhile : (p : List ℕ) (file : File) → c.knows.is_own p ≡ false → Stood c p (Some file) → StandsStill c p file
   pub build_log : view_of later own.build_log ≡ view_of (real c) own.build_log
   pub deps_log : view_of later own.deps_log ≡ view_of (real c) own.deps_log
