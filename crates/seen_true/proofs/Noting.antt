@@ -2,7 +2,7 @@
 use Rattle.std.proofs.Common.{◌≡◌, inl, inr, ℕ, true, false, List, [], ◌++◌, Option, Some, None, drop, length, refl, sym, ◌∙◌, ap, subst, append_assoc, append-nil}
 use Rattle.std.specs.List.{AllByRecursion}
 use Rattle.std.proofs.Math.Logic.{∥∥₁_map}
-use Rattle.std.proofs.Math.Seq.{drop-append_seam}
+use Rattle.std.proofs.Math.Seq.{drop-append_seam, drop-length}
 use Rattle.log_text.specs.declared.form.Version.TheVariants.{Two}
 use Rattle.log_text.specs.Form.{IsAppended}
 use Rattle.log_text.specs.Laws.{FrontOfLines, OneReading}
@@ -16,14 +16,14 @@ use Rattle.seen_log.specs.declared.note.Kind.{Kind}
 use Rattle.seen_log.specs.declared.note.Note.{Note}
 use Rattle.seen_log.specs.declared.note.Noted.{Noted}
 use Rattle.seen_log.specs.Record.{forms, noting}
-use Rattle.seen_law.specs.Retold.{stamp_told, under}
+use Rattle.seen_law.specs.Retold.{BeginsSo, stamp_told, under}
 use Rattle.seen_true.specs.Counting.{telling}
 use Rattle.seen_true.specs.Soundly.{written_in}
-use Rattle.seen_true.specs.Notes.{Course, IsTrueNote, NotesAreKept, NotesAreTrue, Sighting, grown, note_of, real, told}
+use Rattle.seen_true.specs.Notes.{Course, IsTrueNote, IsWhole, NotesAreKept, NotesAreTrue, Sighting, grown, note_of, notes_text, real, told}
 use Rattle.seen_true.specs.Laws.{found_number, number_of}
 use Rattle.seen_true.specs.Calls.{EndsTrue, IsCallIn, IsLeftByOthers, KeepsOn}
-use Rattle.seen_true.specs.Going.{AbsenceNotes, CallsNote, CallsStand, Entered, Found, FoundInCall, LinesNote, NextIsNoted, NoneInCall, NoteCallsNote, Notes, NotesStand, course, since}
-use Rattle.seen_true.proofs.Keeping.{line_law}
+use Rattle.seen_true.specs.Going.{AbsenceNotes, BaseIsWhole, CallsNote, CallsStand, Entered, EntersBy, EntersNoted, Found, FoundInCall, LinesNote, NextIsNoted, NoneInCall, NoteCallsNote, Notes, NotesStand, course, since}
+use Rattle.seen_true.proofs.Keeping.{entry_law, line_law}
 use Rattle.seen_true.proofs.Truth.{away_law, look_law, told_law}
 use Rattle.seen_true.proofs.Ending.{ending_law}
 use Rattle.seen_true.proofs.Sound.{begins_law}
@@ -298,3 +298,37 @@ lines_note_law true e base lines more world p kind stamp size notes found = (
   λ counts is line. adds e base lines more world p kind stamp size notes (found refl) (number_of counts stamp)
       (by_told e base lines more world p kind stamp size notes (found refl) counts (is refl (found refl).file (found refl).of_stamp (found refl).of_size)) line,
 )
+
+-- ---- when a site is made that notes
+
+module _ (e : Entered) (base : Option (List ℕ)) (world : World) (is : world.history ≡ e.first) (begins : BeginsSo (telling e.knows) e.first e.before) (enters : EntersBy e.knows base e.first) where
+  abbrev none_yet : Course
+  none_yet = record { knows = e.knows; first = e.first; before = e.before; more = [] }
+
+  text_then : notes_text none_yet ≡ content_or_empty (file_at e.first e.knows.seen)
+  text_then = ap (λ (h : List Moment). content_or_empty (file_at h e.knows.seen)) (append-nil e.first)
+
+  read_then : IsRead forms (notes_text none_yet) enters.reads.records enters.reads.tail
+  read_then = subst (λ (text : List ℕ). IsRead forms text enters.reads.records enters.reads.tail) (sym text_then) enters.reads.read
+
+  kept_by : (b : Option (List ℕ)) → BaseIsWhole (content_or_empty (file_at e.first e.knows.seen)) e.knows.noted b → NotesAreKept none_yet b []
+  kept_by None whole =
+      (entry_law e.knows e.first e.before enters.reads.records enters.reads.tail begins read_then enters.reads.is).0
+      (subst (λ (text : List ℕ). IsWhole text e.knows.noted) (sym text_then) whole)
+  kept_by (Some text) whole = (entry_law e.knows e.first e.before enters.reads.records enters.reads.tail begins read_then enters.reads.is).1 text whole
+
+  kept_then : NotesAreKept none_yet base []
+  kept_then = kept_by base enters.whole
+
+  nothing_since : since e world ≡ []
+  nothing_since = ap (λ (h : List Moment). drop (length e.first) h) is ∙ drop-length e.first
+
+  enters_so : Notes true e base [] world
+  enters_so = record {
+    goes_on = λ tells. is ∙ (sym (append-nil e.first) ∙ ap (λ (ms : List Moment). e.first ++ ms) (sym nothing_since));
+    kept = λ tells left. ∣ subst (λ (ms : List Moment). NotesAreKept (record { knows = e.knows; first = e.first; before = e.before; more = ms }) base []) (sym nothing_since) kept_then ∣₁;
+  }
+
+pub enters_law : EntersNoted
+enters_law false e base world is begins enters = none_told e base [] world
+enters_law true e base world is begins enters = enters_so e base world (is refl) (begins refl) (enters refl)

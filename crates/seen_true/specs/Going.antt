@@ -5,20 +5,21 @@ use Rattle.model.specs.declared.act.Act.{Act}
 use Rattle.model.specs.declared.event.Moment.{Moment}
 use Rattle.model.specs.declared.graph.Edge.{Edge}
 use Rattle.model.specs.World.{World, File, IsIdle, file_at}
-use Rattle.model.specs.Calls.{OthersWrote, OnlyLooks, Writes, Appends, AppendsOrNot, Ticks, Starts, Finishes, IsRestart, WritesOrNot}
+use Rattle.model.specs.Calls.{content_or_empty, OthersWrote, OnlyLooks, Writes, Appends, AppendsOrNot, Ticks, Starts, Finishes, IsRestart, WritesOrNot}
 use Rattle.model.specs.Outcome.{Behaviour}
 use Rattle.model.specs.Records.{LogFormat, OwnFiles}
 use Rattle.model.specs.Faithful.{IsFaithfulStore}
 use Rattle.log_text.specs.declared.form.Version.TheVariants.{Two}
 use Rattle.log_text.specs.Form.{IsAppended}
 use Rattle.seen_log.specs.declared.note.Kind.{Kind}
+use Rattle.seen_log.specs.declared.note.Noted.{Noted}
 use Rattle.seen_log.specs.Record.{forms, noting}
 use Rattle.seen_law.specs.Retold.{BeginsSo, retold, stamp_told}
 use Rattle.seen_law.specs.Laws.{started_so}
 use Rattle.seen_law.specs.Meanwhile.{no_command, told_next}
 use Rattle.seen_true.specs.Counting.{Knowing, no_size, telling}
 use Rattle.seen_true.specs.Soundly.{IsLaterThanRecords, written_in}
-use Rattle.seen_true.specs.Notes.{Course, NotesAreKept, NotesAreTrue, Stood, told}
+use Rattle.seen_true.specs.Notes.{Course, IsWhole, NotesAreKept, NotesAreTrue, Stood, told}
 use Rattle.seen_true.specs.Others.{OthersWroteSo, OwnFit, ReadsNotes}
 use Rattle.seen_true.specs.Calls.{IsLeftByOthers}
 use Rattle.seen_true.specs.Laws.{found_number, number_of}
@@ -156,3 +157,21 @@ abbrev pub AbsenceNotes : Type 0
 AbsenceNotes =
     (tells : Bool) (e : Entered) (base : Option (List ℕ)) (lines more : List ℕ) (world : World) (p : List ℕ) (kind : Kind)
     → Notes tells e base lines world → (IsTrue tells → Stood (course e world) p None) → Adds p kind 0 no_size 0 lines more → Notes tells e base more world
+
+-- ---- when a site is made that notes
+
+-- A whole log stands behind which lines may be put; or this text takes its place, which is one.
+abbrev pub BaseIsWhole : (text : List ℕ) → (tells : List ℕ → Option Noted) → Option (List ℕ) → Type 0
+BaseIsWhole text tells None = IsWhole text tells
+BaseIsWhole text tells (Some base) = IsWhole base tells
+
+-- What is known of notes is what is read of their file, where this is the history, and this is to take its place before a line is put behind it.
+pub record EntersBy (k : Knowing) (base : Option (List ℕ)) (history : List Moment) : Type 0 where
+  pub reads : ReadsNotes k history
+  pub whole : BaseIsWhole (content_or_empty (file_at history k.seen)) k.noted base
+
+-- where what is told counts so, the notes are true, and nothing is to be put behind them yet
+abbrev pub EntersNoted : Type 0
+EntersNoted =
+    (tells : Bool) (e : Entered) (base : Option (List ℕ)) (world : World) → (IsTrue tells → world.history ≡ e.first)
+    → (IsTrue tells → BeginsSo (telling e.knows) e.first e.before) → (IsTrue tells → EntersBy e.knows base e.first) → Notes tells e base [] world
