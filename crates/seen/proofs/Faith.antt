@@ -10,7 +10,8 @@ use Rattle.seen_law.specs.Retold.{Telling, told_file, under, stamp_told}
 use Rattle.seen_law.specs.Meanwhile.{counted_at, recorded_at, CountRightly}
 use Rattle.seen.specs.Between.{counting, AreSeen, NotesTell, CountsEither, NumberIsLater}
 use Rattle.seen.specs.declared.judging.Judged.{Judged}
-use Rattle.seen.specs.Judged.{is_as_noted, is_turned, judged, judged_new, judged_noted, judged_same, plainly, turned, under as noted_under}
+use Rattle.seen_true.specs.Counting.{is_as_noted, is_turned}
+use Rattle.seen.specs.Judged.{judged, judged_new, judged_noted, judged_same, plainly, turned, under as noted_under}
 
 some_same : {a b : ℕ} → Some a ≡ Some b → b ≡ a
 some_same e = cc

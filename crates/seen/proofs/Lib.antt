@@ -11,3 +11,4 @@ pub mod Already
 pub mod SmallOne
 pub mod Growing
 pub mod Putting
+pub mod Kept

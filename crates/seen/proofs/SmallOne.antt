@@ -13,7 +13,8 @@ use Rattle.seen_log.specs.Log.{counts_of}
 use Rattle.seen_law.specs.Retold.{told_file, stamp_told, under}
 use Rattle.seen_law.specs.Meanwhile.{counted_at, recorded_at}
 use Rattle.seen_law.specs.Rows.{source, output, was, edited, some_act}
-use Rattle.seen.specs.Judged.{is_as_noted, judged}
+use Rattle.seen_true.specs.Counting.{is_as_noted}
+use Rattle.seen.specs.Judged.{judged}
 use Rattle.seen.specs.Small.{log, own, reads, built, put, noted_then, is_output_then, placed_then, telling_then, NotesAreMet}
 use Rattle.seen.proofs.Faith.{some_is, none_some, own_counts}
 

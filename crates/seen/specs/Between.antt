@@ -8,7 +8,8 @@ use Rattle.seen_log.specs.declared.note.Noted.{Noted}
 use Rattle.seen_law.specs.Retold.{Counting, Telling}
 use Rattle.seen_law.specs.Meanwhile.{counted_at, recorded_at, CountRightly}
 use Rattle.seen_log.specs.Log.{counts_of}
-use Rattle.seen.specs.Judged.{is_as_noted, judged, judged_noted, next_number}
+use Rattle.seen_true.specs.Counting.{is_as_noted}
+use Rattle.seen.specs.Judged.{judged, judged_noted, next_number}
 
 -- What counts when a build begins, by what is noted of each path, by which paths commands make, and by the number of the build; `placed` is
 -- when a file was put at its path.

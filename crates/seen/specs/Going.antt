@@ -3,12 +3,14 @@ use Rattle.std.specs.Prelude.{◌≡◌, ℕ, Bool, List, IsTrue}
 use Rattle.model.specs.World.{World}
 use Rattle.model.specs.Calls.{OnlyLooks}
 use Rattle.seen_law.specs.Retold.{none_started, started_after}
-use Rattle.seen.specs.Begun.{Begun, BeginsTold, GoesOn, since, told_world}
+use Rattle.seen_true.specs.Going.{since}
+use Rattle.seen_true.specs.Counting.{telling}
+use Rattle.seen.specs.Begun.{Begun, BeginsTold, GoesOn, told_world}
 
 -- the history goes on, no command was started, and the site that is told was only looked at
 pub record StaysTold (tells : Bool) (b : Begun) (x y : World) : Type 0 where
   pub so_far : GoesOn tells b y
-  pub started : IsTrue tells → (p : List ℕ) → started_after b.telling none_started (since b y) p ≡ started_after b.telling none_started (since b x) p
+  pub started : IsTrue tells → (p : List ℕ) → started_after (telling b.knows) none_started (since b y) p ≡ started_after (telling b.knows) none_started (since b x) p
   pub looks : OnlyLooks tells (told_world tells b x) (told_world tells b y)
 
 abbrev pub LooksGoOn : Type 0

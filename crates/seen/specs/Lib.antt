@@ -16,3 +16,4 @@ pub mod Noting
 pub mod First
 pub mod Small
 pub mod Going
+pub mod Known
