@@ -5,6 +5,7 @@ ghost use Rattle.seen.specs.Going.{LooksGoOn};
 ghost use Rattle.seen.specs.Small.{NotesAreMet};
 
 use seen_law::looks_are_told;
+use seen_true::{calls_note, calls_stand};
 
 /// Where the notes are true of the end of a build, what they make of what others did since is what the next one wants to begin with faithful
 /// records (`seen_law::next_begins`).
@@ -27,9 +28,11 @@ pub fn number_is_later()
     ensures { NumberIsLater }
 {}
 
-/// Where the site below is only looked at, its history goes on, no command was started, and what is told was only looked at, too.
+/// Where the site below is only looked at, its history goes on, no command was started, what is told was only looked at, too, and the notes stay true.
 pub fn looks_go_on()
     ensures { LooksGoOn }
 {
     looks_are_told();
+    calls_note();
+    calls_stand();
 }
