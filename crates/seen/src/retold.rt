@@ -187,6 +187,7 @@ impl<S: Measured, B: Beginning> Retold<S, B> {
         ensures site { self.new.site ≡ self.old.site }
         ensures own { self.new.known.own ≡ self.old.known.own }
         ensures one { self.new.is_for_one ≡ self.old.is_for_one }
+        ensures noted { self.new.noted ≡ self.old.noted }
     {
         self.known.made.add(alloc, path)?;
         Ok(())
@@ -339,6 +340,7 @@ impl<S: Measured, B: Beginning> Retold<S, B> {
         ensures refused { Refuses S.tells (told_world S.tells B.begun (S.world self.old.site)) (told_world S.tells B.begun (S.world self.new.site)) result }
         ensures same { self.new.known ≡ self.old.known }
         ensures one { self.new.is_for_one ≡ self.old.is_for_one }
+        ensures noted { self.new.noted ≡ self.old.noted }
     {
         looks_are_told();
         calls_note();
@@ -349,7 +351,9 @@ impl<S: Measured, B: Beginning> Retold<S, B> {
 
     /// Why the notes cannot be read, or no line may be put behind them.
     pub fn refuse_read(&mut self) -> SiteFault
-        ensures { Refuses S.tells (told_world S.tells B.begun (S.world self.old.site)) (told_world S.tells B.begun (S.world self.new.site)) result }
+        ensures refused { Refuses S.tells (told_world S.tells B.begun (S.world self.old.site)) (told_world S.tells B.begun (S.world self.new.site)) result }
+        ensures torn { self.new.torn ≡ self.old.torn }
+        ensures one { self.new.is_for_one ≡ self.old.is_for_one }
     {
         looks_are_told();
         calls_note();

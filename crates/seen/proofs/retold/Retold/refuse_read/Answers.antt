@@ -30,8 +30,8 @@ invariant_of-self g c =
       kept = λ whole. keeps.notes _ _ (c.args.self.now.kept whole);
     }
 
-pub returns : goal.returns
-returns g c =
+pub returns-clause-refused : goal.returns-clause-refused
+returns-clause-refused g c =
     subst (λ (f : SiteFault). Refuses g.S.Texts.tells (told_world g.S.Texts.tells g.B.Beginning.begun (g.S.Texts.world c.args.self.now.site)) (told_world g.S.Texts.tells g.B.Beginning.begun (g.S.Texts.world c.read-content.new.self)) f) (sym c.fault_of.ensures)
     (record {
       looks = looks_on g.S.Texts.tells g.B.Beginning.begun (g.S.Texts.world c.args.self.now.site) (g.S.Texts.world c.read-content.new.self) c.args.self.now.so_far c.args.self.now.begins c.looks_are_told.ensures c.read-content.ensures.looks;

@@ -15,5 +15,5 @@ returns-clause-err g c =
 
 pub returns-clause-noted : goal.returns-clause-noted
 returns-clause-noted g c =
-    noted_first g.S.Texts.tells g.B.Beginning.begun c.args.self.now.retold.known.own.seen c.args.self.now.known.lines.items c.args.path.now c.args.bytes.now (g.S.Texts.world c.args.self.now.retold.site) (g.S.Texts.world c.note_before.new.self.retold.site)
+    noted_first g.S.Texts.tells g.B.Beginning.begun c.args.self.now.retold.known.own.seen c.args.self.now.retold.noted.lines.items c.args.path.now c.args.bytes.now (g.S.Texts.world c.args.self.now.retold.site) (g.S.Texts.world c.note_before.new.self.retold.site)
     (g.S.Texts.world c.append.new.self.site) c.append.result c.in_ok-note_before.ensures.notes c.append.ensures.appends
