@@ -98,10 +98,10 @@ never : false ≡ true → ⊥
 never e = cc
 
 pub notes_untold : (tells : Bool) (b : Begun) (base : Option (List ℕ)) (lines : List ℕ) (w : World) → (IsTrue tells → ⊥) → Notes tells b base lines w
-notes_untold tells b base lines w no = record { goes_on = λ is. absurd (no is); kept = λ is left. absurd (no is) }
+notes_untold tells b base lines w untold_so = record { goes_on = λ is. absurd (untold_so is); kept = λ is left. absurd (untold_so is) }
 
 pub stand_untold : (tells : Bool) (b : Begun) (w : World) → (IsTrue tells → ⊥) → NotesStand tells b w
-stand_untold tells b w no = record { goes_on = λ is. absurd (no is); kept = λ is left. absurd (no is) }
+stand_untold tells b w untold_so = record { goes_on = λ is. absurd (untold_so is); kept = λ is left. absurd (untold_so is) }
 
 pub stand_of : (tells : Bool) (b : Begun) (base : Option (List ℕ)) (lines : List ℕ) (w : World) → Notes tells b base lines w → NotesStand tells b w
 stand_of tells b base lines w notes = record { goes_on = notes.goes_on; kept = λ is left. ∥∥₁_map (notes.kept is left) (λ kept. kept.notes) }
@@ -122,16 +122,16 @@ pub record Keeps (tells : Bool) (b : Begun) (x y : World) : Type 0 where
 
 module _ (tells : Bool) (b : Begun) (x y : World) (calls : CallsNote) (stands : CallsStand) where
   untold : tells ≡ false → Keeps tells b x y
-  untold no = record {
-    notes = λ base lines notes. notes_untold tells b base lines y (λ is. false≢true (sym no ∙ is));
-    stand = λ stand. stand_untold tells b y (λ is. false≢true (sym no ∙ is));
+  untold not_told = record {
+    notes = λ base lines notes. notes_untold tells b base lines y (λ is. false≢true (sym not_told ∙ is));
+    stand = λ stand. stand_untold tells b y (λ is. false≢true (sym not_told ∙ is));
   }
 
   -- where the path has to be another than that of the notes
   where_told : (IsTrue tells → Keeps tells b x y) → Keeps tells b x y
   where_told told = elim (cases_Bool tells) [
     | inl is ↦ told is
-    | inr no ↦ untold no
+    | inr not_told ↦ untold not_told
   ]
 
   pub looks_keep : OnlyLooks tells x y → Keeps tells b x y
@@ -203,9 +203,9 @@ module _ (tells : Bool) (b : Begun) (x y : World) (laws : NoteCallsNote) (p : Li
   at_notes P is held = subst P (sym (here is)) held
 
   told_or : (Q : Type 0) → ((IsTrue tells → ⊥) → Q) → (IsTrue tells → Q) → Q
-  told_or Q no yes_so = elim (cases_Bool tells) [
-    | inl is ↦ yes_so is
-    | inr not_so ↦ no (λ is. false≢true (sym not_so ∙ is))
+  told_or Q other same_so = elim (cases_Bool tells) [
+    | inl is ↦ same_so is
+    | inr not_told ↦ other (λ is. false≢true (sym not_told ∙ is))
   ]
 
   -- the lines were put behind them, or some of them were
@@ -366,13 +366,13 @@ module _ (finds : FoundInCall) (finds_none : NoneInCall) (notes_lines : LinesNot
   looked_held begun found l q = q.is ∙ (ap (λ (it : Bool). looked_by it k p found) (q.has_begun refl) ∙ ap (looked_at k p) (q.sees refl).is)
 
   pub may_see : (tells begun : Bool) (found : Option Measure) (l : Looked) → IsLooked tells begun found l → MaySee tells b y p l
-  may_see false begun found l q base lines more is notes = notes_untold false b base more y never
+  may_see false begun found l q = λ base lines more is notes. notes_untold false b base more y never
   may_see true begun found l q = subst (MaySee true b y p) (sym (looked_held begun found l q))
       (see_held b x y k p finds finds_none notes_lines notes_absence q.goes (q.sees refl).earlier (q.sees refl).later (q.sees refl).grows (q.numbers refl) (q.owns refl) (q.counted refl) (q.started refl)
       (file_at (x.history ++ (q.sees refl).earlier) p) refl)
 
   pub may_leave : (tells begun : Bool) (found : Option Measure) (l : Looked) → IsLooked tells begun found l → MayLeave tells b y p l
-  may_leave false begun found l q base lines more is notes = notes_untold false b base more y never
+  may_leave false begun found l q = λ base lines more is notes. notes_untold false b base more y never
   may_leave true begun found l q = subst (MayLeave true b y p) (sym (looked_held begun found l q))
       (left_held b x y k p finds finds_none notes_lines notes_absence q.goes (q.sees refl).earlier (q.sees refl).later (q.sees refl).grows (q.numbers refl) (q.owns refl) (q.counted refl) (q.started refl)
       (file_at (x.history ++ (q.sees refl).earlier) p) refl)
