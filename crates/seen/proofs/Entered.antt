@@ -1,11 +1,11 @@
 -- What is known of notes when a build begins.
-use Rattle.std.proofs.Common.{◌≡◌, ◌⊎◌, inl, inr, ℕ, true, List, [], ◌++◌, Option, Some, None, refl, sym, ◌∙◌, ap, subst, append_assoc}
+use Rattle.std.proofs.Common.{◌≡◌, inl, inr, ℕ, true, List, [], ◌++◌, Option, Some, None, refl, sym, ◌∙◌, ap, subst, append_assoc}
 use Rattle.std.specs.Option.{option_map}
 use Rattle.indexmap.specs.IndexMap.{get_by_text}
 use Rattle.log_text.specs.declared.form.Version.TheVariants.{Two}
 use Rattle.log_text.specs.declared.tail.Tail.{Tail}
 use Rattle.log_text.specs.declared.tail.Tail.TheVariants.{Whole}
-use Rattle.log_text.specs.Text.{IsEnded, IsLogOf, IsRead}
+use Rattle.log_text.specs.Text.{IsEnded, IsRead}
 use Rattle.model.specs.declared.event.Moment.{Moment}
 use Rattle.model.specs.World.{World, File, content_of, file_at}
 use Rattle.model.specs.Calls.{OnlyLooks, Sees, content_or_empty}

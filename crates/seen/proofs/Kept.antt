@@ -1,6 +1,6 @@
 -- What was seen may be noted, and each call keeps the notes true.
-use Rattle.std.proofs.Common.{◌≡◌, ◌⊎◌, inl, inr, ℕ, Bool, true, false, if◌then◌else◌, ◌&&◌, not, is_some, List, [], ◌++◌, Option, Some, None, Result, Ok, Err, length, max, refl, sym, ◌∙◌, ap, subst}
-use Rattle.std.specs.Prelude.{IsTrue, IfOk, OnErr, OnOk, bytes_eq, ◌==◌}
+use Rattle.std.proofs.Common.{◌≡◌, inl, inr, ℕ, Bool, true, false, if◌then◌else◌, ◌&&◌, not, is_some, List, [], ◌++◌, Option, Some, None, Result, Ok, Err, length, max, refl, sym, ◌∙◌, ap, subst}
+use Rattle.std.specs.Prelude.{IsTrue, IfOk, OnErr, OnOk, bytes_eq}
 use Rattle.std.proofs.Math.Logic.{∥∥₁_map}
 use Rattle.std.proofs.lemmas.Bool.{cases_Bool, cond-true, cond-false, false≢true}
 use Rattle.std.proofs.lemmas.Slice.Eq.{bytes_eq-Decides}
@@ -17,10 +17,10 @@ use Rattle.seen_log.specs.declared.note.Kind.TheVariants.{Made, Source}
 use Rattle.seen_log.specs.declared.note.Last.{Last}
 use Rattle.seen_log.specs.declared.note.Noted.{Noted}
 use Rattle.seen_log.specs.Log.{counts_of}
-use Rattle.seen_law.specs.Retold.{none_started, stamp_told, started_after, told_file, under}
+use Rattle.seen_law.specs.Retold.{stamp_told, under}
 use Rattle.seen_law.specs.Laws.{started_so}
-use Rattle.seen_true.specs.Counting.{absence, counts_file, is_as_noted, is_turned, no_size, telling}
-use Rattle.seen_true.specs.Laws.{found_number, is_late, number_of}
+use Rattle.seen_true.specs.Counting.{counts_file, is_as_noted, is_turned, no_size, telling}
+use Rattle.seen_true.specs.Laws.{found_number, is_late}
 use Rattle.seen_true.specs.Notes.{Stood}
 use Rattle.seen_true.specs.Going.{AbsenceNotes, Adds, CallsNote, CallsStand, Found, FoundInCall, LinesNote, NoneInCall, NoteCallsNote, Notes, NotesStand, course, since}
 use Rattle.seen.specs.declared.answer.Looked.{Looked}
@@ -31,12 +31,12 @@ use Rattle.seen.specs.declared.own.Own.{Own}
 use Rattle.seen.specs.Answered.{placed_by}
 use Rattle.seen.specs.Beginning.{counts_at, noted_of, past_of, started_by}
 use Rattle.seen.specs.Begun.{Begun, GoesOn}
-use Rattle.seen.specs.Judged.{judged, judged_same, left_number, plainly, turned, under as noted_under}
-use Rattle.seen.specs.Known.{MayLeave, MaySee, NumbersSo, known_of, number_by}
+use Rattle.seen.specs.Judged.{judged, left_number, plainly, turned, under as noted_under}
+use Rattle.seen.specs.Known.{MayLeave, MaySee, NumbersSo, TellingsAreSame, known_of}
 use Rattle.seen.specs.Looking.{KnowsSame, NotesStart, looked_at, looked_by, looked_own, looked_there}
-use Rattle.seen.specs.Makers.{maker_of}
+use Rattle.seen.specs.Makers.{made_in, maker_of}
 use Rattle.seen.specs.Measured.{measure_of, measured_at}
-use Rattle.seen.specs.Noting.{AbsenceOf, AwayOf, LeftOf, LineOf, LinesOf, NeverOf, SeenOf, UnlessSettled, UnmadeOf, is_absence}
+use Rattle.seen.specs.Noting.{AbsenceOf, AwayOf, LeftOf, LinesOf, NeverOf, UnlessSettled, UnmadeOf, is_absence}
 use Rattle.seen.specs.Own.{is_own}
 use Rattle.seen.proofs.Seeing.{looked_told, placed_there}
 
@@ -62,6 +62,13 @@ judged_counts (Some n) is_output number file =
 pub known_counts : (k : Counts) (p : List ℕ) (file : File) → (telling (known_of k)).counts p file ≡ counts_at k.notes k.makers k.own k.number p file
 known_counts k p file =
     ap (λ (c : Option ℕ). if is_own k.own p then Some file.stamp else c) (judged_counts (noted_of k.notes p) (is_some (maker_of k.makers p)) k.number file)
+
+pub tellings_law : TellingsAreSame
+tellings_law k = λ i. record {
+  counts = λ p file. sym (known_counts k p file) i;
+  makes = made_in k.makers.listed.items k.makers.listed.items;
+  hidden = λ p. bytes_eq k.own.seen p;
+}
 
 new_number : (late : Bool) (stamp : ℕ) (a : Judged) → a.number ≡ Some 0 → (if late then Some stamp else Some 0) ≡ (if late then noted_under stamp Source else a).number
 new_number true stamp a is = refl

@@ -1,5 +1,5 @@
 -- How what is found at a path counts, by what is noted of it. All is this project's own.
-use Rattle.std.specs.Prelude.{ℕ, ◌+◌, ◌-◌, ◌%◌, ◌^◌, ◌==◌, ◌&&◌, ◌||◌, not, max, min, nat_lt, Bool, true, false, if◌then◌else◌, Option, Some, None, is_some}
+use Rattle.std.specs.Prelude.{ℕ, ◌+◌, ◌-◌, ◌^◌, ◌==◌, ◌&&◌, ◌||◌, not, max, min, Bool, true, false, if◌then◌else◌, Option, Some, None, is_some}
 use Rattle.seen_log.specs.declared.note.Kind.{Kind}
 use Rattle.seen_log.specs.declared.note.Kind.TheVariants.{Source, Made, Turned}
 use Rattle.seen_log.specs.declared.note.Noted.{Noted}

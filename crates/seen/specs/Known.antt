@@ -7,12 +7,12 @@ use Rattle.model.specs.World.{World}
 use Rattle.seen_log.specs.declared.note.Note.{Note}
 use Rattle.seen_log.specs.Log.{noted_in_force}
 use Rattle.seen_log.specs.Record.{forms}
-use Rattle.seen_true.specs.Counting.{Knowing}
+use Rattle.seen_true.specs.Counting.{Knowing, telling}
 use Rattle.seen_true.specs.Laws.{found_number}
 use Rattle.seen_true.specs.Going.{BaseIsWhole, EntersBy, Notes}
 use Rattle.seen.specs.declared.answer.Looked.{Looked}
 use Rattle.seen.specs.declared.counts.Counts.{Counts}
-use Rattle.seen.specs.Beginning.{noted_of, past_of}
+use Rattle.seen.specs.Beginning.{noted_of, past_of, telling_of}
 use Rattle.seen.specs.Begun.{Begun}
 use Rattle.seen.specs.Judged.{judged}
 use Rattle.seen.specs.Makers.{made_in, maker_of}
@@ -65,3 +65,7 @@ MaySee tells b world p looked =
 abbrev pub MayLeave : (tells : Bool) → Begun → World → List ℕ → Looked → Type 0
 MayLeave tells b world p looked =
     (base : Option (List ℕ)) (lines more : List ℕ) → LeftOf looked.found looked.counts looked.last p lines more → Notes tells b base lines world → Notes tells b base more world
+
+-- How files are told by what is known is as the laws of notes have it.
+abbrev pub TellingsAreSame : Type 0
+TellingsAreSame = (k : Counts) → telling_of k.notes k.makers k.own k.number ≡ telling (known_of k)
