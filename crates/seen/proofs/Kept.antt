@@ -403,3 +403,6 @@ pub numbers_start : (b : Begun) (old new : Counts) (job : ℕ) (start : Option �
 numbers_start b old new job start notes is p s stamp size =
     is p s stamp size
     ∙ (λ i. (judged (record { noted = noted_of (sym notes.notes i) p; is_output = is_some (maker_of (sym notes.makers i) p); since = s }) (sym notes.number i) (Some (record { stamp = stamp; size = Some size; placed = stamp }))).number)
+
+pub notes_as : (tells : Bool) (b : Begun) (base other : Option (List ℕ)) (lines more : List ℕ) (w : World) → base ≡ other → lines ≡ more → Notes tells b base lines w → Notes tells b other more w
+notes_as tells b base other lines more w one two notes = subst (λ (o : Option (List ℕ)). Notes tells b o more w) one (subst (λ (l : List ℕ). Notes tells b base l w) two notes)

@@ -218,32 +218,37 @@ impl<S: Measured, B: Beginning> Retold<S, B> {
         Ok(self.known.look_by(self.is_begun, path, found)?)
     }
 
-    /// Notes what was seen of the path, where it is to be noted and was not asked for before in this build.
-    pub fn note(&mut self, path: &str, looked: &Looked) -> Result<(), AllocError>
-        requires may { MaySee S.tells B.begun (S.world self.old.site) path.now looked.now }
-        ensures site { self.new.site ≡ self.old.site }
-        ensures known { self.new.known ≡ self.old.known }
-        ensures one { self.new.is_for_one ≡ self.old.is_for_one }
+    /// Looks at the path, and notes what was seen, where it is to be noted and was not asked for before in this build.
+    pub fn see(&mut self, path: &str) -> Result<Looked, SiteFault>
+        ensures looks { OnlyLooks S.tells (told_world S.tells B.begun (S.world self.old.site)) (told_world S.tells B.begun (S.world self.new.site)) }
+        ensures cause { HasCause (told_world S.tells B.begun (S.world self.old.site)) (told_world S.tells B.begun (S.world self.new.site)) result }
+        ensures waits { KeepsWait (told_world S.tells B.begun (S.world self.old.site)) (told_world S.tells B.begun (S.world self.new.site)) }
+        ensures stamp { IsTrue S.tells → IfOk result (λ looked. Sees (λ history. stamp_of (file_at history path.now)) looked.counts (told_world S.tells B.begun (S.world self.old.site)).history (told_world S.tells B.begun (S.world self.new.site)).history) }
         ensures grows { OnOk result (Grows self.old.noted.lines.items self.new.noted.lines.items) }
+        ensures own { self.new.known.own ≡ self.old.known.own }
+        ensures one { self.new.is_for_one ≡ self.old.is_for_one }
     {
+        let looked = self.look(path)?;
         let torn = self.torn;
         self.torn = true;
-        self.noted.note(path, looked)?;
+        self.noted.note(path, &looked)?;
         self.torn = torn;
-        Ok(())
+        Ok(looked)
     }
 
-    /// Notes what was seen of this output, whose command has ended well, as it counts.
-    pub fn note_left(&mut self, output: &str, looked: &Looked) -> Result<(), AllocError>
-        requires may { MayLeave S.tells B.begun (S.world self.old.site) output.now looked.now }
-        ensures site { self.new.site ≡ self.old.site }
-        ensures known { self.new.known ≡ self.old.known }
-        ensures one { self.new.is_for_one ≡ self.old.is_for_one }
+    /// Looks at this output, whose command has ended well, and notes what was seen as it counts.
+    pub fn see_left(&mut self, output: &str) -> Result<(), SiteFault>
+        ensures looks { OnlyLooks S.tells (told_world S.tells B.begun (S.world self.old.site)) (told_world S.tells B.begun (S.world self.new.site)) }
+        ensures cause { HasCause (told_world S.tells B.begun (S.world self.old.site)) (told_world S.tells B.begun (S.world self.new.site)) result }
+        ensures waits { KeepsWait (told_world S.tells B.begun (S.world self.old.site)) (told_world S.tells B.begun (S.world self.new.site)) }
         ensures grows { OnOk result (Grows self.old.noted.lines.items self.new.noted.lines.items) }
+        ensures own { self.new.known.own ≡ self.old.known.own }
+        ensures one { self.new.is_for_one ≡ self.old.is_for_one }
     {
+        let looked = self.look(output)?;
         let torn = self.torn;
         self.torn = true;
-        self.noted.end(output, looked)?;
+        self.noted.end(output, &looked)?;
         self.torn = torn;
         Ok(())
     }

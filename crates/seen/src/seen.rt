@@ -190,15 +190,13 @@ impl<S: Measured, B: Beginning> Seen<S, B> {
         Ok(())
     }
 
-    #[tactic(auto, using(crate::proofs::Answered::asks_none, crate::proofs::Answered::asks_more, crate::proofs::Answered::asks_fail, crate::proofs::Answered::asks_no_room, crate::proofs::Growing::grows_none, crate::proofs::Growing::grows_then))]
+    #[tactic(auto, using(crate::proofs::Answered::asks_call))]
     fn ask_left(&mut self, output: &str) -> Result<(), SiteFault>
         ensures asks { Asks S.tells (told_world S.tells B.begun (S.world self.old.retold.site)) (told_world S.tells B.begun (S.world self.new.retold.site)) result }
         ensures grows { OnOk result (Grows self.old.retold.noted.lines.items self.new.retold.noted.lines.items) }
         ensures own { self.new.retold.known.own ≡ self.old.retold.known.own }
     {
-        let looked = self.retold.look(output)?;
-        self.retold.note_left(output, &looked)?;
-        Ok(())
+        self.retold.see_left(output)
     }
 
     /// Asks for these paths, which a command told that it read, as far as that was not done in this build, and notes them.
@@ -224,8 +222,7 @@ impl<S: Measured, B: Beginning> Seen<S, B> {
         if self.retold.known.is_made(path) || self.retold.noted.is_settled(path, last) {
             return Ok(());
         }
-        let looked = self.retold.look(path)?;
-        self.retold.note(path, &looked)?;
+        self.retold.see(path)?;
         Ok(())
     }
 }
@@ -257,8 +254,7 @@ impl<S: Measured, B: Beginning> Site for Seen<S, B> {
     ghost outcome = { S.outcome };
 
     fn stat(&mut self, path: &str) -> Result<Option<u64>, SiteFault> {
-        let looked = self.retold.look(path)?;
-        self.retold.note(path, &looked)?;
+        let looked = self.retold.see(path)?;
         Ok(looked.counts)
     }
 
