@@ -19,3 +19,9 @@ returns-in_err-entry_of-in-None-clause-asks g c =
 
 pub returns-in_ok-entry_of-in-None-clause-asks : goal.returns-in_ok-entry_of-in-None-clause-asks
 returns-in_ok-entry_of-in-None-clause-asks g c = asks_more g.S.Texts.tells (g.S.Texts.world c.args.site.now) (g.S.Texts.world c.last_start.new.site) (g.S.Texts.world c.read.new.self) c.in_ok-start.start c.in_ok-content.content c.in_ok-entry_of-in-None.field-0 c.in_ok-start.ensures c.in_ok-content.ensures.looks c.in_ok-content.ensures.cause c.in_ok-content.ensures.waits
+
+pub returns-in_ok-entry_of-in-Some-clause-enters : goal.returns-in_ok-entry_of-in-Some-clause-enters
+returns-in_ok-entry_of-in-Some-clause-enters g c = ?
+
+pub returns-in_ok-entry_of-in-None-clause-enters : goal.returns-in_ok-entry_of-in-None-clause-enters
+returns-in_ok-entry_of-in-None-clause-enters g c = ?
