@@ -8,7 +8,7 @@ use Rattle.log_text.specs.declared.tail.Tail.TheVariants.{Whole}
 use Rattle.log_text.specs.Text.{IsEnded, IsRead}
 use Rattle.model.specs.declared.event.Moment.{Moment}
 use Rattle.model.specs.World.{World, File, content_of, file_at}
-use Rattle.model.specs.Calls.{OnlyLooks, Sees, content_or_empty}
+use Rattle.model.specs.Calls.{OthersWrote, Sees, content_or_empty}
 use Rattle.seen_log.specs.declared.log.Log.{Log}
 use Rattle.seen_log.specs.declared.note.Last.{Last}
 use Rattle.seen_log.specs.declared.note.Note.{Note}
@@ -77,11 +77,10 @@ text_none (Some file) is = absurd (never is)
     never e = cc
 
 -- it was read at this moment of a call, behind a look
-pub entered_at : (k : Counts) (base : Option (List ℕ)) (x0 x1 x2 : World) (seen text : List ℕ) (content : Option (List ℕ)) → OnlyLooks true x0 x1
+pub entered_at : (k : Counts) (base : Option (List ℕ)) (x0 x1 x2 : World) (seen text : List ℕ) (content : Option (List ℕ)) (running : ℕ → Type 0) → OthersWrote running x0.history x1.history
     → (sees : Sees (λ history. content_of (file_at history seen)) content x1.history x2.history) → k.own.seen ≡ seen
     → content_or_empty (file_at (x1.history ++ sees.earlier) seen) ≡ text → IsEntryOf text k base → EntersAt k base x0.history x2.history
-entered_at k base x0 x1 x2 seen text content looks sees here held entry =
-    let before = looks.history refl in
+entered_at k base x0 x1 x2 seen text content running before sees here held entry =
     let joined : x1.history ++ sees.earlier ≡ x0.history ++ (before.more ++ sees.earlier) =
     ap (λ (h : List Moment). h ++ sees.earlier) before.grows ∙ append_assoc x0.history before.more sees.earlier in
     let text_is : content_or_empty (file_at (x0.history ++ (before.more ++ sees.earlier)) k.own.seen) ≡ text =

@@ -271,28 +271,28 @@ impl<S: Measured, B: Beginning> Retold<S, B> {
             return Err(self.refuse_read());
         }
         self.torn = true;
-        self.put_base()?;
+        let base = self.base.take();
+        self.put_base(base)?;
         self.put_behind()?;
         self.torn = false;
         self.noted.let_go();
         Ok(())
     }
 
-    /// Puts the text in the place of the notes that is to be there before a line is put behind them, if there is one.
+    /// Puts this text in the place of the notes, if there is one.
     #[tactic(auto, using(crate::proofs::Answered::asks_none, crate::proofs::Answered::asks_call, crate::proofs::Putting::may_not, crate::proofs::Putting::may_replace))]
-    fn put_base(&mut self) -> Result<(), SiteFault>
+    fn put_base(&mut self, base: Option<Vec<u8>>) -> Result<(), SiteFault>
         requires torn { self.old.torn ≡ true }
-        requires notes { Notes S.tells B.begun (option_map (λ text. text.items) self.old.base) self.old.noted.lines.items (S.world self.old.site) }
+        requires notes { Notes S.tells B.begun (option_map (λ text. text.items) base) self.old.noted.lines.items (S.world self.old.site) }
         ensures asks { Asks S.tells (told_world S.tells B.begun (S.world self.old.site)) (told_world S.tells B.begun (S.world self.new.site)) result }
         ensures before { OnOk result (MayReplace S.tells self.old.known.own.seen (S.world self.old.site) (S.world self.new.site)) }
         ensures notes { OnOk result (Notes S.tells B.begun None self.old.noted.lines.items (S.world self.new.site)) }
         ensures noted { self.new.noted ≡ self.old.noted }
         ensures known { self.new.known ≡ self.old.known }
         ensures torn { self.new.torn ≡ true }
-        ensures base { self.new.base ≡ None }
+        ensures base { self.new.base ≡ self.old.base }
         ensures one { self.new.is_for_one ≡ self.old.is_for_one }
     {
-        let base = self.base.take();
         match base {
             Some(base) => self.put_anew(base.as_slice()),
             None => Ok(()),
@@ -407,6 +407,7 @@ impl<S: Measured, B: Beginning> Retold<S, B> {
         ensures same { KnowsSame self.old.known self.new.known }
         ensures site { self.new.site ≡ self.old.site }
         ensures one { self.new.is_for_one ≡ self.old.is_for_one }
+        ensures noted { self.new.noted ≡ self.old.noted }
     {
         if !self.is_for_one {
             return false;
@@ -449,6 +450,9 @@ impl<S: Measured, B: Beginning> Texts for Retold<S, B> {
 }
 
 impl<S: Measured, B: Beginning> Site for Retold<S, B> {
+    ghost use Rattle.std.specs.Prelude.{◌≡◌, OnErr, OnOk};
+    ghost use Rattle.model.specs.Calls.{Appends, AppendsOrNot, HasCause, KeepsWait};
+
     ghost outcome = { S.outcome };
 
     fn stat(&mut self, path: &str) -> Result<Option<u64>, SiteFault> {
@@ -467,7 +471,13 @@ impl<S: Measured, B: Beginning> Site for Retold<S, B> {
         self.site.tick(path)
     }
 
-    fn append(&mut self, path: &str, bytes: &[u8]) -> Result<(), SiteFault> {
+    fn append(&mut self, path: &str, bytes: &[u8]) -> Result<(), SiteFault>
+        ensures cause { HasCause (told_world S.tells B.begun (S.world self.old.site)) (told_world S.tells B.begun (S.world self.new.site)) result }
+        ensures waits { KeepsWait (told_world S.tells B.begun (S.world self.old.site)) (told_world S.tells B.begun (S.world self.new.site)) }
+        ensures appends { OnOk result (Appends S.tells path.now bytes.now (told_world S.tells B.begun (S.world self.old.site)) (told_world S.tells B.begun (S.world self.new.site))) }
+        ensures err { OnErr result (AppendsOrNot S.tells path.now bytes.now (told_world S.tells B.begun (S.world self.old.site)) (told_world S.tells B.begun (S.world self.new.site))) }
+        ensures noted { self.new.noted ≡ self.old.noted }
+    {
         writes_are_told();
         looks_are_told();
         calls_note();

@@ -11,6 +11,7 @@ use Rattle.model.specs.World.{World, file_at}
 use Rattle.log_text.specs.Text.{IsRead}
 use Rattle.model.specs.Calls.{content_or_empty, AppendsOrNot, Appends, OnlyLooks, Writes, WritesOrNot}
 use Rattle.theory.proofs.Lists.{all_parts, same_rest}
+use Rattle.theory.proofs.Files.{file_stays}
 use Rattle.seen_law.specs.Laws.{FilesAreTold, started_so}
 use Rattle.seen_log.specs.declared.note.Kind.{Kind}
 use Rattle.seen_log.specs.declared.note.Note.{Note}
@@ -22,7 +23,7 @@ use Rattle.seen_true.specs.Soundly.{written_in}
 use Rattle.seen_true.specs.Notes.{Course, IsTrueNote, IsWhole, NotesAreKept, NotesAreTrue, Sighting, grown, note_of, notes_text, real, told}
 use Rattle.seen_true.specs.Laws.{found_number, number_of}
 use Rattle.seen_true.specs.Calls.{EndsTrue, IsCallIn, IsLeftByOthers, KeepsOn}
-use Rattle.seen_true.specs.Going.{AbsenceNotes, BaseIsWhole, CallsNote, CallsStand, Entered, EntersBy, EntersNoted, Found, FoundInCall, LinesNote, NextIsNoted, NoneInCall, NoteCallsNote, Notes, NotesStand, course, since}
+use Rattle.seen_true.specs.Going.{AbsenceNotes, BaseIsWhole, CallsNote, CallsStand, Entered, EntersBy, EntersNoted, EntersStay, Found, FoundInCall, LinesNote, NextIsNoted, NoneInCall, NoteCallsNote, Notes, NotesStand, course, since}
 use Rattle.seen_true.proofs.Keeping.{entry_law, line_law}
 use Rattle.seen_true.proofs.Truth.{away_law, look_law, told_law}
 use Rattle.seen_true.proofs.Ending.{ending_law}
@@ -332,3 +333,17 @@ module _ (e : Entered) (base : Option (List ℕ)) (world : World) (is : world.hi
 pub enters_law : EntersNoted
 enters_law false e base world is begins enters = none_told e base [] world
 enters_law true e base world is begins enters = enters_so e base world (is refl) (begins refl) (enters refl)
+
+pub stay_law : EntersStay
+stay_law k base history later apart enters = record {
+  reads = record {
+    records = enters.reads.records;
+    tail = enters.reads.tail;
+    read = subst (λ (text : List ℕ). IsRead forms text enters.reads.records enters.reads.tail) (sym text_same) enters.reads.read;
+    is = enters.reads.is;
+  };
+  whole = subst (λ (text : List ℕ). BaseIsWhole text k.noted base) (sym text_same) enters.whole;
+}
+  where
+    text_same : content_or_empty (file_at (history ++ later) k.seen) ≡ content_or_empty (file_at history k.seen)
+    text_same = ap content_or_empty (file_stays k.seen history later apart)

@@ -4,7 +4,7 @@ use Rattle.std.specs.List.{AllByRecursion}
 use Rattle.model.specs.declared.act.Act.{Act}
 use Rattle.model.specs.declared.event.Moment.{Moment}
 use Rattle.model.specs.declared.graph.Edge.{Edge}
-use Rattle.model.specs.World.{World, File, IsIdle, file_at}
+use Rattle.model.specs.World.{World, File, IsIdle, IsNotAt, file_at}
 use Rattle.model.specs.Calls.{content_or_empty, OthersWrote, OnlyLooks, Writes, Appends, AppendsOrNot, Ticks, Starts, Finishes, IsRestart, WritesOrNot}
 use Rattle.model.specs.Outcome.{Behaviour}
 use Rattle.model.specs.Records.{LogFormat, OwnFiles}
@@ -175,3 +175,8 @@ abbrev pub EntersNoted : Type 0
 EntersNoted =
     (tells : Bool) (e : Entered) (base : Option (List ℕ)) (world : World) → (IsTrue tells → world.history ≡ e.first)
     → (IsTrue tells → BeginsSo (telling e.knows) e.first e.before) → (IsTrue tells → EntersBy e.knows base e.first) → Notes tells e base [] world
+
+-- it is so still where nothing was written there since
+abbrev pub EntersStay : Type 0
+EntersStay =
+    (k : Knowing) (base : Option (List ℕ)) (history later : List Moment) → AllByRecursion (IsNotAt k.seen) later → EntersBy k base history → EntersBy k base (history ++ later)

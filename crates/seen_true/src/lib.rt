@@ -4,7 +4,7 @@
 
 ghost use Rattle.seen_true.specs.Between.{BehindBegins, BehindIsSound};
 ghost use Rattle.seen_true.specs.Calls.{CallsKeepNotes, NoteCallsKeepNotes};
-ghost use Rattle.seen_true.specs.Going.{AbsenceNotes, CallsNote, CallsStand, EntersNoted, FoundInCall, LinesNote, NextIsNoted, NoneInCall, NoteCallsNote};
+ghost use Rattle.seen_true.specs.Going.{AbsenceNotes, CallsNote, CallsStand, EntersNoted, EntersStay, FoundInCall, LinesNote, NextIsNoted, NoneInCall, NoteCallsNote};
 ghost use Rattle.seen_true.specs.Killed.{KilledIsMet};
 ghost use Rattle.seen_true.specs.Laws.{AwayIsTrue, BaseKeepsNotes, CompactionFits, EntryIsTrue, LineKeepsNotes, LinesKeepNotes, LookIsTrue, MomentsKeepNotes, NotesTellTruly, SeenIsLeft, TickIsLater, ToldIsTrue};
 ghost use Rattle.seen_true.specs.Small.{PutBackIsNotSound, UnmadeIsNotSound};
@@ -143,6 +143,11 @@ pub fn note_calls_note()
 /// As it begins they are true, and nothing is to be put behind them yet.
 pub fn enters_noted()
     ensures { EntersNoted }
+{}
+
+/// What was read of them is what they tell while nobody writes them.
+pub fn enters_stay()
+    ensures { EntersStay }
 {}
 
 /// What a call found was there in the build.

@@ -1,4 +1,4 @@
-use Rattle.std.proofs.Common.{◌∙◌, refl, sym}
+use Rattle.std.proofs.Common.{◌∙◌, sym}
 use Rattle.std.proofs.lemmas.Bool.{false≢true}
 use Rattle.seen.proofs.Kept.{notes_untold}
 use Rattle.seen.proofs.retold.Retold.begin.Goals as goal
@@ -6,7 +6,7 @@ use Rattle.seen.proofs.retold.Retold.begin.Goals as goal
 pub invariant_of-self : goal.invariant_of-self
 invariant_of-self g c = record {
   one = c.args.self.now.one;
-  begun = λ one. refl;
+  begun = λ one. absurd (false≢true (sym c.requires.many ∙ one));
   counted = λ is. absurd (false≢true (sym c.requires.many ∙ c.args.self.now.one is));
   hidden = λ is. absurd (false≢true (sym c.requires.many ∙ c.args.self.now.one is));
   makes = λ is. absurd (false≢true (sym c.requires.many ∙ c.args.self.now.one is));

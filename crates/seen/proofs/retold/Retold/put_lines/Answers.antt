@@ -1,4 +1,4 @@
-use Rattle.std.proofs.Common.{◌∙◌, ap, subst, sym, [], None}
+use Rattle.std.proofs.Common.{◌∙◌, ap, subst, sym, [], None, Option, Vec, Global, ℕ}
 use Rattle.std.specs.Option.{option_map}
 use Rattle.std.proofs.lemmas.Bool.{false≢true}
 use Rattle.seen_true.specs.Going.{Notes}
@@ -37,7 +37,8 @@ invariant_of-self g c = record {
 }
 
 pub put_base-requires-clause-notes : goal.put_base-requires-clause-notes
-put_base-requires-clause-notes g c = c.args.self.now.kept c.if-torn.false
+put_base-requires-clause-notes g c =
+    subst (λ (o : Option (Vec ℕ Global)). Notes g.S.Texts.tells g.B.Beginning.begun (option_map (λ text. text.items) o) c.args.self.now.noted.lines.items (g.S.Texts.world c.args.self.now.site)) (sym c.take-base.ensures.value) (c.args.self.now.kept c.if-self.false)
 
 pub put_behind-requires-clause-notes : goal.put_behind-requires-clause-notes
 put_behind-requires-clause-notes g c =
@@ -58,5 +59,5 @@ invariant_of-self-2 g c = record {
   owns = c.put_behind.new.self.owns;
   here = c.put_behind.new.self.here;
   stand = c.put_behind.new.self.stand;
-  kept = λ whole. notes_as g.S.Texts.tells g.B.Beginning.begun None (option_map (λ text. text.items) c.put_behind.new.self.base) [] c.let_go.new.self.lines.items (g.S.Texts.world c.put_behind.new.self.site) (sym (ap (option_map (λ text. text.items)) (c.in_ok-put_behind.ensures.base ∙ c.in_ok-put_base.ensures.base))) (sym c.let_go.ensures) c.in_ok-put_behind.ensures.notes;
+  kept = λ whole. notes_as g.S.Texts.tells g.B.Beginning.begun None (option_map (λ text. text.items) c.put_behind.new.self.base) [] c.let_go.new.self.lines.items (g.S.Texts.world c.put_behind.new.self.site) (sym (ap (option_map (λ text. text.items)) (c.in_ok-put_behind.ensures.base ∙ (c.in_ok-put_base.ensures.base ∙ c.take-base.ensures.after)))) (sym c.let_go.ensures) c.in_ok-put_behind.ensures.notes;
 }
