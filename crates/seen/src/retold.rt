@@ -165,10 +165,9 @@ impl<S: Measured, B: Beginning> Retold<S, B> {
         }
     }
 
-    /// The site below; what is known is not taken apart. The notes are true there, wherever the build has ended.
+    /// The site below; what is known is not taken apart.
     pub fn into_site(self) -> S
-        ensures site { result ≡ self.site }
-        ensures stand { NotesStand S.tells B.begun (S.world result) }
+        ensures { result ≡ self.site }
     {
         let Retold {
             site,

@@ -105,11 +105,14 @@ impl<S: Measured, B: Beginning> Seen<S, B> {
         Ok(())
     }
 
-    /// The site below. What is known of paths is not taken apart: that is long in a large build, and a program that ends gives it back at once. The notes
-    /// are true there, wherever the build has ended.
+    /// The notes are true, wherever the build has come to. It does nothing: its contract is what this site keeps.
+    pub fn notes_stand(&self)
+        ensures { NotesStand S.tells B.begun (S.world self.now.retold.site) }
+    {}
+
+    /// The site below. What is known of paths is not taken apart: that is long in a large build, and a program that ends gives it back at once.
     pub fn into_site(self) -> S
-        ensures site { result ≡ self.retold.site }
-        ensures stand { NotesStand S.tells B.begun (S.world result) }
+        ensures { result ≡ self.retold.site }
     {
         let Seen { retold, .. } = self;
         retold.into_site()
