@@ -1,16 +1,14 @@
 -- What counts when a build begins, by what is known then.
-use Rattle.std.specs.Prelude.{◌≡◌, ℕ, if◌then◌else◌, is_some, List, Option, Some, None, bytes_eq, slice_get}
+use Rattle.std.specs.Prelude.{ℕ, if◌then◌else◌, is_some, List, Option, Some, None, bytes_eq, slice_get}
 use Rattle.std.specs.Option.{option_map}
 use Rattle.indexmap.specs.IndexMap.{get_by_text}
 use Rattle.model.specs.World.{File}
 use Rattle.seen_law.specs.Retold.{Telling}
 use Rattle.seen_log.specs.declared.log.Log.{Log}
 use Rattle.seen_log.specs.declared.note.Noted.{Noted}
-use Rattle.seen.specs.declared.counts.Counts.{Counts}
 use Rattle.seen.specs.declared.judging.Past.{Past}
 use Rattle.seen.specs.declared.makers.Makers.{Makers}
 use Rattle.seen.specs.declared.own.Own.{Own}
-use Rattle.seen.specs.Begun.{Begun}
 use Rattle.seen.specs.Judged.{judged}
 use Rattle.seen.specs.Makers.{made_in, maker_of}
 use Rattle.seen.specs.Measured.{measure_of}
@@ -38,10 +36,6 @@ telling_of notes makers own number = record {
   makes = made_in makers.listed.items makers.listed.items;
   hidden = λ p. bytes_eq own.seen p;
 }
-
--- the build began so that files are told by what is known
-abbrev pub TellsBy : Begun → Counts → Type 0
-TellsBy b k = b.telling ≡ telling_of k.notes k.makers k.own k.number
 
 -- ---- since then
 

@@ -1,5 +1,5 @@
 -- Which edge makes a path, by the build file.
-use Rattle.std.specs.Prelude.{◌≡◌, ℕ, zero, suc, ◌<◌, ◌==◌, Bool, true, false, if◌then◌else◌, List, [], ◌∷◌, ◌++◌, map, get_or, length, slice_get, Option, Some, None, bytes_eq, string_bytes, nat_lt}
+use Rattle.std.specs.Prelude.{◌≡◌, ℕ, zero, suc, ◌<◌, ◌==◌, Bool, true, false, if◌then◌else◌, List, [], ◌∷◌, ◌++◌, map, get_or, slice_get, Option, Some, None, bytes_eq, string_bytes, nat_lt}
 use Rattle.std.specs.List.{filter_map}
 use Rattle.std.specs.Option.{option_or, option_map}
 use Rattle.indexmap.specs.IndexMap.{get_by_text}
@@ -44,10 +44,6 @@ abbrev pub are_below : ℕ → List Output → Bool
 are_below jobs [] = true
 are_below jobs (o ∷ os) = if nat_lt o.job jobs then are_below jobs os else false
 
--- so they are with what is listed of the edge at this place
-abbrev pub StayBelow : (place : ℕ) → List Output → List Output → Type 0
-StayBelow place old new = (jobs : ℕ) → suc place < jobs → are_below jobs old ≡ true → are_below jobs new ≡ true
-
 -- ---- what is to be listed
 
 -- the outputs of a line with a command; none of a phony one
@@ -71,11 +67,3 @@ listing manifest (suc count) = listing manifest count ++ listing_at manifest cou
 -- what is listed: each text, and the number of its edge
 abbrev pub pairs_of : List Output → List (List ℕ × ℕ)
 pairs_of outputs = map (λ o. (string_bytes o.text, o.job)) outputs
-
--- all that commands make is listed
-abbrev pub ListsAll : Manifest → Makers → Type 0
-ListsAll manifest makers = pairs_of makers.listed.items ≡ listing manifest (length manifest.lines)
-
--- what the edge at this place makes was listed, too
-abbrev pub ListsMore : Manifest → (place : ℕ) → List Output → List Output → Type 0
-ListsMore manifest place old new = pairs_of new ≡ pairs_of old ++ listing_at manifest place

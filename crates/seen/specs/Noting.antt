@@ -8,6 +8,7 @@ use Rattle.seen_log.specs.declared.note.Kind.TheVariants.{Made, Source}
 use Rattle.seen_log.specs.declared.note.Last.{Last}
 use Rattle.seen_log.specs.declared.note.Noted.{Noted}
 use Rattle.seen_log.specs.Log.{Notes}
+use Rattle.seen_true.specs.Counting.{absence, no_size}
 use Rattle.seen.specs.declared.answer.Looked.{Looked}
 use Rattle.seen.specs.declared.judging.Judged.{Judged}
 use Rattle.seen.specs.declared.known.Known.{Known}
@@ -32,14 +33,7 @@ LinesOf kind (Some number) path found old new = LineOf kind number path found.st
 
 -- ---- the lines of what is absent
 
--- the size of what is absent, which no file has
-abbrev pub no_size : ℕ
-no_size = 18446744073709551615
-
--- what is noted where nothing is found, as of this kind: what comes there later is another than that
-abbrev pub absence : Kind → Noted
-absence kind = record { kind = kind; stamp = 0; size = no_size; number = 0 }
-
+-- it is noted that nothing is there
 abbrev pub is_absence : Noted → Bool
 is_absence noted = noted.size == no_size
 
@@ -95,18 +89,6 @@ is_settled known path last = settled_by known.asked.items known.fresh path last
 abbrev pub UnlessSettled : Bool → Looked → List ℕ → List ℕ → List ℕ → Type 0
 UnlessSettled true looked path old new = new ≡ old
 UnlessSettled false looked path old new = SeenOf looked.found looked.how looked.last path old new
-
--- what was seen of the path was noted, unless that was asked for in this build
-abbrev pub NotesSeen : List ℕ → Looked → Known → Known → Type 0
-NotesSeen path looked old new = UnlessSettled (is_settled old path looked.last) looked path old.lines.items new.lines.items
-
--- it was noted
-abbrev pub NotesFound : List ℕ → Looked → Known → Known → Type 0
-NotesFound path looked old new = SeenOf looked.found looked.how looked.last path old.lines.items new.lines.items
-
--- what its command left there was noted
-abbrev pub NotesLeft : List ℕ → Looked → Known → Known → Type 0
-NotesLeft path looked old new = LeftOf looked.found looked.counts looked.last path old.lines.items new.lines.items
 
 -- ---- the file of the notes
 

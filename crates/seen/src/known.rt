@@ -14,9 +14,6 @@ use std::alloc::{AllocError, Global};
 /// The size that is noted where nothing is found, which no file has.
 const NO_SIZE: u64 = 18_446_744_073_709_551_615;
 
-/// As many bytes as a line has at most beside its path, if no byte of that is written as two: room for them is made at once.
-const ROOM: usize = 96;
-
 /// What was noted in one build, and the lines of that which are still to be put behind the notes.
 #[derive(Drop)]
 pub struct Known {
@@ -31,7 +28,8 @@ pub struct Known {
 impl Known {
     ghost use Rattle.std.specs.Prelude.{◌≡◌, [], OnOk};
     ghost use Rattle.model.specs.Graph.{has};
-    ghost use Rattle.seen.specs.Noting.{AbsenceOf, AwayOf, Grows, LeftOf, LinesOf, NeverOf, NotesFound, NotesLeft, NotesSeen, SeenOf, UnmadeOf, absence, is_marked, is_settled};
+    ghost use Rattle.seen_true.specs.Counting.{absence};
+    ghost use Rattle.seen.specs.Noting.{AbsenceOf, AwayOf, Grows, LeftOf, LinesOf, NeverOf, SeenOf, UnlessSettled, UnmadeOf, is_marked, is_settled};
 
     /// Nothing was noted. This takes no memory.
     pub fn new(alloc: Global) -> Known
@@ -48,7 +46,7 @@ impl Known {
     /// Notes what was seen of a path, where it is to be noted and was not asked for before in this build.
     #[tactic(auto, using(crate::proofs::Growing::settled_yes, crate::proofs::Growing::settled_not, crate::proofs::Growing::grows_none))]
     pub fn note(&mut self, path: &str, looked: &Looked) -> Result<(), AllocError>
-        ensures noted { OnOk result (NotesSeen path.now looked.now self.old self.new) }
+        ensures noted { OnOk result (UnlessSettled (is_settled self.old path.now looked.now.last) looked.now path.now self.old.lines.items self.new.lines.items) }
         ensures grows { OnOk result (Grows self.old.lines.items self.new.lines.items) }
     {
         if self.is_settled(path, looked.last) {
@@ -59,7 +57,7 @@ impl Known {
 
     /// The same, where it was not asked for before.
     fn note_first(&mut self, path: &str, looked: &Looked) -> Result<(), AllocError>
-        ensures lines { OnOk result (NotesFound path.now looked.now self.old self.new) }
+        ensures lines { OnOk result (SeenOf looked.now.found looked.now.how looked.now.last path.now self.old.lines.items self.new.lines.items) }
         ensures grows { OnOk result (Grows self.old.lines.items self.new.lines.items) }
     {
         self.note_seen(path, looked.found, looked.how, looked.last)?;
@@ -193,7 +191,7 @@ impl Known {
         ensures notes { OnOk result (Notes path.now noted self.old.lines.items self.new.lines.items) }
         ensures grows { OnOk result (Grows self.old.lines.items self.new.lines.items) }
     {
-        let mut line = Vec::with_capacity(self.alloc, path.len().saturating_add(ROOM))?;
+        let mut line = Vec::new(self.alloc);
         note_line(&mut line, path, noted)?;
         self.lines.extend_from_slice(line.as_slice())
     }
@@ -227,7 +225,7 @@ impl Known {
 
     /// The command that makes this output has ended well, and this is seen of it: that is noted as it counts, and what is absent is, too.
     pub fn end(&mut self, output: &str, looked: &Looked) -> Result<(), AllocError>
-        ensures noted { OnOk result (NotesLeft output.now looked.now self.old self.new) }
+        ensures noted { OnOk result (LeftOf looked.now.found looked.now.counts looked.now.last output.now self.old.lines.items self.new.lines.items) }
         ensures grows { OnOk result (Grows self.old.lines.items self.new.lines.items) }
     {
         self.note_left(output, looked.found, looked.counts, looked.last)?;

@@ -1,7 +1,7 @@
 //! Which edge makes a path.
 
-ghost use Rattle.std.specs.Prelude.{◌≡◌, ◌<◌, suc, length, IfOk, OnOk};
-ghost use Rattle.seen.specs.Makers.{ListsMore, StayBelow};
+ghost use Rattle.std.specs.Prelude.{◌≡◌, ◌<◌, ◌++◌, ℕ, suc, true, length, IfOk, OnOk};
+ghost use Rattle.seen.specs.Makers.{are_below, listing_at, pairs_of};
 
 use bumpalo::Bump;
 use indexmap::IndexMap;
@@ -27,8 +27,8 @@ pub struct Makers {
 }
 
 impl Makers {
-    ghost use Rattle.std.specs.Prelude.{◌≡◌, [], ℕ, List, None, IfOk, OnOk};
-    ghost use Rattle.seen.specs.Makers.{AreJobs, ListsAll, MakesSame, maker_of};
+    ghost use Rattle.std.specs.Prelude.{◌≡◌, [], ℕ, List, None, length, IfOk, OnOk};
+    ghost use Rattle.seen.specs.Makers.{AreJobs, MakesSame, listing, maker_of, pairs_of};
 
     /// None, which takes no memory.
     pub fn new(alloc: Global) -> Makers
@@ -48,7 +48,7 @@ impl Makers {
     pub fn of(alloc: Global, manifest: &Manifest) -> Result<Makers, AllocError>
         ensures jobs { IfOk result AreJobs }
         ensures table { IfOk result (λ makers. makers.table.entries ≡ []) }
-        ensures lists { IfOk result (λ makers. ListsAll manifest.now makers) }
+        ensures lists { IfOk result (λ makers. pairs_of makers.listed.items ≡ listing manifest.now (length manifest.now.lines)) }
     {
         let arena = arena(alloc)?;
         let mut listed = Vec::new(alloc);
@@ -114,8 +114,8 @@ fn list_outputs(
     listed: &mut Vec<Output>,
 ) -> Result<(), AllocError>
     requires { place < length manifest.now.lines }
-    ensures below { OnOk result (StayBelow place listed.old.items listed.new.items) }
-    ensures lists { OnOk result (ListsMore manifest.now place listed.old.items listed.new.items) }
+    ensures below { OnOk result ((jobs : ℕ) → suc place < jobs → are_below jobs listed.old.items ≡ true → are_below jobs listed.new.items ≡ true) }
+    ensures lists { OnOk result (pairs_of listed.new.items ≡ pairs_of listed.old.items ++ listing_at manifest.now place) }
 {
     let edge = manifest.edge(place);
     if matches!(manifest.action(edge), Action::Alias) {

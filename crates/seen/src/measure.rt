@@ -1,7 +1,9 @@
 //! What a site tells of a file beside its stamp.
 
-ghost use Rattle.model.specs.Calls.{HasCause, KeepsWait, OnlyLooks};
-ghost use Rattle.seen.specs.Measured.{FindsContent, FindsMeasure};
+ghost use Rattle.std.specs.Prelude.{IsTrue, IfOk};
+ghost use Rattle.model.specs.World.{file_at};
+ghost use Rattle.model.specs.Calls.{HasCause, KeepsWait, OnlyLooks, Sees};
+ghost use Rattle.seen.specs.Measured.{measured_at, read_at};
 
 use site::{Site, SiteFault};
 use text::Bytes;
@@ -25,14 +27,14 @@ pub trait Measured: Site {
         ensures looks { OnlyLooks Self.tells (Self.world self.old) (Self.world self.new) }
         ensures cause { HasCause (Self.world self.old) (Self.world self.new) result }
         ensures waits { KeepsWait (Self.world self.old) (Self.world self.new) }
-        ensures measure { FindsMeasure Self.tells path.now (Self.world self.old) (Self.world self.new) result };
+        ensures measure { IsTrue Self.tells → IfOk result (λ found. Sees (λ history. measured_at (file_at history path.now)) found (Self.world self.old).history (Self.world self.new).history) };
 
     /// What the file at the path holds, and its measure, in one look, or nothing where there is no file.
     fn read_measured(&mut self, path: &str) -> Result<Option<(Bytes, Measure)>, SiteFault>
         ensures looks { OnlyLooks Self.tells (Self.world self.old) (Self.world self.new) }
         ensures cause { HasCause (Self.world self.old) (Self.world self.new) result }
         ensures waits { KeepsWait (Self.world self.old) (Self.world self.new) }
-        ensures content { FindsContent Self.tells path.now (Self.world self.old) (Self.world self.new) result };
+        ensures content { IsTrue Self.tells → IfOk result (λ found. Sees (λ history. read_at (file_at history path.now)) found (Self.world self.old).history (Self.world self.new).history) };
 
     /// What time it is, in the numbers of stamps; 0 where that is not known. No clause says that it is right: a clock is not told.
     fn now(&self) -> u64;
