@@ -145,6 +145,8 @@ impl<S: Measured, B: Beginning> Retold<S, B> {
     /// A build begins, this is known, and this text takes the place of the notes before a line is put behind them, if there is one.
     pub fn begin(&mut self, alloc: Global, known: Counts, base: Option<Vec<u8>>)
         requires many { self.old.is_for_one ≡ false }
+        ensures known { self.new.known ≡ known }
+        ensures begun { self.new.is_begun ≡ true }
         ensures site { self.new.site ≡ self.old.site }
         ensures many { self.new.is_for_one ≡ false }
     {
@@ -185,6 +187,10 @@ impl<S: Measured, B: Beginning> Retold<S, B> {
     pub fn make(&mut self, alloc: Global, path: &str) -> Result<(), AllocError>
         ensures site { self.new.site ≡ self.old.site }
         ensures own { self.new.known.own ≡ self.old.known.own }
+        ensures notes { self.new.known.notes ≡ self.old.known.notes }
+        ensures makers { self.new.known.makers ≡ self.old.known.makers }
+        ensures number { self.new.known.number ≡ self.old.known.number }
+        ensures starts { self.new.known.starts ≡ self.old.known.starts }
         ensures one { self.new.is_for_one ≡ self.old.is_for_one }
         ensures noted { self.new.noted ≡ self.old.noted }
     {
