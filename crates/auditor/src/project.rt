@@ -1,6 +1,7 @@
 //! A project that is audited: what is declared and recorded, and what is told of the trace of each command.
 
 ghost use Rattle.std.specs.Prelude.{◌≡◌, IfOk, IfSome, OnOk, [], length, slice_get, string_bytes, unwrap_or};
+ghost use Rattle.std.specs.Map.Iter.{deref};
 ghost use Rattle.std.specs.Option.{option_map};
 ghost use Rattle.trace.specs.Lines.{IsTold, told};
 ghost use Rattle.audit.specs.Seen.{sums_in};
@@ -107,7 +108,7 @@ impl Auditor {
         trace: Option<&[u8]>,
         tally: &mut Tally,
     ) -> Result<(), AllocError>
-        ensures { OnOk result (TakesIn self.now.scratch (string_bytes self.now.names.folder) (option_map (λ trace. trace.now) trace.entry) tally.old.counts tally.new.counts) }
+        ensures { OnOk result (TakesIn self.now.scratch (string_bytes self.now.names.folder) (option_map deref trace.entry) tally.old.counts tally.new.counts) }
     {
         let Some(edge) = EdgeId::at(job.saturating_sub(1)) else {
             return Ok(());

@@ -35,7 +35,7 @@ use Rattle.plan.specs.Flags.{has as has_flag}
 use Rattle.plan.specs.declared.plan.Plan.{Plan}
 use Rattle.plan.specs.Planned.{IsPlanned}
 use Rattle.work.specs.declared.state.State.{State}
-use Rattle.work.specs.Course.{Course, Suits, IsOn}
+use Rattle.work.specs.Course.{Course, IsOwnTick, HasCone, Suits, IsOn}
 use Rattle.builder.specs.declared.asked.Asked.{Asked as Request}
 use Rattle.builder.specs.Build.{asked_of}
 use Rattle.work.specs.Standing.{BeginsAt, grown_course}
@@ -157,8 +157,8 @@ module _ (tells : Bool) (graph : Graph) (request : Request) (records : Records) 
       (carried_looks tells B format own asked told entry [] true [] None entry now may.looked.looks
       (carried_entry tells B format own asked told entry refl others refl may.idle))
 
-  suits : (tick : List ℕ) → tick ≡ file_in request.folder tick_name → Suits first tick graph
-  suits tick is = record {
+  suits : Suits first graph
+  suits = record {
     same = refl;
     recorded = may.in_use;
     once = once;
@@ -166,15 +166,20 @@ module _ (tells : Bool) (graph : Graph) (request : Request) (records : Records) 
     depfiles = may.reads;
     log_owned = ap own.files may.owned.build_log ∙ may.owned.is_log;
     deps_owned = ap own.files may.owned.deps_log ∙ may.owned.is_deps;
+    idle = may.idle;
+  }
+
+  own_tick : (tick : List ℕ) → tick ≡ file_in request.folder tick_name → IsOwnTick own tick
+  own_tick tick is = record {
     owned = ap own.files is ∙ may.owned.tick;
     no_build_log = λ other. tick_is_no_build_log request.folder (sym is ∙ (other ∙ may.owned.build_log));
     no_deps_log = λ other. tick_is_no_deps_log request.folder (sym is ∙ (other ∙ may.owned.deps_log));
-    idle = may.idle;
   }
 
   module _ (cone : Cone) (listed : IsConeIn graph store request.targets cone) (plan : Plan) (flags : (p : ℕ) → has_flag plan.changed.items p ≡ false) (planned : IsPlanned (task_of asked store) graph plan [])
       (looks : Looks) (unseen : looks.seen.items ≡ replicate (length graph.manifest.paths) Unasked)
-      (state : State) (plan_is : state.plan ≡ plan) (looks_are : state.looks ≡ looks) (records_are : state.records ≡ records) (none : state.failed.items ≡ []) (starts : vec_len state.starts ≡ length graph.manifest.lines) where
+      (state : State) (plan_is : state.plan ≡ plan) (looks_are : state.looks ≡ looks) (records_are : state.records ≡ records) (none : state.failed.items ≡ []) (starts : vec_len state.starts ≡ length graph.manifest.lines)
+      (ticks : state.tick ≡ file_in request.folder tick_name) (cone_is : state.cone ≡ cone) where
     unasked : AreUnasked state.looks
     unasked = none_asked (length graph.manifest.paths) state.looks (ap (λ (l : Looks). l.seen.items) looks_are ∙ unseen)
 
@@ -201,21 +206,20 @@ module _ (tells : Bool) (graph : Graph) (request : Request) (records : Records) 
       started = λ e runs. absurd (false≢true runs);
       removed = record { responses = λ i well. absurd (false≢true well); depfiles = λ i well. absurd (false≢true well); stay = λ i well. absurd (false≢true well) };
       room = record { looks = ap (λ (l : Looks). length l.seen.items) looks_are ∙ all_there (length graph.manifest.paths) looks unseen; starts = omega (arith, starts, state.starts.ok.0) };
+      cone = subst (λ (k : Cone). HasCone first.asked first.store graph k) (sym {A = Cone} cone_is) (record { listed = listed.listed; within = listed.within; numbers = listed.numbers });
+      ticking = own_tick state.tick ticks;
       noted = ap (map suc) none;
     }
 
-    pub begins : (tick : List ℕ) → tick ≡ file_in request.folder tick_name → BeginsAt tells tick course (declared_by graph).edges [] graph cone state now
-    begins tick is = record {
+    pub begins : BeginsAt tells course (declared_by graph).edges [] graph state now
+    begins = record {
       stands = record {
         goes = refl;
         dyndeps = may.dyndeps;
         others = others;
-        suits = suits tick is;
+        suits = suits;
         on = on;
-        listed = listed.listed;
         acyclic = listed.acyclic;
-        within = listed.within;
-        numbers = listed.numbers;
         unstarted = λ none. record { looks = may.looked.looks; seen = λ tell free edits p asked bound. absurd (false≢true (sym (unasked p) ∙ asked)) };
       };
       fresh = last_of_none carried.phased.build.earlier carried.phased.build.last carried.phased.build.taken_in carried.phased.build.whole;
@@ -227,7 +231,7 @@ module _ (tells : Bool) (graph : Graph) (request : Request) (records : Records) 
     (formed : IsGraph (declared_by graph)) (once : IsMadeOnce (declared_by graph).edges) (others : (file : List ℕ) → NamesOther (declared_by graph).edges file → ⊥)
     (cone : Cone) (coned : IsConeRecorded graph request.targets cone) (plan : Plan) (first : IsPlanFor graph cone request.limits plan) (looks : Looks) (unseen : looks.seen.items ≡ replicate (length graph.manifest.paths) Unasked)
     (state : State) (plan_is : state.plan ≡ plan) (looks_are : state.looks ≡ looks) (records_are : state.records ≡ records) (none : state.failed.items ≡ []) (starts : vec_len state.starts ≡ length graph.manifest.lines)
-    (tick : List ℕ) (is : tick ≡ file_in request.folder tick_name) where
+    (ticks : state.tick ≡ file_in request.folder tick_name) (cone_is : state.cone ≡ cone) where
   abbrev pub this : Course
   this = course_of course.behaviour course.format course.own (asked_of (declared_by graph) request.folder request.limits request.targets) course.store course.entry
 
@@ -235,14 +239,14 @@ module _ (tells : Bool) (graph : Graph) (request : Request) (records : Records) 
   here = course_of course.behaviour course.format (any_own request.folder) (asked_of (declared_by graph) request.folder request.limits request.targets) course.store now
 
   of_course : (own : OwnFiles) (entry : World) → MayBegin tells graph request records course.behaviour course.format own course.store entry now
-      → BeginsAt tells tick (course_of course.behaviour course.format own (asked_of (declared_by graph) request.folder request.limits request.targets) course.store entry) (declared_by graph).edges [] graph cone state now
+      → BeginsAt tells (course_of course.behaviour course.format own (asked_of (declared_by graph) request.folder request.limits request.targets) course.store entry) (declared_by graph).edges [] graph state now
   of_course own entry may =
       let listed = coned course.store has.in_use in
       begins tells graph request records course.behaviour course.format own course.store entry now may formed once others cone listed plan first.flags (first.planned request.folder request.targets course.store has.in_use listed)
-      looks unseen state plan_is looks_are records_are none starts tick is
+      looks unseen state plan_is looks_are records_are none starts ticks cone_is
 
-  pub begins_this : BeginsAt tells tick this (declared_by graph).edges [] graph cone state now
+  pub begins_this : BeginsAt tells this (declared_by graph).edges [] graph state now
   begins_this = of_course course.own course.entry (may_begin tells graph request records course now has)
 
-  pub begins_here : BeginsAt tells tick here (declared_by graph).edges [] graph cone state now
+  pub begins_here : BeginsAt tells here (declared_by graph).edges [] graph state now
   begins_here = of_course (any_own request.folder) now (may_begin_here tells graph request records course now has)

@@ -11,7 +11,6 @@ use Rattle.builder.specs.Explained.{ExplainsBuild}
 -- what is told behind a call that only looked is told of the whole
 pub explains_before : (tells : Bool) (graph : BuildGraph) (request : Request) (old mid new : World) (said : List Explanation) → OnlyLooks tells old mid → ExplainsBuild tells graph request mid new said → ExplainsBuild tells graph request old new said
 explains_before tells graph request old mid new said looks so = record {
-  tick = so.tick;
   course = so.course;
   asked = so.asked;
   entry = so.entry;

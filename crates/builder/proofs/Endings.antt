@@ -558,13 +558,13 @@ module _ (tells : Bool) (graph : Graph) (request : Request) (records : Records) 
 
 -- a run that began so was reported
 pub builds_reported : (tells : Bool) (graph : Graph) (request : Request) (records : Records) (course : Course) (old : World) → HasRead tells graph request records course old
-    → IsMadeOnce (declared_by graph).edges → ((file : List ℕ) → NamesOther (declared_by graph).edges file → ⊥) → (cone : Cone) → IsConeRecorded graph request.targets cone → (tick : List ℕ) (state : State) (after : Graph) (last : Cone) (exit : World) (report : Report)
-    → (told : IsReported tells tick graph cone state old after last exit report)
-    → BeginsAt tells tick (course_of course.behaviour course.format course.own (asked_of (declared_by graph) request.folder request.limits request.targets) course.store course.entry) (declared_by graph).edges [] graph cone state old
-    → BeginsAt tells tick (course_of course.behaviour course.format (any_own request.folder) (asked_of (declared_by graph) request.folder request.limits request.targets) course.store old) (declared_by graph).edges [] graph cone state old
+    → IsMadeOnce (declared_by graph).edges → ((file : List ℕ) → NamesOther (declared_by graph).edges file → ⊥) → (cone : Cone) → IsConeRecorded graph request.targets cone → (state : State) (after : Graph) (last : State) (exit : World) (report : Report)
+    → (told : IsReported tells graph state old after last exit report)
+    → BeginsAt tells (course_of course.behaviour course.format course.own (asked_of (declared_by graph) request.folder request.limits request.targets) course.store course.entry) (declared_by graph).edges [] graph state old
+    → BeginsAt tells (course_of course.behaviour course.format (any_own request.folder) (asked_of (declared_by graph) request.folder request.limits request.targets) course.store old) (declared_by graph).edges [] graph state old
     → Builds tells course.behaviour course.format course.own (declared_by graph) request.folder request.limits request.given.now request.targets told.grown course.entry exit report
-builds_reported tells graph request records course old has once others cone coned tick state after last exit report told this here =
-    builds_said tells graph request records course old has once others cone coned told.grown after last exit told.said
+builds_reported tells graph request records course old has once others cone coned state after last exit report told this here =
+    builds_said tells graph request records course old has once others cone coned told.grown after last.cone exit told.said
     (told.ended (course_of course.behaviour course.format course.own (asked_of (declared_by graph) request.folder request.limits request.targets) course.store course.entry) (declared_by graph).edges [] this)
     (told.ended (course_of course.behaviour course.format (any_own request.folder) (asked_of (declared_by graph) request.folder request.limits request.targets) course.store old) (declared_by graph).edges [] here)
     told.faults told.seen report told.is

@@ -1,5 +1,5 @@
 -- What is told of the commands that are due.
-use Rattle.std.specs.Prelude.{◌≡◌, Bool, List, ℕ}
+use Rattle.std.specs.Prelude.{◌≡◌, Bool, List}
 use Rattle.std.specs.List.{AllZip}
 use Rattle.std.specs.Option.{option_map}
 use Rattle.model.specs.declared.graph.BuildGraph.{BuildGraph}
@@ -51,35 +51,33 @@ pub record TellsDue (tells : Bool) (graph : Graph) (cone : Cone) (plan : Plan) (
   pub says : SaysDue tells graph cone records due mid new seen after said
 
 -- So it is where a phase of some build begins, up to which it was only looked.
-pub record Explains (tells : Bool) (tick : List ℕ) (course : Course) (old new : World) (said : List Explanation) : Type 0 where
+pub record Explains (tells : Bool) (course : Course) (old new : World) (said : List Explanation) : Type 0 where
   pub edges : List Edge
   pub phases : List Phase
   pub graph : Graph
-  pub cone : Cone
   pub state : State
   pub begun : World
   pub looks : OnlyLooks tells old begun
-  pub begins : BeginsAt tells tick course edges phases graph cone state begun
+  pub begins : BeginsAt tells course edges phases graph state begun
   pub after : Looks
-  pub dues : TellsDue tells graph cone state.plan state.records begun new state.looks after said
+  pub dues : TellsDue tells graph state.cone state.plan state.records begun new state.looks after said
 
 -- so it is of each build that begins a phase here
-abbrev pub ExplainsFrom : Bool → Graph → Cone → State → World → World → List Explanation → Type 0
-ExplainsFrom tells graph cone state old new said =
-    (tick : List ℕ) (course : Course) (edges : List Edge) (phases : List Phase) → BeginsAt tells tick course edges phases graph cone state old → Explains tells tick course old new said
+abbrev pub ExplainsFrom : Bool → Graph → State → World → World → List Explanation → Type 0
+ExplainsFrom tells graph state old new said =
+    (course : Course) (edges : List Edge) (phases : List Phase) → BeginsAt tells course edges phases graph state old → Explains tells course old new said
 
 -- each build that began a phase here begins one there
-abbrev pub BeginsStill : Bool → Graph → Cone → State → World → Graph → Cone → State → World → Type 0
-BeginsStill tells graph cone state old grown next after new =
-    (tick : List ℕ) (course : Course) (edges : List Edge) (phases : List Phase) → BeginsAt tells tick course edges phases graph cone state old
-    → (many : List Edge) × (more : List Phase) × BeginsAt tells tick course many more grown next after new
+abbrev pub BeginsStill : Bool → Graph → State → World → Graph → State → World → Type 0
+BeginsStill tells graph state old grown after new =
+    (course : Course) (edges : List Edge) (phases : List Phase) → BeginsAt tells course edges phases graph state old
+    → (many : List Edge) × (more : List Phase) × BeginsAt tells course many more grown after new
 
 -- So it is of a build of what was asked over this graph, with what the loads add that it does before it starts anything, and for some files of
 -- its own, format of logs and reading of depfiles and dyndep files.
 pub record ExplainsBuild (tells : Bool) (graph : BuildGraph) (request : Request) (old new : World) (said : List Explanation) : Type 0 where
-  pub tick : List ℕ
   pub course : Course
   pub asked : course.asked ≡ asked_of graph request.folder request.limits request.targets
   pub entry : World
   pub looks : OnlyLooks tells old entry
-  pub explains : Explains tells tick course entry new said
+  pub explains : Explains tells course entry new said

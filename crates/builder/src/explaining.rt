@@ -12,7 +12,7 @@ ghost use Rattle.manifest.specs.Answer.{IsGraph};
 ghost use Rattle.paths.specs.Told.{graph_of, text_at};
 ghost use Rattle.work.specs.Course.{Course};
 ghost use Rattle.builder.specs.Explained.{AreSaid, IsSaid, SaysDue, TellsDue, ExplainsFrom, BeginsStill, ExplainsBuild};
-ghost use Rattle.work.specs.Standing.{IsBeginningBy};
+ghost use Rattle.work.specs.Standing.{IsBeginning};
 ghost use Rattle.builder.specs.Reports.{HasRead, IsLinked};
 
 use crate::asked::Asked;
@@ -113,46 +113,38 @@ fn explain_graph<S: Site>(
     ensures looks { OnlyLooks S.tells (S.world site.old) (S.world site.new) }
     ensures explains { IfOk result (λ explained. ExplainsBuild S.tells (declared_by graph.old) asked.now (S.world site.old) (S.world site.new) explained.commands.items) }
 {
-    let mut cone = cone_of(alloc, graph, asked)?;
-    let mut state = state_of(alloc, graph, &cone, asked, options, records)?;
-    explain_state(alloc, site, graph, &mut cone, &mut state)
+    let cone = cone_of(alloc, graph, asked)?;
+    let mut state = state_of(alloc, graph, cone, asked, options, records)?;
+    explain_state(site, graph, &mut state)
 }
 
 /// The same of a run that begins.
 fn explain_state<S: Site>(
-    alloc: Global,
     site: &mut S,
     graph: &mut Graph,
-    cone: &mut Cone,
     state: &mut State<'_>,
 ) -> Result<Explained, Report>
     requires running { (S.world site.old).stopped ≡ false }
-    requires begins { IsBeginningBy S.tells graph.old cone.old state.old (S.world site.old) }
+    requires begins { IsBeginning S.tells graph.old state.old (S.world site.old) }
     ensures looks { OnlyLooks S.tells (S.world site.old) (S.world site.new) }
-    ensures explains { IfOk result (λ explained. ExplainsFrom S.tells graph.old cone.old state.old (S.world site.old) (S.world site.new) explained.commands.items) }
+    ensures explains { IfOk result (λ explained. ExplainsFrom S.tells graph.old state.old (S.world site.old) (S.world site.new) explained.commands.items) }
 {
-    load_sources(alloc, site, graph, cone, state)?;
-    Ok(explain_run(alloc, site, graph, cone, state)?)
+    load_sources(site, graph, state)?;
+    Ok(explain_run(site, graph, state)?)
 }
 
 /// Loads the dyndep files that no edge makes, as a build does before anything is started.
-fn load_sources<S: Site>(
-    alloc: Global,
-    site: &mut S,
-    graph: &mut Graph,
-    cone: &mut Cone,
-    state: &mut State<'_>,
-) -> Result<(), Stop>
+fn load_sources<S: Site>(site: &mut S, graph: &mut Graph, state: &mut State<'_>) -> Result<(), Stop>
     requires running { (S.world site.old).stopped ≡ false }
-    requires begins { IsBeginningBy S.tells graph.old cone.old state.old (S.world site.old) }
+    requires begins { IsBeginning S.tells graph.old state.old (S.world site.old) }
     ensures looks { OnlyLooks S.tells (S.world site.old) (S.world site.new) }
     ensures running { OnOk result ((S.world site.new).stopped ≡ false) }
-    ensures begun { OnOk result (BeginsStill S.tells graph.old cone.old state.old (S.world site.old) graph.new cone.new state.new (S.world site.new)) }
+    ensures begun { OnOk result (BeginsStill S.tells graph.old state.old (S.world site.old) graph.new state.new (S.world site.new)) }
 {
     sources_load();
     'sources: loop {
         match source_to_load(graph, &state.plan) {
-            Some(file) => load(alloc, site, graph, cone, state, file)?,
+            Some(file) => load(site, graph, state, file)?,
             None => return Ok(()),
         }
     }
@@ -160,32 +152,30 @@ fn load_sources<S: Site>(
 
 /// The same where no dyndep file that no edge makes is to be loaded.
 fn explain_run<S: Site>(
-    alloc: Global,
     site: &mut S,
     graph: &Graph,
-    cone: &Cone,
     state: &mut State<'_>,
 ) -> Result<Explained, Stop>
     requires running { (S.world site.old).stopped ≡ false }
-    requires begins { IsBeginningBy S.tells graph.now cone.now state.old (S.world site.old) }
+    requires begins { IsBeginning S.tells graph.now state.old (S.world site.old) }
     ensures looks { OnlyLooks S.tells (S.world site.old) (S.world site.new) }
-    ensures tells { IfOk result (λ explained. TellsDue S.tells graph.now cone.now state.old.plan state.old.records (S.world site.old) (S.world site.new) state.old.looks state.new.looks explained.commands.items) }
+    ensures tells { IfOk result (λ explained. TellsDue S.tells graph.now state.old.cone state.old.plan state.old.records (S.world site.old) (S.world site.new) state.old.looks state.new.looks explained.commands.items) }
 {
     orders_stand(graph);
     let due = check_sources(
-        alloc,
+        state.alloc,
         site,
         graph,
-        cone,
+        &state.cone,
         &state.plan,
         &mut state.looks,
         &state.records,
     )?;
     let explained = explain_due(
-        alloc,
+        state.alloc,
         site,
         graph,
-        cone,
+        &state.cone,
         &mut state.looks,
         &state.records,
         &due,

@@ -16,9 +16,10 @@ pub struct Held {
 }
 
 impl Held {
-    /// What is large of these two.
-    pub(crate) fn of(cone: Cone, state: State<'_>) -> Held {
+    /// What is large of a run's state.
+    pub(crate) fn of(state: State<'_>) -> Held {
         let State {
+            cone,
             plan,
             looks,
             records,

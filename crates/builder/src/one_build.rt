@@ -6,7 +6,7 @@ ghost use Rattle.model.specs.declared.record.DepsRecord.{DepsRecord};
 ghost use Rattle.model.specs.declared.graph.Edge.{Edge};
 ghost use Rattle.model.specs.World.{IsIdle};
 ghost use Rattle.model.specs.Calls.{OnlyLooks};
-ghost use Rattle.model.specs.Records.{file_in, build_log_name, deps_log_name};
+ghost use Rattle.model.specs.Records.{file_in, build_log_name, deps_log_name, tick_name};
 ghost use Rattle.theory.specs.Seen.{Unrefused};
 ghost use Rattle.records.specs.Known.{AreKnown};
 ghost use Rattle.records.specs.Laws.{WereRead};
@@ -38,7 +38,7 @@ use plan::{Plan, task_of};
 use records::{Records, log_begins};
 use site::Site;
 use std::alloc::{AllocError, Global};
-use text::Text;
+use text::{Path, Text};
 use work::{
     Display, Options, Refusal, Report, State, Summary, first_outputs, join_recorded, path_texts,
     phonies_record_none, run_graph,
@@ -232,11 +232,10 @@ fn build_graph<S: Site>(
     requires read { (course : Course) × HasRead S.tells graph.old asked.now records course (S.world site.old) }
     ensures { (grown : List Edge) × ((course : Course) → HasRead S.tells graph.old asked.now records course (S.world site.old) → Builds S.tells course.behaviour course.format course.own (declared_by graph.old) asked.now.folder asked.now.limits asked.now.given.now asked.now.targets grown course.entry (S.world site.new) (report_in result)) }
 {
-    let mut cone = cone_of(alloc, graph, asked)?;
-    let tick = own_path(alloc, asked.folder.as_str(), TICK)?;
-    let mut state = state_of(alloc, graph, &cone, asked, options, records)?;
-    let told = run_state(alloc, site, graph, &mut cone, tick.as_str(), &mut state);
-    *held = Some(Held::of(cone, state));
+    let cone = cone_of(alloc, graph, asked)?;
+    let mut state = state_of(alloc, graph, cone, asked, options, records)?;
+    let told = run_state(site, graph, &mut state);
+    *held = Some(Held::of(state));
     told
 }
 
@@ -244,37 +243,43 @@ fn build_graph<S: Site>(
 pub(crate) fn state_of<'a>(
     alloc: Global,
     graph: &Graph,
-    cone: &Cone,
+    cone: Cone,
     asked: &Asked<'_>,
     options: &'a Options,
     records: Records,
 ) -> Result<State<'a>, AllocError>
-    requires marks { vec_len cone.now.marks ≡ length graph.now.manifest.lines }
-    ensures fresh { IfOk result (IsFresh graph.now cone.now asked.now.limits records) }
+    requires marks { vec_len cone.marks ≡ length graph.now.manifest.lines }
+    ensures fresh { IfOk result (IsFresh graph.now cone asked.now records) }
 {
-    let plan = plan_of(alloc, graph, cone, asked.limits)?;
+    let plan = plan_of(alloc, graph, &cone, asked.limits)?;
     let looks = Looks::new(alloc, graph)?;
     let display = Display::new(alloc, &options.pattern, options.verbose, 0);
+    let tick = tick_path(alloc, asked)?;
     let due = vec![in alloc; false; graph.edges()]?;
-    let state = State::new(alloc, graph, plan, looks, records, display, due)?;
+    let state = State::new(alloc, graph, cone, plan, looks, records, display, tick, due)?;
     Ok(state)
+}
+
+/// The file that gets a new stamp before each start.
+fn tick_path(alloc: Global, asked: &Asked<'_>) -> Result<Path, AllocError>
+    ensures { IfOk result (λ path. path ≡ file_in asked.now.folder tick_name) }
+{
+    let path = own_path(alloc, asked.folder.as_str(), TICK)?;
+    Ok(Path::from_string(path))
 }
 
 /// Runs what is to be done, and reports how that ended.
 fn run_state<S: Site>(
-    alloc: Global,
     site: &mut S,
     graph: &mut Graph,
-    cone: &mut Cone,
-    tick: &str,
     state: &mut State<'_>,
 ) -> Result<Report, Report>
     requires running { (S.world site.old).stopped ≡ false }
-    requires begins { IsBeginning S.tells tick.now graph.old cone.old state.old (S.world site.old) }
-    ensures { IsReported S.tells tick.now graph.old cone.old state.old (S.world site.old) graph.new cone.new (S.world site.new) (report_in result) }
+    requires begins { IsBeginning S.tells graph.old state.old (S.world site.old) }
+    ensures { IsReported S.tells graph.old state.old (S.world site.old) graph.new state.new (S.world site.new) (report_in result) }
 {
-    let summary = run_graph(alloc, site, graph, cone, tick, state)?;
-    Ok(report(alloc, graph, summary)?)
+    let summary = run_graph(site, graph, state)?;
+    Ok(report(state.alloc, graph, summary)?)
 }
 
 /// The cone of what was asked for.

@@ -42,3 +42,10 @@ RefusesText text (Fault fault) = (fault ≡ NoColon) × (inputs (signs text) ≡
 abbrev pub AnswersFault : List ℕ → ReadError → Type 0
 AnswersFault bytes Memory = Unit {0}
 AnswersFault bytes (Fault fault) = IsRead bytes (Err fault)
+
+-- so it is, whatever was kept before
+abbrev pub AddsMore : {Y Z : Type 0} → Option (List Word) → List ℕ → List (CowStr Y) → List (CowStr Z) → Type 0
+AddsMore left rest old new = (all : List (List ℕ)) → AreKept all old → Adds left rest all new
+
+abbrev pub AddsName : {Y Z : Type 0} → List ℕ → List (CowStr Y) → List (CowStr Z) → Type 0
+AddsName name old new = (all : List (List ℕ)) → AreKept all old → AddsPath name all new

@@ -1,9 +1,9 @@
 //! What a depfile says.
 
-ghost use Rattle.std.specs.Prelude.{◌≡◌, ◌<◌, [], List, ℕ, Ok, IfOk, IfErr, OnOk, length};
+ghost use Rattle.std.specs.Prelude.{◌≡◌, ◌<◌, [], Ok, IfOk, IfErr, OnOk, length};
 ghost use Rattle.depfile.specs.Signs.{signs};
 ghost use Rattle.depfile.specs.Depfile.{IsRead, inputs};
-ghost use Rattle.depfile.specs.Kept.{AreKept, Adds, AnswersFault, SaysInputs, RefusesText};
+ghost use Rattle.depfile.specs.Kept.{AddsMore, AnswersFault, SaysInputs, RefusesText};
 
 use crate::fault::{DepFault, ReadError};
 use crate::listed::Listed;
@@ -64,7 +64,7 @@ fn rule_at<'a>(
     paths: &mut IndexSet<CowStr<'a>>,
 ) -> Result<&'a str, ReadError>
     requires { 0 < length text.now }
-    ensures adds { IfOk result (λ rest. (all : List (List ℕ)) → AreKept all paths.old.keys → Adds (inputs (signs text.entry.now)) rest.now all paths.new.keys) }
+    ensures adds { IfOk result (λ rest. AddsMore (inputs (signs text.entry.now)) rest.now paths.old.keys paths.new.keys) }
     ensures shorter { IfOk result (λ rest. length rest.now < length text.entry.now) }
     ensures fault { IfErr result (RefusesText text.entry.now) }
 {

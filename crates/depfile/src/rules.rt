@@ -6,7 +6,7 @@ ghost use Rattle.lexer.specs.Path.{IsCanonical};
 ghost use Rattle.depfile.specs.Signs.{signs, spelled};
 ghost use Rattle.depfile.specs.Depfile.{inputs};
 ghost use Rattle.depfile.specs.Words.{IsWord, front_word, left_behind, text_behind, behind_targets};
-ghost use Rattle.depfile.specs.Kept.{Adds, AreKept, AddsPath};
+ghost use Rattle.depfile.specs.Kept.{AddsMore, AddsName};
 
 use crate::fault::{DepFault, ReadError};
 use crate::words::{Token, Word, spelling, token_at};
@@ -64,7 +64,7 @@ pub fn inputs_at<'a>(
     text: &'a str,
     paths: &mut IndexSet<CowStr<'a>>,
 ) -> Result<&'a str, ReadError>
-    ensures adds { IfOk result (λ rest. (all : List (List ℕ)) → AreKept all paths.old.keys → Adds (behind_targets (signs text.entry.now)) rest.now all paths.new.keys) }
+    ensures adds { IfOk result (λ rest. AddsMore (behind_targets (signs text.entry.now)) rest.now paths.old.keys paths.new.keys) }
     ensures shorter { IfOk result (λ rest. length rest.now ≤ length text.entry.now) }
     ensures memory { IfErr result (λ error. error ≡ ReadError.Memory) }
 {
@@ -87,7 +87,7 @@ fn add_path<'a>(
     paths: &mut IndexSet<CowStr<'a>>,
 ) -> Result<(), ReadError>
     requires word { (rest : List ℕ) × IsWord word.now.from.now word.now rest }
-    ensures adds { OnOk result ((all : List (List ℕ)) → AreKept all paths.old.keys → AddsPath (spelled (front_word (signs word.now.from.now))) all paths.new.keys) }
+    ensures adds { OnOk result (AddsName (spelled (front_word (signs word.now.from.now))) paths.old.keys paths.new.keys) }
     ensures memory { IfErr result (λ error. error ≡ ReadError.Memory) }
 {
     make_room(paths, word.from);

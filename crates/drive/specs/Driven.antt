@@ -25,9 +25,10 @@ use Rattle.manifest.specs.Answer.{IsGraph}
 use Rattle.manifest.specs.declared.fault.ReadError.{ReadError}
 use Rattle.manifest.specs.declared.fault.ReadError.TheVariants as read
 use Rattle.builder.specs.Asked.{AreTargets, IsFolder}
-use Rattle.builder.specs.Build.{Says, NamesFault, IsUnread, ReadsFirst, RemovesFiles, LeavesAlone, asked_of}
+use Rattle.builder.specs.Build.{Says, NamesFault, IsUnread, ReadsFirst, RemovesFiles, LeavesAlone, asked_of, limits_of}
 use Rattle.work.specs.Loads.{ReadsDyndeps, RefusesFile}
 use Rattle.builder.specs.declared.asked.Limits.{Limits}
+use Rattle.work.specs.declared.report.Options.{Options}
 use Rattle.work.specs.declared.report.Report.{Report}
 
 -- ---- what a build reads
@@ -137,6 +138,11 @@ Drives tells outcome name limits moves reports first last =
     (format : LogFormat) (depfile : List ℕ → Option (List (List ℕ))) (dyndep : List ℕ → Option (List Addition)) → IsReading depfile → ReadsDyndeps dyndep → ReadsLogs format
     → WasDriven tells (behaving outcome depfile dyndep) format name limits moves reports first last
 
+-- so it is with these options, of a site: `world` tells its world, which the call found as `old` and left as `new`
+abbrev pub DrivesAt : {S : Type 0} → Bool → (Act → View → Outcome) → (S → World) → S → S → Options → List Move → List Report → Type 0
+DrivesAt tells outcome world old new options moves reports =
+    Drives tells outcome options.file (limits_of options) moves reports (world old) (world new)
+
 -- ---- without memory
 
 -- the moves begin with an edit, which writes no output that has a record in force, and no log
@@ -170,3 +176,7 @@ StopsShort tells outcome name limits moves first last =
     (last ≡ first)
     ⊎ ((format : LogFormat) (depfile : List ℕ → Option (List (List ℕ))) (dyndep : List ℕ → Option (List Addition)) → IsReading depfile → ReadsDyndeps dyndep → ReadsLogs format
     → IsCutInEdit tells (behaving outcome depfile dyndep) format (words_in tells name limits) moves first last)
+
+-- so it is with these options, of a site
+abbrev pub StopsShortAt : {S : Type 0} → Bool → (Act → View → Outcome) → (S → World) → S → S → Options → List Move → Type 0
+StopsShortAt tells outcome world old new options moves = StopsShort tells outcome options.file (limits_of options) moves (world old) (world new)

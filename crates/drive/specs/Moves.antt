@@ -1,5 +1,5 @@
 -- What one move has come to, and the moves so far: what the functions of this crate tell one another.
-use Rattle.std.specs.Prelude.{◌≡◌, ℕ, Bool, true, false, List, [], ◌∷◌, ◌++◌, Option, length, Result, Ok, Err, OnOk}
+use Rattle.std.specs.Prelude.{◌≡◌, ℕ, Bool, true, false, List, [], ◌∷◌, ◌++◌, Option, length, Result, Ok, Err, IfOk, OnOk}
 use Rattle.std.specs.List.{AllByRecursion}
 use Rattle.model.specs.declared.act.Act.{Act}
 use Rattle.model.specs.declared.fault.SiteFault.{SiteFault}
@@ -17,9 +17,10 @@ use Rattle.model.specs.World.{World, View}
 use Rattle.log_text.specs.DepsFormat.{ReadsLogs}
 use Rattle.depfile.specs.Depfile.{IsReading}
 use Rattle.theory.specs.Histories.{HasHeadline}
-use Rattle.builder.specs.Build.{IsBuild}
+use Rattle.builder.specs.Build.{IsBuild, limits_of}
 use Rattle.work.specs.Loads.{ReadsDyndeps}
 use Rattle.builder.specs.declared.asked.Limits.{Limits}
+use Rattle.work.specs.declared.report.Options.{Options}
 use Rattle.work.specs.declared.report.Report.{Report}
 use Rattle.work.specs.declared.report.Report.TheVariants.{Success, Failed, Refused, Fault}
 use Rattle.drive.specs.Driven.{words_in, words_of, builds_in, ReportEach, HasFiles, behaving}
@@ -87,6 +88,16 @@ pub record IsCarried (tells : Bool) (outcome : Act → View → Outcome) (name :
   pub told : List Report
   pub grows : after ≡ before ++ told
   pub done : IsDone tells outcome name limits move again told old new
+
+-- ---- What calls say with these options that are given a site: `world` tells its world, which the call found as `old` and left as `new`.
+
+abbrev pub ReportsAt : {S : Type 0} → Bool → (Act → View → Outcome) → (S → World) → S → S → Options → List (List ℕ) → Bool → List Report → List Report → Type 0
+ReportsAt tells outcome world old new options words again before after =
+    IsReported tells outcome options.file (limits_of options) words again before after (world old) (world new)
+
+abbrev pub CarriesAt : {S E : Type 0} → Bool → (Act → View → Outcome) → (S → World) → S → S → Options → Move → Result Bool E → List Report → List Report → Type 0
+CarriesAt tells outcome world old new options move result before after =
+    IfOk result (λ again. IsCarried tells outcome options.file (limits_of options) move again before after (world old) (world new))
 
 -- ---- the loop
 

@@ -3,8 +3,7 @@
 ghost use Rattle.std.specs.Prelude.{◌≡◌, true, false, IfOk, OnErr, IsTrue};
 ghost use Rattle.model.specs.Driven.{StartsAgain};
 ghost use Rattle.model.specs.World.{IsIdle};
-ghost use Rattle.builder.specs.Build.{limits_of};
-ghost use Rattle.drive.specs.Driven.{Drives, StopsShort};
+ghost use Rattle.drive.specs.Driven.{DrivesAt, StopsShortAt};
 ghost use Rattle.drive.specs.Moves.{builds_among, is_build_move};
 
 use crate::one_move::carry_out;
@@ -25,8 +24,8 @@ pub fn drive<S: Site>(
     moves: &[Move],
 ) -> Result<Vec<Report>, AllocError>
     requires { IsIdle (S.world site.old).events }
-    ensures driven { IfOk result (λ reports. Drives S.tells S.outcome options.now.file (limits_of options.now) moves.now reports.items (S.world site.old) (S.world site.new)) }
-    ensures cut { OnErr result (StopsShort S.tells S.outcome options.now.file (limits_of options.now) moves.now (S.world site.old) (S.world site.new)) }
+    ensures driven { IfOk result (λ reports. DrivesAt S.tells S.outcome S.world site.old site.new options.now moves.now reports.items) }
+    ensures cut { OnErr result (StopsShortAt S.tells S.outcome S.world site.old site.new options.now moves.now) }
 {
     let mut reports = Vec::with_capacity(alloc, count_builds(moves))?;
     let mut again = false;

@@ -1,11 +1,10 @@
 //! One move.
 
-ghost use Rattle.std.specs.Prelude.{◌≡◌, ◌∷◌, [], ◌++◌, ◌+◌, ◌≤◌, ◌<◌, length, vec_capacity, IfOk, OnErr};
+ghost use Rattle.std.specs.Prelude.{◌≡◌, ◌∷◌, [], ◌++◌, ◌+◌, ◌≤◌, ◌<◌, length, vec_capacity, OnErr};
 ghost use Rattle.model.specs.Driven.{IsCutNext};
 ghost use Rattle.model.specs.World.{IsIdle};
-ghost use Rattle.builder.specs.Build.{limits_of};
 ghost use Rattle.drive.specs.Driven.{IsUnrefused};
-ghost use Rattle.drive.specs.Moves.{reports_fault, builds_among, IsReported, IsCarried};
+ghost use Rattle.drive.specs.Moves.{reports_fault, builds_among, CarriesAt, ReportsAt};
 
 use crate::edits::{delete, write};
 use builder::{Options, Report, build};
@@ -28,7 +27,7 @@ pub fn carry_out<S: Site>(
 ) -> Result<bool, AllocError>
     requires idle { IsIdle (S.world site.old).events }
     requires room { length reports.old.items + builds_among (step.now ∷ []) ≤ vec_capacity reports.old }
-    ensures carried { IfOk result (λ again. IsCarried S.tells S.outcome options.now.file (limits_of options.now) step.now again reports.old.items reports.new.items (S.world site.old) (S.world site.new)) }
+    ensures carried { CarriesAt S.tells S.outcome S.world site.old site.new options.now step.now result reports.old.items reports.new.items }
     ensures cut { OnErr result (IsCutNext S.tells (step.now ∷ []) (S.world site.old) (S.world site.new)) }
     ensures unrefused { OnErr result (IsUnrefused (S.world site.old) (S.world site.new)) }
     ensures grows { vec_capacity reports.old ≤ vec_capacity reports.new }
@@ -55,7 +54,7 @@ fn build_next<S: Site>(
 ) -> bool
     requires idle { IsIdle (S.world site.old).events }
     requires room { length reports.old.items < vec_capacity reports.old }
-    ensures reported { IsReported S.tells S.outcome options.now.file (limits_of options.now) targets.now result reports.old.items reports.new.items (S.world site.old) (S.world site.new) }
+    ensures reported { ReportsAt S.tells S.outcome S.world site.old site.new options.now targets.now result reports.old.items reports.new.items }
     ensures grows { vec_capacity reports.old ≤ vec_capacity reports.new }
 {
     let report = build(alloc, site, options, targets.as_slice());

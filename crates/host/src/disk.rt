@@ -276,6 +276,9 @@ impl<'a> Disk<'a> {
 
     /// Makes the folder and those above it, where they are absent.
     pub fn make_dirs(&self, path: &str) -> io::Result<()> {
+        if is_folder(self.rt, path) {
+            return Ok(());
+        }
         fs::create_dir_all(self.rt, path)
     }
 
@@ -436,6 +439,14 @@ fn is_elsewhere(rt: &HostRuntime, path: &str, identity: Identity) -> bool {
     match Identity::at(rt, path) {
         Some(now) => now != identity,
         None => false,
+    }
+}
+
+/// Whether a folder is there. Most are: to ask costs less than to be refused.
+fn is_folder(rt: &HostRuntime, path: &str) -> bool {
+    match fs::metadata(rt, path) {
+        Ok(found) => found.is_dir(),
+        Err(_) => false,
     }
 }
 

@@ -1,20 +1,29 @@
 -- Which edges are due after some steps, by the numbers of edges and paths.
-use Rattle.std.specs.Prelude.{◌≡◌, ◌↔◌, ◌||◌, ℕ, suc, ◌==◌, Bool, true, false, if◌then◌else◌, List, length, slice_index_or, Option, Some, None}
+use Rattle.std.specs.Prelude.{◌≡◌, ◌↔◌, ◌||◌, ℕ, suc, ◌==◌, Bool, true, false, if◌then◌else◌, IfOk, List, length, slice_index_or, Option, Some, None, Result, Vec}
 use Rattle.std.specs.List.{AllByRecursion, list_any}
 use Rattle.std.specs.Option.{is_none}
+use Rattle.std.specs.declared.alloc.Global.{Global}
 use Rattle.model.specs.declared.event.Moment.{Moment}
 use Rattle.model.specs.declared.graph.Edge.{Edge}
-use Rattle.model.specs.World.{file_at}
+use Rattle.model.specs.World.{World, file_at}
 use Rattle.model.specs.Graph.{has, has_number, maker}
 use Rattle.model.specs.Reading.{needs}
 use Rattle.model.specs.Records.{Store, recorded_inputs}
-use Rattle.model.specs.Schedule.{Step}
+use Rattle.model.specs.Schedule.{Step, judged_in}
 use Rattle.model.specs.OutOfDate.{IsDue, ListsCounted}
+use Rattle.theory.specs.Order.{IsOrderly}
 use Rattle.paths.specs.Told.{text_at}
+use Rattle.graph.specs.declared.cone.Cone.{Cone}
 use Rattle.graph.specs.declared.graph.Graph.{Graph}
 use Rattle.graph.specs.Links.{Links, links_of}
 use Rattle.graph.specs.Told.{declared_by}
+use Rattle.plan.specs.declared.plan.Plan.{Plan}
+use Rattle.records.specs.declared.records.Records.{Records}
+use Rattle.judge.specs.declared.looks.Looks.{Looks}
 use Rattle.judge.specs.Facts.{AreIn}
+use Rattle.judge.specs.Stores.{IsStoreOf}
+use Rattle.judge.specs.Quiet.{StillFinds, OfSteps, IfQuietAt}
+use Rattle.judge.specs.UnderWay.{StandsIn, IsUnderWay}
 
 -- ---- by the numbers
 
@@ -97,3 +106,60 @@ AreListed listed due = (e : ℕ) → due_at due e ≡ true → has_number listed
 -- just the listed edges that are due
 abbrev pub AreDue : List Edge → Store → List Step → List Moment → List ℕ → List Bool → Type 0
 AreDue edges store before files listed due = (e : ℕ) → (due_at due e ≡ true) ↔ ((has_number listed e ≡ true) × IsDue edges store before files (suc e))
+
+-- ---- What calls say that are given a site: `world` tells the world of the site, which the call found as `old` and left as `new`. What is
+-- known of files is what was seen of them before.
+
+-- the answer says whether the path of this number is absent
+abbrev pub FindsAbsent : {S E : Type 0} → Bool → (S → World) → S → S → Graph → Looks → ℕ → Result Bool E → Type 0
+FindsAbsent tells world old new graph seen p result = StillFinds tells world old new graph seen result (IsAbsentAt graph p)
+
+-- whether one of these is
+abbrev pub FindsAnyAbsent : {S E : Type 0} → Bool → (S → World) → S → S → Graph → Looks → List ℕ → Result Bool E → Type 0
+FindsAnyAbsent tells world old new graph seen ps result = StillFinds tells world old new graph seen result (IsAnyAbsent graph ps)
+
+-- whether a due edge makes the path, or it is an absent source
+abbrev pub FindsDuePath : {S E : Type 0} → Bool → (S → World) → S → S → Graph → Looks → List Bool → ℕ → Result Bool E → Type 0
+FindsDuePath tells world old new graph seen due p result = StillFinds tells world old new graph seen result (IsDuePath graph due p)
+
+-- whether one of these is such a path
+abbrev pub FindsAnyDue : {S E : Type 0} → Bool → (S → World) → S → S → Graph → Looks → List Bool → List ℕ → Result Bool E → Type 0
+FindsAnyDue tells world old new graph seen due ps result = StillFinds tells world old new graph seen result (IsAnyDuePath graph due ps)
+
+-- whether the phony edge is due
+abbrev pub FindsDueAlias : {S E : Type 0} → Bool → (S → World) → S → S → Graph → Looks → List Bool → ℕ → Result Bool E → Type 0
+FindsDueAlias tells world old new graph seen due e result = StillFinds tells world old new graph seen result (IsDueAlias graph due e)
+
+-- what is said of steps that may be, where these are the records that were read
+abbrev pub OfBuild : Graph → Records → (Store → List (List ℕ) → List Step → Type 0) → Type 0
+OfBuild graph records P =
+    OfSteps (λ store targets before. IsStoreOf graph records store → IsOrderly (declared_by graph).edges before → P store targets before)
+
+-- after such steps this is whether the edge is due
+abbrev pub IsDueAt : {S : Type 0} → Bool → (S → World) → S → S → Graph → Store → List (List ℕ) → List Step → Looks → List Bool → ℕ → Bool → Type 0
+IsDueAt tells world old new graph store targets before seen due e is =
+    IfQuietAt tells world old new graph store targets before seen (λ files. IsDueEdge graph store before due e files is)
+
+-- whether the command, which was not judged, is due
+abbrev pub FindsDueCommand : {S E : Type 0} → Bool → (S → World) → S → S → Graph → Records → Looks → List Bool → ℕ → Result Bool E → Type 0
+FindsDueCommand tells world old new graph records seen due e result =
+    IfOk result (λ is. OfBuild graph records (λ store targets before.
+    has_number (judged_in before) (suc e) ≡ false → IsDueAt tells world old new graph store targets before seen due e is))
+
+-- whether the edge is due, which stands in the plan where the steps have left it
+abbrev pub FindsDue : {S E : Type 0} → Bool → (S → World) → S → S → Graph → Records → Plan → Looks → List Bool → ℕ → Result Bool E → Type 0
+FindsDue tells world old new graph records plan seen due e result =
+    IfOk result (λ is. OfBuild graph records (λ store targets before.
+    StandsIn graph plan before e → IsDueAt tells world old new graph store targets before seen due e is))
+
+-- So it is after the steps of any build of which the records, the cone and the plan are these.
+abbrev pub IfUnderWay : {S : Type 0} → Bool → (S → World) → S → S → Graph → Records → Cone → Plan → Looks → (Store → List (List ℕ) → List Step → List Moment → Type 0) → Type 0
+IfUnderWay tells world old new graph records cone plan seen So =
+    OfSteps (λ store targets before. IsUnderWay graph records cone plan store targets before
+    → IfQuietAt tells world old new graph store targets before seen (λ files. So store targets before files))
+
+-- the flags that are answered say which edges of the cone are due
+abbrev pub FindsDueEdges : {S E : Type 0} → Bool → (S → World) → S → S → Graph → Records → Cone → Plan → Looks → Result (Vec Bool Global) E → Type 0
+FindsDueEdges tells world old new graph records cone plan seen result =
+    IfOk result (λ due. IfUnderWay tells world old new graph records cone plan seen (λ store targets before files.
+    AreDue (declared_by graph).edges store before files cone.order.items due.items))

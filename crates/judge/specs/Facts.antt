@@ -1,5 +1,5 @@
 -- What the judgement of an edge reads, by the numbers of paths.
-use Rattle.std.specs.Prelude.{◌≡◌, ◌≢◌, ◌<◌, ◌↔◌, ◌||◌, not, ℕ, suc, Bool, true, false, List, [], ◌∷◌, ◌++◌, if◌then◌else◌, map, length, get_or, Option, Some, None, is_some}
+use Rattle.std.specs.Prelude.{◌≡◌, ◌≢◌, ◌<◌, ◌↔◌, ◌||◌, not, ℕ, suc, Bool, true, false, IsTrue, IfOk, List, [], ◌∷◌, ◌++◌, if◌then◌else◌, map, length, get_or, Option, Some, None, is_some, Result, bytes_eq}
 use Rattle.std.specs.List.{AllByRecursion, flat_map}
 use Rattle.model.specs.declared.act.Act.{Act}
 use Rattle.model.specs.declared.event.Moment.{Moment}
@@ -13,6 +13,7 @@ use Rattle.model.specs.Reading.{IsRead}
 use Rattle.model.specs.OutOfDate.{deps_start}
 use Rattle.model.specs.Records.{in_force, deps_in_force}
 use Rattle.model.specs.Judgement.{OutputFacts, InputFacts}
+use Rattle.paths.specs.declared.manifest.Command.{Command}
 use Rattle.paths.specs.Told.{text_at}
 use Rattle.graph.specs.declared.graph.Graph.{Graph}
 use Rattle.graph.specs.Links.{links_of}
@@ -21,12 +22,14 @@ use Rattle.graph.specs.ReadingOf.{IsCountedIn}
 use Rattle.graph.specs.Told.{declared_by}
 use Rattle.judge.specs.declared.looks.Look.{Look}
 use Rattle.judge.specs.declared.looks.Look.TheVariants.{Unasked, Absent, Stamp}
-use Rattle.judge.specs.Seen.{look_at, is_asked, IfKept}
+use Rattle.judge.specs.declared.looks.Looks.{Looks}
+use Rattle.judge.specs.Seen.{look_at, is_asked, AreKept, IfKept}
+use Rattle.judge.specs.Looking.{IfKeptAt}
 use Rattle.judge.specs.declared.input_facts.Inputs.{Inputs}
 use Rattle.judge.specs.declared.output_facts.Outputs.{Outputs}
 use Rattle.judge.specs.Summaries.{AreOutputs, AreInputs}
 use Rattle.records.specs.declared.records.Records.{Records}
-use Rattle.records.specs.Known.{IsOf, IsOfDeps}
+use Rattle.records.specs.Known.{IsOf, IsOfDeps, OfKnownDeps}
 
 -- a path past the end of the list was not made anew
 abbrev pub flag_at : List Bool → ℕ → Bool
@@ -114,3 +117,34 @@ AreAsked seen numbers = AllByRecursion (λ p. is_asked (look_at seen p) ≡ true
 pub record HasTaken (graph : Graph) (flags : List Bool) (always : Bool) (seen : List Look) (numbers : List ℕ) (old new : Inputs) : Type 0 where
   pub asked : AreAsked seen numbers
   pub takes : (inputs : List InputFacts) → AreInputs inputs old → AreInputs (inputs ++ seen_inputs graph flags always seen numbers) new
+
+-- ---- What calls say that are given a site: `world` tells the world of the site, which the call found as `old` and left as `new`.
+
+-- the answer says whether the depfile of the command is there, where that kept its file
+abbrev pub FindsDepfile : {S E : Type 0} → Bool → (S → World) → S → S → Command → Result Bool E → Type 0
+FindsDepfile tells world old new command result =
+    IfOk result (λ is. IsTrue tells → (command.act.depfile ≢ [] → AreKept (bytes_eq command.act.depfile) (world old).history (world new).history)
+    → HasDepfile command.act command.deps is (world new).history)
+
+-- the answer is of the paths of these numbers, as outputs of an edge that does this, by whatever records are known
+abbrev pub FindsMade : {S E : Type 0} → Bool → (S → World) → S → S → Graph → Records → Looks → Act → List ℕ → Result Outputs E → Type 0
+FindsMade tells world old new graph records before act numbers result =
+    IfOk result (λ outputs. (rs : List Record) (ds : List DepsRecord) → AreKnownOf graph.manifest.paths numbers rs ds records
+    → IfKeptAt tells world old new graph before (HasOutputs graph act rs ds numbers outputs))
+
+-- the answer is of the inputs of the edge
+abbrev pub FindsInputs : {S E : Type 0} → Bool → (S → World) → S → S → Graph → Looks → List Bool → ℕ → Result Inputs E → Type 0
+FindsInputs tells world old new graph before flags e result =
+    IfOk result (λ inputs. AreInputsOf graph tells flags e (world old) (world new) before.seen.items inputs)
+
+-- these paths were taken in after others, as they were seen
+abbrev pub TakesPaths : Graph → List Bool → Bool → Looks → List ℕ → Inputs → Inputs → Type 0
+TakesPaths graph flags always looks numbers old new = HasTaken graph flags always looks.seen.items numbers old new
+
+-- and so were the regular inputs of these edges, as far as they count
+abbrev pub TakesEdges : Graph → List Bool → Looks → List ℕ → Inputs → Inputs → Type 0
+TakesEdges graph flags looks edges old new = TakesPaths graph flags false looks (flat_map (links_of graph).regular edges) old new
+
+-- the start that the deps record in force of the path names, by whatever records these are
+abbrev pub IsDepsStart : Records → ℕ → Option ℕ → Type 0
+IsDepsStart records p start = OfKnownDeps records (λ ds paths. p < length paths → start ≡ deps_start (deps_in_force ds (text_at paths p)))

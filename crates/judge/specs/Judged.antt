@@ -1,5 +1,5 @@
 -- Whether the command of an edge is out of date, by the files now and by the records of the entry.
-use Rattle.std.specs.Prelude.{◌≡◌, ◌≢◌, ◌<◌, ℕ, suc, Bool, true, IsTrue, List, [], length, Option, Some, is_some, bytes_eq}
+use Rattle.std.specs.Prelude.{◌≡◌, ◌≢◌, ◌<◌, ℕ, suc, Bool, true, IsTrue, IfOk, List, [], length, Option, Some, is_some, Result, bytes_eq}
 use Rattle.model.specs.declared.event.Moment.{Moment}
 use Rattle.model.specs.declared.graph.Edge.{Edge}
 use Rattle.model.specs.declared.reason.Reason.{Reason}
@@ -11,10 +11,17 @@ use Rattle.model.specs.Reading.{IsRead}
 use Rattle.model.specs.Records.{Store, recorded_inputs}
 use Rattle.model.specs.OutOfDate.{Counted, ListsCounted, IsStaleByOutputs, input_facts, facts_of}
 use Rattle.model.specs.Judgement.{reason_of}
-use Rattle.paths.specs.Told.{text_at}
+use Rattle.paths.specs.declared.manifest.Action.TheVariants.{Command as OfCommand}
+use Rattle.paths.specs.declared.manifest.Command.{Command}
+use Rattle.paths.specs.Lists.{line_at}
+use Rattle.paths.specs.Told.{edge_of, text_at}
 use Rattle.graph.specs.declared.graph.Graph.{Graph}
 use Rattle.graph.specs.Told.{declared_by, recorded_by}
+use Rattle.records.specs.declared.records.Records.{Records}
+use Rattle.records.specs.Known.{AreKnown}
+use Rattle.judge.specs.declared.looks.Looks.{Looks}
 use Rattle.judge.specs.Seen.{AreKept}
+use Rattle.judge.specs.Looking.{IfKeptAt}
 use Rattle.judge.specs.Facts.{flag_at}
 
 -- why the command of edge i has to run, if it has to: the reason of the table, by all that the judgement reads
@@ -93,3 +100,15 @@ IsStaleFor graph rs ds e reason set files =
 -- so it is by these records and flags, for each set of paths that keep their files
 abbrev pub IsAnswer : Graph → List Record → List DepsRecord → List Bool → ℕ → Option Reason → (List ℕ → Bool) → List Moment → Type 0
 IsAnswer graph rs ds flags e reason set files = IsReasonFor graph rs ds flags e reason set files × IsStaleFor graph rs ds e reason set files
+
+-- The answer is one for the edge that counts as e in the code, where its depfile kept its file, by whatever records are known. `world` tells
+-- the world of the site, which the call found as `old` and left as `new`.
+abbrev pub FindsReason : {S E : Type 0} → Bool → (S → World) → S → S → Graph → Records → Looks → List Bool → ℕ → Result (Option Reason) E → Type 0
+FindsReason tells world old new graph records before flags e result =
+    IfOk result (λ reason. (rs : List Record) (ds : List DepsRecord) → AreKnown graph rs ds records
+    → KeepsDepfile tells (declared_by graph).edges (world old) (world new) (suc e) → IfKeptAt tells world old new graph before (IsAnswer graph rs ds flags e reason))
+
+-- the edge that counts as e in the code does what this command says
+abbrev pub DoesCommand : Graph → ℕ → Command → Type 0
+DoesCommand graph e command =
+    edge_at (declared_by graph).edges (suc e) ≡ edge_of graph.manifest.paths (line_at graph.manifest.lines e) (OfCommand command)

@@ -1,5 +1,5 @@
 -- Which source is missing.
-use Rattle.std.specs.Prelude.{◌≡◌, ◌↔◌, ℕ, suc, ◌<◌, Bool, true, List, length, Option, Some, None}
+use Rattle.std.specs.Prelude.{◌≡◌, ◌↔◌, ℕ, suc, ◌<◌, Bool, true, IfOk, List, length, Option, Some, None, Result}
 use Rattle.model.specs.declared.event.Moment.{Moment}
 use Rattle.model.specs.declared.graph.Edge.{Edge}
 use Rattle.model.specs.Graph.{has, has_number, edge_at, maker, inputs}
@@ -8,6 +8,7 @@ use Rattle.model.specs.Schedule.{Step}
 use Rattle.model.specs.OutOfDate.{IsMissing, NoneIsMissing, IsFirstMissing, NothingIsMissing, IsMissingInput}
 use Rattle.paths.specs.Told.{text_at, texts_at}
 use Rattle.graph.specs.declared.graph.Graph.{Graph}
+use Rattle.graph.specs.Links.{links_of}
 use Rattle.graph.specs.Told.{declared_by}
 use Rattle.graph.specs.declared.cone.Cone.{Cone}
 use Rattle.judge.specs.declared.looks.Looks.{Looks}
@@ -17,9 +18,9 @@ use Rattle.judge.specs.declared.lack.Lack.{Lack}
 use Rattle.judge.specs.declared.lack.Found.{Found}
 use Rattle.judge.specs.declared.lack.Found.TheVariants.{Missing, Present}
 use Rattle.plan.specs.declared.plan.Plan.{Plan}
-use Rattle.judge.specs.Quiet.{IfQuiet}
+use Rattle.judge.specs.Quiet.{IfQuiet, StillFinds}
 use Rattle.judge.specs.UnderWay.{IsUnderWay}
-use Rattle.judge.specs.Dues.{due_at, IsSourceIn, AreDue}
+use Rattle.judge.specs.Dues.{due_at, IsSourceIn, AreSourcesIn, HasAllSources, AreDue, IfUnderWay}
 
 -- ---- what is told
 
@@ -84,6 +85,9 @@ abbrev pub IsAskedFor : Cone → ℕ → Option ℕ → Type 0
 IsAskedFor cone p None = has_number cone.targets.items p ≡ true
 IsAskedFor cone p (Some e) = has_number cone.order.items e ≡ true
 
+abbrev pub IsAskedLack : Cone → Lack → Type 0
+IsAskedLack cone lack = IsAskedFor cone lack.path lack.needed_by
+
 -- an edge is named, and is due by these flags
 abbrev pub NamesDue : List Bool → Option ℕ → Type 0
 NamesDue due None = ⊥
@@ -120,3 +124,41 @@ pub record IsFirstOfDue (graph : Graph) (due : List Bool) (files : List Moment) 
 abbrev pub IsFoundOfDue : Graph → List Bool → List Moment → Option Lack → Type 0
 IsFoundOfDue graph due files None = NoneBelow (declared_by graph).edges due files (length graph.manifest.lines)
 IsFoundOfDue graph due files (Some lack) = IsFirstOfDue graph due files lack
+
+-- ---- What calls say that are given a site: `world` tells the world of the site, which the call found as `old` and left as `new`. What is
+-- known of files is what was seen of them before.
+
+-- no edge makes the path of this number
+abbrev pub IsSourceAt : Graph → ℕ → Type 0
+IsSourceAt graph p = maker (declared_by graph).edges (text_at graph.manifest.paths p) ≡ None
+
+-- the answer says whether the path of this number is a missing source
+abbrev pub FindsMissing : {S E : Type 0} → Bool → (S → World) → S → S → Graph → Looks → ℕ → Result Bool E → Type 0
+FindsMissing tells world old new graph seen p result = StillFinds tells world old new graph seen result (IsMissingAt graph p)
+
+-- it is the first of these paths that is missing, if one is
+abbrev pub FindsFirst : {S E : Type 0} → Bool → (S → World) → S → S → Graph → Looks → List ℕ → Result (Option ℕ) E → Type 0
+FindsFirst tells world old new graph seen numbers result =
+    StillFinds tells world old new graph seen result (λ found set files. AreSourcesIn set graph numbers → IsFirstIn graph numbers files found)
+
+-- it is the first missing input of the edge, if that is due and has one
+abbrev pub FindsFirstOf : {S E : Type 0} → Bool → (S → World) → S → S → Graph → Looks → List Bool → ℕ → Result (Option ℕ) E → Type 0
+FindsFirstOf tells world old new graph seen due e result =
+    StillFinds tells world old new graph seen result (λ found set files.
+    AreSourcesIn set graph ((links_of graph).inputs e) → IsFirstFor graph due e files found)
+
+-- it is the first missing input of the lowest due edge that has one
+abbrev pub FindsFirstOfDue : {S E : Type 0} → Bool → (S → World) → S → S → Graph → Looks → List Bool → Result (Option Lack) E → Type 0
+FindsFirstOfDue tells world old new graph seen due result =
+    StillFinds tells world old new graph seen result (λ found set files. HasAllSources set graph → IsFoundOfDue graph due files found)
+
+-- it tells the missing source, if one is missing
+abbrev pub FindsLack : {S E : Type 0} → Bool → (S → World) → S → S → Graph → Records → Cone → Plan → Looks → Result Found E → Type 0
+FindsLack tells world old new graph records cone plan seen result =
+    IfOk result (λ found. IfUnderWay tells world old new graph records cone plan seen (λ store targets before files.
+    IsFound graph store before targets files (lack_in found)))
+
+-- and which edges are due, where none is
+abbrev pub FindsFlags : {S E : Type 0} → Bool → (S → World) → S → S → Graph → Records → Cone → Plan → Looks → Result Found E → Type 0
+FindsFlags tells world old new graph records cone plan seen result =
+    IfOk result (λ found. IfPresent found (λ due. HasDue tells graph records cone plan (world old) (world new) seen due))

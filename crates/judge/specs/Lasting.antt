@@ -1,11 +1,12 @@
 -- Which sums stay right while commands end: those of what no command makes.
-use Rattle.std.specs.Prelude.{◌≡◌, not, ℕ, Bool, true, false, ◌||◌, List, [], ◌∷◌, Option, Some, None, nat_eq}
+use Rattle.std.specs.Prelude.{◌≡◌, not, ℕ, Bool, true, false, ◌||◌, if◌then◌else◌, List, [], ◌∷◌, ◌++◌, Option, Some, None, nat_eq}
 use Rattle.indexmap.specs.IndexMap.{get}
 use Rattle.model.specs.Graph.{has_number}
 use Rattle.graph.specs.declared.graph.Graph.{Graph}
 use Rattle.graph.specs.Links.{Links, links_of}
 use Rattle.judge.specs.declared.looks.Look.{Look}
-use Rattle.judge.specs.Seen.{look_at, is_asked}
+use Rattle.judge.specs.declared.looks.Looks.{Looks}
+use Rattle.judge.specs.Seen.{look_at, is_asked, StaysKnown}
 use Rattle.judge.specs.declared.input_facts.Inputs.{Inputs}
 use Rattle.judge.specs.declared.sums.Sums.{Sums}
 use Rattle.judge.specs.Facts.{flag_at}
@@ -48,10 +49,26 @@ AreMarked graph flags seen sums =
 abbrev pub StayMarked : Graph → List Bool → List Look → List Look → Sums → Sums → Type 0
 StayMarked graph flags seen later old new = AreMarked graph flags seen old → AreMarked graph flags later new
 
+-- so it is, by what was seen before and behind a call
+abbrev pub MarksStay : Graph → List Bool → Looks → Looks → Sums → Sums → Type 0
+MarksStay graph flags before after old new = StayMarked graph flags before.seen.items after.seen.items old new
+
+-- they are right, whatever graph, flags and looks they are right by
+abbrev pub AreAnyMarked : Sums → Type 0
+AreAnyMarked sums = (graph : Graph) (flags : List Bool) (seen : List Look) → AreMarked graph flags seen sums
+
 -- so they are with one more sum, where that lasts if it is said to
 abbrev pub StayMarkedWith : Bool → ℕ → Inputs → Sums → Sums → Type 0
 StayMarkedWith lasts e inputs old new =
     (graph : Graph) (flags : List Bool) (seen : List Look) → AreMarked graph flags seen old → (lasts ≡ true → IsLasting graph flags seen e inputs) → AreMarked graph flags seen new
+
+-- the edge was marked, where that is so
+abbrev pub MarksIf : Bool → ℕ → Sums → Sums → Type 0
+MarksIf so e old new = new.passing.items ≡ old.passing.items ++ (if so then e ∷ [] else [])
+
+-- what is marked stays marked
+abbrev pub KeepsMarks : Sums → Sums → Type 0
+KeepsMarks old new = (e : ℕ) → has_number new.passing.items e ≡ false → has_number old.passing.items e ≡ false
 
 -- the marked ones are not kept
 abbrev pub LeavesLasting : Sums → Sums → Type 0
@@ -63,10 +80,6 @@ pub record KeepsUnmade (graph : Graph) (old_flags : List Bool) (old_seen : List 
   pub flags : (p : ℕ) → is_made (links_of graph) p ≡ false → flag_at new_flags p ≡ flag_at old_flags p
 
 -- ---- a law
-
--- what was asked for is known still
-abbrev pub StaysKnown : List Look → List Look → Type 0
-StaysKnown seen new = (p : ℕ) → is_asked (look_at seen p) ≡ true → look_at new p ≡ look_at seen p
 
 -- Where what was asked for is known still, sums and marks are right still; behind the end of a command what lasts is right, and lasts.
 pub record SumsFollow : Type 0 where

@@ -1,5 +1,5 @@
 -- Which paths are looked at while commands run, and at which points what is found is so.
-use Rattle.std.specs.Prelude.{◌≡◌, ℕ, Bool, true, false, List, None, Some}
+use Rattle.std.specs.Prelude.{◌≡◌, ℕ, Bool, true, false, IfOk, List, None, Some, Result}
 use Rattle.model.specs.declared.event.Moment.{Moment}
 use Rattle.model.specs.declared.graph.Edge.{Edge}
 use Rattle.model.specs.World.{World, file_at}
@@ -48,3 +48,19 @@ IfQuiet tells graph store targets before old new seen So =
     KeepsDepfiles tells (declared_by graph).edges before old new
     → IfKept tells graph.manifest.paths old new seen.seen.items (λ set now.
     HasPathsFor (declared_by graph).edges store targets before set → (files : List Moment) → AreAlike (declared_by graph).edges before set now files → So files)
+
+-- IfStill, of a site: `world` tells its world, which a call found as `old` and left as `new`
+abbrev pub IfStillAt : {S : Type 0} → Bool → (S → World) → S → S → Graph → Looks → ((List ℕ → Bool) → List Moment → Type 0) → Type 0
+IfStillAt tells world old new graph seen So = IfStill tells graph (world old) (world new) seen So
+
+-- so it is of what is answered, where something is
+abbrev pub StillFinds : {S X E : Type 0} → Bool → (S → World) → S → S → Graph → Looks → Result X E → (X → (List ℕ → Bool) → List Moment → Type 0) → Type 0
+StillFinds tells world old new graph seen result So = IfOk result (λ found. IfStillAt tells world old new graph seen (So found))
+
+-- what is said of the records that are known, of the targets and of the steps so far
+abbrev pub OfSteps : (Store → List (List ℕ) → List Step → Type 0) → Type 0
+OfSteps P = (store : Store) (targets : List (List ℕ)) (before : List Step) → P store targets before
+
+-- IfQuiet, of a site
+abbrev pub IfQuietAt : {S : Type 0} → Bool → (S → World) → S → S → Graph → Store → List (List ℕ) → List Step → Looks → (List Moment → Type 0) → Type 0
+IfQuietAt tells world old new graph store targets before seen So = IfQuiet tells graph store targets before (world old) (world new) seen So

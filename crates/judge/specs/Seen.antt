@@ -27,6 +27,10 @@ is_asked Unasked = false
 is_asked Absent = true
 is_asked (Stamp stamp) = true
 
+-- what was asked for is known still
+abbrev pub StaysKnown : List Look → List Look → Type 0
+StaysKnown seen new = (p : ℕ) → is_asked (look_at seen p) ≡ true → look_at new p ≡ look_at seen p
+
 -- each path that was asked for is as these files have it
 abbrev pub AreSeen : List (List ℕ) → List Moment → List Look → Type 0
 AreSeen paths files seen = (p : ℕ) → is_asked (look_at seen p) ≡ true → look_at seen p ≡ look_of (stamp_of (file_at files (text_at paths p)))

@@ -1,5 +1,5 @@
 -- What the inputs of phony edges come to.
-use Rattle.std.specs.Prelude.{◌≡◌, ◌↔◌, ℕ, suc, Bool, true, false, List, Some, nat_eq}
+use Rattle.std.specs.Prelude.{◌≡◌, ◌↔◌, ℕ, suc, Bool, true, false, IfSome, List, Option, Some, nat_eq}
 use Rattle.std.specs.List.{flat_map}
 use Rattle.indexmap.specs.IndexMap.{get}
 use Rattle.model.specs.World.{View}
@@ -11,6 +11,7 @@ use Rattle.graph.specs.Alias.{alias_at}
 use Rattle.graph.specs.ReadingOf.{IsCountedIn}
 use Rattle.graph.specs.Told.{declared_by}
 use Rattle.judge.specs.declared.looks.Look.{Look}
+use Rattle.judge.specs.declared.looks.Looks.{Looks}
 use Rattle.judge.specs.declared.input_facts.Inputs.{Inputs}
 use Rattle.judge.specs.Summaries.{AreInputs}
 use Rattle.judge.specs.declared.sums.Sums.{Sums}
@@ -40,3 +41,21 @@ pub record HasJoined (graph : Graph) (flags : List Bool) (seen : List Look) (num
   pub edges : List ℕ
   pub read : (view : View) (p : List ℕ) → IsReadThrough graph numbers view p ↔ IsCountedIn graph edges view p
   pub taken : HasTaken graph flags false seen (flat_map (links_of graph).regular edges) old new
+
+-- so it is, by what was seen
+abbrev pub JoinsSeen : Graph → List Bool → Looks → List ℕ → Inputs → Inputs → Type 0
+JoinsSeen graph flags looks numbers old new = HasJoined graph flags looks.seen.items numbers old new
+
+-- ---- what calls say of sums, whatever graph, flags and looks they are right by
+
+abbrev pub AreAnySums : Sums → Type 0
+AreAnySums sums = (graph : Graph) (flags : List Bool) (seen : List Look) → AreSums graph flags seen sums
+
+-- what is answered is the sum of the edge
+abbrev pub GivesSum : ℕ → Sums → Option Inputs → Type 0
+GivesSum e sums found = (graph : Graph) (flags : List Bool) (seen : List Look) → AreSums graph flags seen sums → IfSome found (IsSum graph flags seen e)
+
+-- sums are right with one more, where that is right
+abbrev pub StaySummedWith : ℕ → Inputs → Sums → Sums → Type 0
+StaySummedWith e inputs old new =
+    (graph : Graph) (flags : List Bool) (seen : List Look) → AreSums graph flags seen old → IsSum graph flags seen e inputs → AreSums graph flags seen new

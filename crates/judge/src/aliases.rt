@@ -1,11 +1,10 @@
 //! Phony edges that are due, and paths that are absent.
 
-ghost use Rattle.std.specs.Prelude.{◌≡◌, ◌<◌, All, IfOk, length, true, false};
+ghost use Rattle.std.specs.Prelude.{◌≡◌, ◌<◌, All, length, true, false};
 ghost use Rattle.model.specs.Calls.{HasCause};
 ghost use Rattle.graph.specs.Links.{links_of};
-ghost use Rattle.judge.specs.Looking.{HasLooked};
-ghost use Rattle.judge.specs.Quiet.{IfStill};
-ghost use Rattle.judge.specs.Dues.{IsAbsentAt, IsAnyAbsent, IsDuePath, IsAnyDuePath, IsDueAlias};
+ghost use Rattle.judge.specs.Looking.{HasLookedAt};
+ghost use Rattle.judge.specs.Dues.{FindsAbsent, FindsAnyAbsent, FindsDuePath, FindsAnyDue, FindsDueAlias};
 
 use crate::laws::looks_follow;
 use crate::looks::Looks;
@@ -28,9 +27,9 @@ pub fn is_alias_due<S: Site>(
     requires within { edge < length graph.now.manifest.lines }
     requires due { length due.now ≡ length graph.now.manifest.lines }
     requires alias { (links_of graph.now).phony edge ≡ true }
-    ensures looked { HasLooked S.tells graph.now (S.world site.old) (S.world site.new) looks.old looks.new }
+    ensures looked { HasLookedAt S.tells S.world site.old site.new graph.now looks.old looks.new }
     ensures cause { HasCause (S.world site.old) (S.world site.new) result }
-    ensures due { IfOk result (λ is. IfStill S.tells graph.now (S.world site.old) (S.world site.new) looks.old (IsDueAlias graph.now due.now edge is)) }
+    ensures due { FindsDueAlias S.tells S.world site.old site.new graph.now looks.old due.now edge result }
 {
     lists_stand(graph);
     if graph.inputs(edge).is_empty() {
@@ -50,9 +49,9 @@ fn has_absent<S: Site>(
     requires running { (S.world site.old).stopped ≡ false }
     requires fits { length looks.old.seen.items ≡ length graph.now.manifest.paths }
     requires within { All (λ p. p < length graph.now.manifest.paths) paths.now }
-    ensures looked { HasLooked S.tells graph.now (S.world site.old) (S.world site.new) looks.old looks.new }
+    ensures looked { HasLookedAt S.tells S.world site.old site.new graph.now looks.old looks.new }
     ensures cause { HasCause (S.world site.old) (S.world site.new) result }
-    ensures has { IfOk result (λ is. IfStill S.tells graph.now (S.world site.old) (S.world site.new) looks.old (IsAnyAbsent graph.now paths.now is)) }
+    ensures has { FindsAnyAbsent S.tells S.world site.old site.new graph.now looks.old paths.now result }
 {
     looks_follow();
     for path in paths {
@@ -73,9 +72,9 @@ pub fn is_absent<S: Site>(
     requires running { (S.world site.old).stopped ≡ false }
     requires fits { length looks.old.seen.items ≡ length graph.now.manifest.paths }
     requires within { path < length graph.now.manifest.paths }
-    ensures looked { HasLooked S.tells graph.now (S.world site.old) (S.world site.new) looks.old looks.new }
+    ensures looked { HasLookedAt S.tells S.world site.old site.new graph.now looks.old looks.new }
     ensures cause { HasCause (S.world site.old) (S.world site.new) result }
-    ensures absent { IfOk result (λ is. IfStill S.tells graph.now (S.world site.old) (S.world site.new) looks.old (IsAbsentAt graph.now path is)) }
+    ensures absent { FindsAbsent S.tells S.world site.old site.new graph.now looks.old path result }
 {
     Ok(looks.stamp(site, graph, path)?.is_none())
 }
@@ -92,9 +91,9 @@ fn has_due_path<S: Site>(
     requires fits { length looks.old.seen.items ≡ length graph.now.manifest.paths }
     requires within { All (λ p. p < length graph.now.manifest.paths) paths.now }
     requires due { length due.now ≡ length graph.now.manifest.lines }
-    ensures looked { HasLooked S.tells graph.now (S.world site.old) (S.world site.new) looks.old looks.new }
+    ensures looked { HasLookedAt S.tells S.world site.old site.new graph.now looks.old looks.new }
     ensures cause { HasCause (S.world site.old) (S.world site.new) result }
-    ensures has { IfOk result (λ is. IfStill S.tells graph.now (S.world site.old) (S.world site.new) looks.old (IsAnyDuePath graph.now due.now paths.now is)) }
+    ensures has { FindsAnyDue S.tells S.world site.old site.new graph.now looks.old due.now paths.now result }
 {
     looks_follow();
     for path in paths {
@@ -117,9 +116,9 @@ fn is_due_path<S: Site>(
     requires fits { length looks.old.seen.items ≡ length graph.now.manifest.paths }
     requires within { path < length graph.now.manifest.paths }
     requires due { length due.now ≡ length graph.now.manifest.lines }
-    ensures looked { HasLooked S.tells graph.now (S.world site.old) (S.world site.new) looks.old looks.new }
+    ensures looked { HasLookedAt S.tells S.world site.old site.new graph.now looks.old looks.new }
     ensures cause { HasCause (S.world site.old) (S.world site.new) result }
-    ensures due { IfOk result (λ is. IfStill S.tells graph.now (S.world site.old) (S.world site.new) looks.old (IsDuePath graph.now due.now path is)) }
+    ensures due { FindsDuePath S.tells S.world site.old site.new graph.now looks.old due.now path result }
 {
     match graph.maker(path) {
         Some(edge) => Ok(due[edge.index()]),

@@ -1,18 +1,11 @@
 //! Commands that are due.
 
-ghost use Rattle.std.specs.Prelude.{◌≡◌, ◌||◌, ◌<◌, ℕ, suc, [], List, IfOk, length, false};
+ghost use Rattle.std.specs.Prelude.{◌≡◌, ◌||◌, ◌<◌, [], length, false};
 ghost use Rattle.std.specs.List.{list_any};
 ghost use Rattle.model.specs.Calls.{HasCause};
-ghost use Rattle.model.specs.Graph.{has_number};
-ghost use Rattle.model.specs.Records.{Store};
-ghost use Rattle.model.specs.Schedule.{Step, judged_in};
-ghost use Rattle.theory.specs.Order.{IsOrderly};
 ghost use Rattle.graph.specs.Links.{links_of};
-ghost use Rattle.graph.specs.Told.{declared_by};
-ghost use Rattle.judge.specs.Looking.{HasLooked};
-ghost use Rattle.judge.specs.Stores.{IsStoreOf};
-ghost use Rattle.judge.specs.Quiet.{IfQuiet};
-ghost use Rattle.judge.specs.Dues.{is_made_due, reads_due, IsDueEdge};
+ghost use Rattle.judge.specs.Looking.{HasLookedAt};
+ghost use Rattle.judge.specs.Dues.{is_made_due, reads_due, FindsDueCommand};
 ghost use Rattle.judge.specs.Summed.{AreSums};
 
 use crate::judgement::reason;
@@ -43,10 +36,10 @@ pub fn is_command_due<S: Site>(
     requires due { length due.now ≡ length graph.now.manifest.lines }
     requires command { (links_of graph.now).phony edge ≡ false }
     requires summed { AreSums graph.now [] looks.old.seen.items sums.old }
-    ensures looked { HasLooked S.tells graph.now (S.world site.old) (S.world site.new) looks.old looks.new }
+    ensures looked { HasLookedAt S.tells S.world site.old site.new graph.now looks.old looks.new }
     ensures cause { HasCause (S.world site.old) (S.world site.new) result }
     ensures summed { AreSums graph.now [] looks.new.seen.items sums.new }
-    ensures due { IfOk result (λ is. (store : Store) (targets : List (List ℕ)) (before : List Step) → IsStoreOf graph.now records.now store → IsOrderly (declared_by graph.now).edges before → has_number (judged_in before) (suc edge) ≡ false → IfQuiet S.tells graph.now store targets before (S.world site.old) (S.world site.new) looks.old (λ files. IsDueEdge graph.now store before due.now edge files is)) }
+    ensures due { FindsDueCommand S.tells S.world site.old site.new graph.now records.now looks.old due.now edge result }
 {
     lists_stand(graph);
     if reads_due(graph, due, edge) {

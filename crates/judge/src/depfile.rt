@@ -1,9 +1,8 @@
 //! Whether the depfile of a command is there.
 
-ghost use Rattle.std.specs.Prelude.{◌≡◌, ◌≢◌, [], Bool, IsTrue, IfOk, List, ℕ, false, bytes_eq};
+ghost use Rattle.std.specs.Prelude.{◌≡◌, false};
 ghost use Rattle.model.specs.Calls.{OnlyLooks, HasCause};
-ghost use Rattle.judge.specs.Seen.{AreKept};
-ghost use Rattle.judge.specs.Facts.{HasDepfile};
+ghost use Rattle.judge.specs.Facts.{FindsDepfile};
 
 use model::{Deps, SiteFault};
 use paths::Command;
@@ -15,7 +14,7 @@ pub(crate) fn has_depfile<S: Site>(site: &mut S, command: &Command) -> Result<bo
     requires running { (S.world site.old).stopped ≡ false }
     ensures looks { OnlyLooks S.tells (S.world site.old) (S.world site.new) }
     ensures cause { HasCause (S.world site.old) (S.world site.new) result }
-    ensures there { IfOk result (λ is. IsTrue S.tells → (command.now.act.depfile ≢ [] → AreKept (bytes_eq command.now.act.depfile) (S.world site.old).history (S.world site.new).history) → HasDepfile command.now.act command.now.deps is (S.world site.new).history) }
+    ensures there { FindsDepfile S.tells S.world site.old site.new command.now result }
 {
     if command.deps != Deps::Unset || command.act.depfile.is_empty() {
         return Ok(false);

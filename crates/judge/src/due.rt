@@ -1,16 +1,10 @@
 //! Which edges are due.
 
-ghost use Rattle.std.specs.Prelude.{◌≡◌, ◌<◌, ℕ, All, [], List, IfOk, length, vec_len, false};
+ghost use Rattle.std.specs.Prelude.{◌≡◌, ◌<◌, All, [], IfOk, length, vec_len, false};
 ghost use Rattle.model.specs.Calls.{HasCause};
-ghost use Rattle.model.specs.Records.{Store};
-ghost use Rattle.model.specs.Schedule.{Step};
-ghost use Rattle.theory.specs.Order.{IsOrderly};
-ghost use Rattle.graph.specs.Told.{declared_by};
-ghost use Rattle.judge.specs.Looking.{HasLooked};
-ghost use Rattle.judge.specs.Stores.{IsStoreOf};
-ghost use Rattle.judge.specs.Quiet.{IfQuiet};
-ghost use Rattle.judge.specs.UnderWay.{was_due, StandsIn, IsUnderWay};
-ghost use Rattle.judge.specs.Dues.{AreDue, AreListed, IsDueEdge};
+ghost use Rattle.judge.specs.Looking.{HasLookedAt};
+ghost use Rattle.judge.specs.UnderWay.{was_due};
+ghost use Rattle.judge.specs.Dues.{AreListed, FindsDue, FindsDueEdges};
 ghost use Rattle.judge.specs.Summed.{AreSums};
 
 use crate::aliases::is_alias_due;
@@ -41,11 +35,11 @@ pub fn due_edges<S: Site>(
     requires fits { length looks.old.seen.items ≡ length graph.now.manifest.paths }
     requires order { All (λ e. e < length graph.now.manifest.lines) cone.now.order.items }
     requires plan { vec_len plan.now.standings ≡ length graph.now.manifest.lines }
-    ensures looked { HasLooked S.tells graph.now (S.world site.old) (S.world site.new) looks.old looks.new }
+    ensures looked { HasLookedAt S.tells S.world site.old site.new graph.now looks.old looks.new }
     ensures cause { HasCause (S.world site.old) (S.world site.new) result }
     ensures fits { IfOk result (λ due. length due.items ≡ length graph.now.manifest.lines) }
     ensures listed { IfOk result (λ due. AreListed cone.now.order.items due.items) }
-    ensures due { IfOk result (λ due. (store : Store) (targets : List (List ℕ)) (before : List Step) → IsUnderWay graph.now records.now cone.now plan.now store targets before → IfQuiet S.tells graph.now store targets before (S.world site.old) (S.world site.new) looks.old (λ files. AreDue (declared_by graph.now).edges store before files cone.now.order.items due.items)) }
+    ensures due { FindsDueEdges S.tells S.world site.old site.new graph.now records.now cone.now plan.now looks.old result }
 {
     looks_follow();
     lists_stand(graph);
@@ -78,10 +72,10 @@ fn is_due<S: Site>(
     requires plan { vec_len plan.now.standings ≡ length graph.now.manifest.lines }
     requires due { length due.now ≡ length graph.now.manifest.lines }
     requires summed { AreSums graph.now [] looks.old.seen.items sums.old }
-    ensures looked { HasLooked S.tells graph.now (S.world site.old) (S.world site.new) looks.old looks.new }
+    ensures looked { HasLookedAt S.tells S.world site.old site.new graph.now looks.old looks.new }
     ensures cause { HasCause (S.world site.old) (S.world site.new) result }
     ensures summed { AreSums graph.now [] looks.new.seen.items sums.new }
-    ensures due { IfOk result (λ is. (store : Store) (targets : List (List ℕ)) (before : List Step) → IsStoreOf graph.now records.now store → IsOrderly (declared_by graph.now).edges before → StandsIn graph.now plan.now before edge → IfQuiet S.tells graph.now store targets before (S.world site.old) (S.world site.new) looks.old (λ files. IsDueEdge graph.now store before due.now edge files is)) }
+    ensures due { FindsDue S.tells S.world site.old site.new graph.now records.now plan.now looks.old due.now edge result }
 {
     lists_stand(graph);
     if graph.is_phony(edge) {

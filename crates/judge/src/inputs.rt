@@ -1,15 +1,13 @@
 //! The facts of what an edge reads.
 
 ghost use Rattle.std.specs.Prelude.{◌≡◌, ◌<◌, ◌∷◌, [], ℕ, IfOk, OnOk, true, false, length};
-ghost use Rattle.std.specs.List.{flat_map};
 ghost use Rattle.model.specs.Calls.{HasCause};
 ghost use Rattle.model.specs.Graph.{has_number};
-ghost use Rattle.graph.specs.Links.{links_of};
 ghost use Rattle.graph.specs.ReadingOf.{edges_in};
-ghost use Rattle.judge.specs.Looking.{HasLooked};
-ghost use Rattle.judge.specs.Facts.{AreInputsOf, HasTaken, TakesOne, flag_at};
-ghost use Rattle.judge.specs.Lasting.{IsLasting, StayMarked};
-ghost use Rattle.judge.specs.Summed.{AreSums, HasJoined, IsSum};
+ghost use Rattle.judge.specs.Looking.{HasLookedAt};
+ghost use Rattle.judge.specs.Facts.{FindsInputs, TakesPaths, TakesEdges, TakesOne, flag_at};
+ghost use Rattle.judge.specs.Lasting.{IsLasting, MarksStay};
+ghost use Rattle.judge.specs.Summed.{AreSums, JoinsSeen, IsSum};
 
 use crate::input_facts::Inputs;
 use crate::lasting::reads_made;
@@ -38,11 +36,11 @@ pub(crate) fn inputs_of<S: Site>(
     requires fits { length looks.old.seen.items ≡ length graph.now.manifest.paths }
     requires within { edge < length graph.now.manifest.lines }
     requires summed { AreSums graph.now changed.now looks.old.seen.items sums.old }
-    ensures looked { HasLooked S.tells graph.now (S.world site.old) (S.world site.new) looks.old looks.new }
+    ensures looked { HasLookedAt S.tells S.world site.old site.new graph.now looks.old looks.new }
     ensures cause { HasCause (S.world site.old) (S.world site.new) result }
     ensures summed { AreSums graph.now changed.now looks.new.seen.items sums.new }
-    ensures marked { StayMarked graph.now changed.now looks.old.seen.items looks.new.seen.items sums.old sums.new }
-    ensures inputs { IfOk result (λ inputs. AreInputsOf graph.now S.tells changed.now edge (S.world site.old) (S.world site.new) looks.old.seen.items inputs) }
+    ensures marked { MarksStay graph.now changed.now looks.old looks.new sums.old sums.new }
+    ensures inputs { FindsInputs S.tells S.world site.old site.new graph.now looks.old changed.now edge result }
 {
     looks_follow();
     lists_stand(graph);
@@ -79,11 +77,11 @@ fn add_aliases<S: Site>(
     requires running { (S.world site.old).stopped ≡ false }
     requires fits { length looks.old.seen.items ≡ length graph.now.manifest.paths }
     requires summed { AreSums graph.now changed.now looks.old.seen.items sums.old }
-    ensures looked { HasLooked S.tells graph.now (S.world site.old) (S.world site.new) looks.old looks.new }
+    ensures looked { HasLookedAt S.tells S.world site.old site.new graph.now looks.old looks.new }
     ensures cause { HasCause (S.world site.old) (S.world site.new) result }
     ensures summed { AreSums graph.now changed.now looks.new.seen.items sums.new }
-    ensures marked { StayMarked graph.now changed.now looks.old.seen.items looks.new.seen.items sums.old sums.new }
-    ensures joined { OnOk result (HasJoined graph.now changed.now looks.new.seen.items paths.now inputs.old inputs.new) }
+    ensures marked { MarksStay graph.now changed.now looks.old looks.new sums.old sums.new }
+    ensures joined { OnOk result (JoinsSeen graph.now changed.now looks.new paths.now inputs.old inputs.new) }
 {
     looks_follow();
     for path in paths {
@@ -106,11 +104,11 @@ fn add_alias<S: Site>(
     requires running { (S.world site.old).stopped ≡ false }
     requires fits { length looks.old.seen.items ≡ length graph.now.manifest.paths }
     requires summed { AreSums graph.now changed.now looks.old.seen.items sums.old }
-    ensures looked { HasLooked S.tells graph.now (S.world site.old) (S.world site.new) looks.old looks.new }
+    ensures looked { HasLookedAt S.tells S.world site.old site.new graph.now looks.old looks.new }
     ensures cause { HasCause (S.world site.old) (S.world site.new) result }
     ensures summed { AreSums graph.now changed.now looks.new.seen.items sums.new }
-    ensures marked { StayMarked graph.now changed.now looks.old.seen.items looks.new.seen.items sums.old sums.new }
-    ensures joined { OnOk result (HasJoined graph.now changed.now looks.new.seen.items (path ∷ []) inputs.old inputs.new) }
+    ensures marked { MarksStay graph.now changed.now looks.old looks.new sums.old sums.new }
+    ensures joined { OnOk result (JoinsSeen graph.now changed.now looks.new (path ∷ []) inputs.old inputs.new) }
 {
     looks_follow();
     if let Some(alias) = graph.alias(path) {
@@ -134,10 +132,10 @@ fn sum_of<S: Site>(
     requires fits { length looks.old.seen.items ≡ length graph.now.manifest.paths }
     requires within { edge < length graph.now.manifest.lines }
     requires summed { AreSums graph.now changed.now looks.old.seen.items sums.old }
-    ensures looked { HasLooked S.tells graph.now (S.world site.old) (S.world site.new) looks.old looks.new }
+    ensures looked { HasLookedAt S.tells S.world site.old site.new graph.now looks.old looks.new }
     ensures cause { HasCause (S.world site.old) (S.world site.new) result }
     ensures summed { AreSums graph.now changed.now looks.new.seen.items sums.new }
-    ensures marked { StayMarked graph.now changed.now looks.old.seen.items looks.new.seen.items sums.old sums.new }
+    ensures marked { MarksStay graph.now changed.now looks.old looks.new sums.old sums.new }
     ensures sum { IfOk result (IsSum graph.now changed.now looks.new.seen.items edge) }
 {
     looks_follow();
@@ -161,7 +159,7 @@ fn read_by<S: Site>(
     requires running { (S.world site.old).stopped ≡ false }
     requires fits { length looks.old.seen.items ≡ length graph.now.manifest.paths }
     requires within { edge < length graph.now.manifest.lines }
-    ensures looked { HasLooked S.tells graph.now (S.world site.old) (S.world site.new) looks.old looks.new }
+    ensures looked { HasLookedAt S.tells S.world site.old site.new graph.now looks.old looks.new }
     ensures cause { HasCause (S.world site.old) (S.world site.new) result }
     ensures sum { IfOk result (λ read. IsSum graph.now changed.now looks.new.seen.items edge read.0) }
     ensures lasts { IfOk result (λ read. read.1 ≡ true → IsLasting graph.now changed.now looks.new.seen.items edge read.0) }
@@ -196,9 +194,9 @@ fn add_edges<S: Site>(
     requires running { (S.world site.old).stopped ≡ false }
     requires fits { length looks.old.seen.items ≡ length graph.now.manifest.paths }
     requires within { (d : ℕ) → has_number edges.now d ≡ true → d < length graph.now.manifest.lines }
-    ensures looked { HasLooked S.tells graph.now (S.world site.old) (S.world site.new) looks.old looks.new }
+    ensures looked { HasLookedAt S.tells S.world site.old site.new graph.now looks.old looks.new }
     ensures cause { HasCause (S.world site.old) (S.world site.new) result }
-    ensures taken { OnOk result (HasTaken graph.now changed.now false looks.new.seen.items (flat_map (links_of graph.now).regular edges.now) inputs.old inputs.new) }
+    ensures taken { OnOk result (TakesEdges graph.now changed.now looks.new edges.now inputs.old inputs.new) }
 {
     looks_follow();
     lists_stand(graph);
@@ -222,9 +220,9 @@ fn add_paths<S: Site>(
     requires running { (S.world site.old).stopped ≡ false }
     requires fits { length looks.old.seen.items ≡ length graph.now.manifest.paths }
     requires within { (p : ℕ) → has_number paths.now p ≡ true → p < length graph.now.manifest.paths }
-    ensures looked { HasLooked S.tells graph.now (S.world site.old) (S.world site.new) looks.old looks.new }
+    ensures looked { HasLookedAt S.tells S.world site.old site.new graph.now looks.old looks.new }
     ensures cause { HasCause (S.world site.old) (S.world site.new) result }
-    ensures taken { OnOk result (HasTaken graph.now changed.now always looks.new.seen.items paths.now inputs.old inputs.new) }
+    ensures taken { OnOk result (TakesPaths graph.now changed.now always looks.new paths.now inputs.old inputs.new) }
 {
     looks_follow();
     // What is taken in stays in registers.
@@ -249,9 +247,9 @@ fn add_path<S: Site>(
     requires running { (S.world site.old).stopped ≡ false }
     requires fits { length looks.old.seen.items ≡ length graph.now.manifest.paths }
     requires within { path < length graph.now.manifest.paths }
-    ensures looked { HasLooked S.tells graph.now (S.world site.old) (S.world site.new) looks.old looks.new }
+    ensures looked { HasLookedAt S.tells S.world site.old site.new graph.now looks.old looks.new }
     ensures cause { HasCause (S.world site.old) (S.world site.new) result }
-    ensures taken { OnOk result (HasTaken graph.now changed.now always looks.new.seen.items (path ∷ []) inputs.old inputs.new) }
+    ensures taken { OnOk result (TakesPaths graph.now changed.now always looks.new (path ∷ []) inputs.old inputs.new) }
 {
     if let Look::Stamp(stamp) = looks.look(path) {
         inputs.add(Some(stamp), is_changed(changed, path));

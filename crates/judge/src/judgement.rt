@@ -1,19 +1,11 @@
 //! Why a command has to run.
 
-ghost use Rattle.std.specs.Prelude.{◌≡◌, ◌<◌, List, IfOk, false, suc, length};
-ghost use Rattle.model.specs.declared.record.Record.{Record};
-ghost use Rattle.model.specs.declared.record.DepsRecord.{DepsRecord};
+ghost use Rattle.std.specs.Prelude.{◌≡◌, ◌<◌, false, length};
 ghost use Rattle.model.specs.Calls.{HasCause};
-ghost use Rattle.model.specs.Graph.{edge_at};
-ghost use Rattle.paths.specs.Lists.{line_at};
-ghost use Rattle.paths.specs.Told.{edge_of};
-ghost use Rattle.graph.specs.Told.{declared_by};
 ghost use Rattle.graph.specs.Links.{links_of};
-ghost use Rattle.judge.specs.Looking.{HasLooked};
-ghost use Rattle.judge.specs.Seen.{IfKept};
-ghost use Rattle.records.specs.Known.{AreKnown};
-ghost use Rattle.judge.specs.Judged.{IsAnswer, KeepsDepfile};
-ghost use Rattle.judge.specs.Lasting.{StayMarked};
+ghost use Rattle.judge.specs.Looking.{HasLookedAt};
+ghost use Rattle.judge.specs.Judged.{FindsReason, DoesCommand};
+ghost use Rattle.judge.specs.Lasting.{MarksStay};
 ghost use Rattle.judge.specs.Summed.{AreSums};
 
 use crate::depfile::has_depfile;
@@ -54,11 +46,11 @@ pub fn reason<S: Site>(
     requires within { edge < length graph.now.manifest.lines }
     requires command { (links_of graph.now).phony edge ≡ false }
     requires summed { AreSums graph.now changed.now looks.old.seen.items sums.old }
-    ensures looked { HasLooked S.tells graph.now (S.world site.old) (S.world site.new) looks.old looks.new }
+    ensures looked { HasLookedAt S.tells S.world site.old site.new graph.now looks.old looks.new }
     ensures cause { HasCause (S.world site.old) (S.world site.new) result }
     ensures summed { AreSums graph.now changed.now looks.new.seen.items sums.new }
-    ensures marked { StayMarked graph.now changed.now looks.old.seen.items looks.new.seen.items sums.old sums.new }
-    ensures reason { IfOk result (λ reason. (rs : List Record) (ds : List DepsRecord) → AreKnown graph.now rs ds records.now → KeepsDepfile S.tells (declared_by graph.now).edges (S.world site.old) (S.world site.new) (suc edge) → IfKept S.tells graph.now.manifest.paths (S.world site.old) (S.world site.new) looks.old.seen.items (IsAnswer graph.now rs ds changed.now edge reason)) }
+    ensures marked { MarksStay graph.now changed.now looks.old looks.new sums.old sums.new }
+    ensures reason { FindsReason S.tells S.world site.old site.new graph.now records.now looks.old changed.now edge result }
 {
     looks_follow();
     lists_stand(graph);
@@ -87,7 +79,7 @@ pub fn reason<S: Site>(
 fn command_of(graph: &Graph, edge: EdgeId) -> &Command
     requires within { edge < length graph.now.manifest.lines }
     requires command { (links_of graph.now).phony edge ≡ false }
-    ensures { edge_at (declared_by graph.now).edges (suc edge) ≡ edge_of graph.now.manifest.paths (line_at graph.now.manifest.lines edge) (Action.Command result.now) }
+    ensures { DoesCommand graph.now edge result.now }
 {
     numbers_stand(graph);
     match graph.manifest.action(edge) {

@@ -1,18 +1,11 @@
 //! Which source is missing.
 
-ghost use Rattle.std.specs.Prelude.{◌≡◌, ◌<◌, true, false, None, length, vec_len, All, IfOk, IfSome, List, ℕ};
+ghost use Rattle.std.specs.Prelude.{◌≡◌, ◌<◌, true, false, length, vec_len, All, IfOk, IfSome};
 ghost use Rattle.model.specs.Calls.{HasCause};
-ghost use Rattle.model.specs.Graph.{maker};
-ghost use Rattle.model.specs.Records.{Store};
-ghost use Rattle.model.specs.Schedule.{Step};
-ghost use Rattle.paths.specs.Told.{text_at};
-ghost use Rattle.graph.specs.Links.{links_of};
-ghost use Rattle.graph.specs.Told.{declared_by};
-ghost use Rattle.judge.specs.Looking.{HasLooked};
-ghost use Rattle.judge.specs.Quiet.{IfStill, IfQuiet};
-ghost use Rattle.judge.specs.UnderWay.{IsUnderWay};
-ghost use Rattle.judge.specs.Dues.{due_at, AreSourcesIn, HasAllSources};
-ghost use Rattle.judge.specs.Lacks.{IsFound, lack_in, IfPresent, HasDue, IsLackOf, IsSourceOf, IsSourceFor, IsMissingAt, IsFirstIn, IsFirstFor, IsFoundOfDue, IsAskedFor, NamesDue};
+ghost use Rattle.judge.specs.Looking.{HasLookedAt};
+ghost use Rattle.judge.specs.Dues.{due_at};
+ghost use Rattle.judge.specs.Lacks.{lack_in, IsLackOf, IsSourceOf, IsSourceFor, IsSourceAt, IsAskedLack, NamesDue};
+ghost use Rattle.judge.specs.Lacks.{FindsMissing, FindsFirst, FindsFirstOf, FindsFirstOfDue, FindsLack, FindsFlags};
 
 use crate::aliases::is_absent;
 use crate::due::due_edges;
@@ -68,12 +61,12 @@ pub fn sources<S: Site>(
     requires order { All (λ e. e < length graph.now.manifest.lines) cone.now.order.items }
     requires targets { All (λ p. p < length graph.now.manifest.paths) cone.now.targets.items }
     requires plan { vec_len plan.now.standings ≡ length graph.now.manifest.lines }
-    ensures looked { HasLooked S.tells graph.now (S.world site.old) (S.world site.new) looks.old looks.new }
+    ensures looked { HasLookedAt S.tells S.world site.old site.new graph.now looks.old looks.new }
     ensures cause { HasCause (S.world site.old) (S.world site.new) result }
-    ensures found { IfOk result (λ found. (store : Store) (targets : List (List ℕ)) (before : List Step) → IsUnderWay graph.now records.now cone.now plan.now store targets before → IfQuiet S.tells graph.now store targets before (S.world site.old) (S.world site.new) looks.old (λ files. IsFound graph.now store before targets files (lack_in found))) }
-    ensures due { IfOk result (λ found. IfPresent found (λ due. HasDue S.tells graph.now records.now cone.now plan.now (S.world site.old) (S.world site.new) looks.old due)) }
+    ensures found { FindsLack S.tells S.world site.old site.new graph.now records.now cone.now plan.now looks.old result }
+    ensures due { FindsFlags S.tells S.world site.old site.new graph.now records.now cone.now plan.now looks.old result }
     ensures within { IfOk result (λ found. IfSome (lack_in found) (IsLackOf graph.now)) }
-    ensures asked { IfOk result (λ found. IfSome (lack_in found) (λ lack. IsAskedFor cone.now lack.path lack.needed_by)) }
+    ensures asked { IfOk result (λ found. IfSome (lack_in found) (λ lack. IsAskedLack cone.now lack)) }
 {
     looks_follow();
     lists_stand(graph);
@@ -103,9 +96,9 @@ fn lack_of_due<S: Site>(
     requires running { (S.world site.old).stopped ≡ false }
     requires fits { length looks.old.seen.items ≡ length graph.now.manifest.paths }
     requires due { length due.now ≡ length graph.now.manifest.lines }
-    ensures looked { HasLooked S.tells graph.now (S.world site.old) (S.world site.new) looks.old looks.new }
+    ensures looked { HasLookedAt S.tells S.world site.old site.new graph.now looks.old looks.new }
     ensures cause { HasCause (S.world site.old) (S.world site.new) result }
-    ensures found { IfOk result (λ found. IfStill S.tells graph.now (S.world site.old) (S.world site.new) looks.old (λ set files. HasAllSources set graph.now → IsFoundOfDue graph.now due.now files found)) }
+    ensures found { FindsFirstOfDue S.tells S.world site.old site.new graph.now looks.old due.now result }
     ensures within { IfOk result (λ found. IfSome found (IsLackOf graph.now)) }
     ensures named { IfOk result (λ found. IfSome found (λ lack. NamesDue due.now lack.needed_by)) }
 {
@@ -134,9 +127,9 @@ fn missing_of_edge<S: Site>(
     requires fits { length looks.old.seen.items ≡ length graph.now.manifest.paths }
     requires within { edge < length graph.now.manifest.lines }
     requires due { length due.now ≡ length graph.now.manifest.lines }
-    ensures looked { HasLooked S.tells graph.now (S.world site.old) (S.world site.new) looks.old looks.new }
+    ensures looked { HasLookedAt S.tells S.world site.old site.new graph.now looks.old looks.new }
     ensures cause { HasCause (S.world site.old) (S.world site.new) result }
-    ensures first { IfOk result (λ found. IfStill S.tells graph.now (S.world site.old) (S.world site.new) looks.old (λ set files. AreSourcesIn set graph.now ((links_of graph.now).inputs edge) → IsFirstFor graph.now due.now edge files found)) }
+    ensures first { FindsFirstOf S.tells S.world site.old site.new graph.now looks.old due.now edge result }
     ensures within { IfOk result (λ found. IfSome found (IsSourceFor graph.now edge)) }
     ensures marked { IfOk result (λ found. IfSome found (λ path. due_at due.now edge ≡ true)) }
 {
@@ -158,9 +151,9 @@ fn first_missing<S: Site>(
     requires running { (S.world site.old).stopped ≡ false }
     requires fits { length looks.old.seen.items ≡ length graph.now.manifest.paths }
     requires within { All (λ p. p < length graph.now.manifest.paths) paths.now }
-    ensures looked { HasLooked S.tells graph.now (S.world site.old) (S.world site.new) looks.old looks.new }
+    ensures looked { HasLookedAt S.tells S.world site.old site.new graph.now looks.old looks.new }
     ensures cause { HasCause (S.world site.old) (S.world site.new) result }
-    ensures first { IfOk result (λ found. IfStill S.tells graph.now (S.world site.old) (S.world site.new) looks.old (λ set files. AreSourcesIn set graph.now paths.now → IsFirstIn graph.now paths.now files found)) }
+    ensures first { FindsFirst S.tells S.world site.old site.new graph.now looks.old paths.now result }
     ensures within { IfOk result (λ found. IfSome found (IsSourceOf graph.now paths.now)) }
 {
     looks_follow();
@@ -182,10 +175,10 @@ fn is_missing<S: Site>(
     requires running { (S.world site.old).stopped ≡ false }
     requires fits { length looks.old.seen.items ≡ length graph.now.manifest.paths }
     requires within { path < length graph.now.manifest.paths }
-    ensures looked { HasLooked S.tells graph.now (S.world site.old) (S.world site.new) looks.old looks.new }
+    ensures looked { HasLookedAt S.tells S.world site.old site.new graph.now looks.old looks.new }
     ensures cause { HasCause (S.world site.old) (S.world site.new) result }
-    ensures missing { IfOk result (λ is. IfStill S.tells graph.now (S.world site.old) (S.world site.new) looks.old (IsMissingAt graph.now path is)) }
-    ensures source { IfOk result (λ is. is ≡ true → maker (declared_by graph.now).edges (text_at graph.now.manifest.paths path) ≡ None) }
+    ensures missing { FindsMissing S.tells S.world site.old site.new graph.now looks.old path result }
+    ensures source { IfOk result (λ is. is ≡ true → IsSourceAt graph.now path) }
 {
     match graph.maker(path) {
         Some(_) => Ok(false),

@@ -1,13 +1,12 @@
 //! What was seen of each path.
 
-ghost use Rattle.std.specs.Prelude.{◌≡◌, ◌<◌, ◌≤◌, ◌++◌, ℕ, List, take, IfOk, OnOk, OnErr, true, false, length, slice_set};
-ghost use Rattle.std.proofs.Math.ListN.{replicate};
+ghost use Rattle.std.specs.Prelude.{◌≡◌, ◌<◌, ◌≤◌, ℕ, take, IfOk, OnOk, OnErr, true, false, length};
 ghost use Rattle.model.specs.Calls.{OnlyLooks, HasCause};
 ghost use Rattle.model.specs.Graph.{has_number};
-ghost use Rattle.paths.specs.Told.{text_at};
 ghost use Rattle.judge.specs.declared.looks.Look.TheVariants.{Unasked};
-ghost use Rattle.judge.specs.Looking.{HasLooked};
-ghost use Rattle.judge.specs.Seen.{look_at, look_of, is_asked, IfKept, AreSeenOf, IsStampIn, StaysSeen};
+ghost use Rattle.judge.specs.Looking.{HasLookedAt, StaysRight, FindsStamp, was_asked, AreUnasked, IsNoted, NotesStamp};
+ghost use Rattle.judge.specs.Looking.{KeepsAsked, HasAsked, KeepsAll, KeepsAllBut, StaysSeenIn, HasForgotten, KeepsOthers};
+ghost use Rattle.judge.specs.Seen.{look_at, look_of};
 
 use graph::Graph;
 use model::SiteFault;
@@ -36,7 +35,7 @@ pub struct Looks {
 impl Looks {
     /// Nothing was asked for.
     pub fn new(alloc: Global, graph: &Graph) -> Result<Looks, AllocError>
-        ensures { IfOk result (λ looks. looks.seen.items ≡ replicate (length graph.now.manifest.paths) Unasked) }
+        ensures { IfOk result (λ looks. AreUnasked graph.now looks) }
     {
         Ok(Looks {
             seen: vec![in alloc; Look::Unasked; graph.paths()]?,
@@ -56,12 +55,12 @@ impl Looks {
         requires within { path < length graph.now.manifest.paths }
         ensures looks { OnlyLooks S.tells (S.world site.old) (S.world site.new) }
         ensures cause { HasCause (S.world site.old) (S.world site.new) result }
-        ensures seen { IfOk result (λ stamp. self.new.seen.items ≡ slice_set self.old.seen.items path (look_of stamp)) }
-        ensures once { is_asked (look_at self.old.seen.items path) ≡ true → (S.world site.new ≡ S.world site.old) }
-        ensures asked { is_asked (look_at self.old.seen.items path) ≡ true → IfOk result (λ stamp. look_at self.old.seen.items path ≡ look_of stamp) }
-        ensures kept { IfKept S.tells graph.now.manifest.paths (S.world site.old) (S.world site.new) self.old.seen.items (λ set files. AreSeenOf set graph.now.manifest.paths files self.new.seen.items) }
-        ensures stamp { IfOk result (λ stamp. IfKept S.tells graph.now.manifest.paths (S.world site.old) (S.world site.new) self.old.seen.items (IsStampIn (text_at graph.now.manifest.paths path) stamp)) }
-        ensures stays { (p : ℕ) → is_asked (look_at self.old.seen.items p) ≡ true → look_at self.new.seen.items p ≡ look_at self.old.seen.items p }
+        ensures seen { IfOk result (λ stamp. NotesStamp path stamp self.old self.new) }
+        ensures once { was_asked self.old path ≡ true → (S.world site.new ≡ S.world site.old) }
+        ensures asked { was_asked self.old path ≡ true → IfOk result (λ stamp. IsNoted self.old path stamp) }
+        ensures kept { StaysRight S.tells S.world site.old site.new graph.now self.old self.new }
+        ensures stamp { FindsStamp S.tells S.world site.old site.new graph.now self.old path result }
+        ensures stays { KeepsAsked self.old self.new }
         ensures err { OnErr result (self.new ≡ self.old) }
     {
         let place = path.index();
@@ -86,9 +85,9 @@ impl Looks {
         requires running { (S.world site.old).stopped ≡ false }
         requires fits { length self.old.seen.items ≡ length graph.now.manifest.paths }
         requires within { (p : ℕ) → has_number paths.now p ≡ true → p < length graph.now.manifest.paths }
-        ensures looked { HasLooked S.tells graph.now (S.world site.old) (S.world site.new) self.old self.new }
+        ensures looked { HasLookedAt S.tells S.world site.old site.new graph.now self.old self.new }
         ensures cause { HasCause (S.world site.old) (S.world site.new) result }
-        ensures asked { OnOk result ((p : ℕ) → has_number paths.now p ≡ true → is_asked (look_at self.new.seen.items p) ≡ true) }
+        ensures asked { OnOk result (HasAsked paths.now self.new) }
     {
         for path in paths {
             self.stamp(site, graph, *path)?;
@@ -101,8 +100,8 @@ impl Looks {
     pub fn grow(&mut self, graph: &Graph) -> Result<(), AllocError>
         requires { length self.old.seen.items ≤ length graph.now.manifest.paths }
         ensures fits { OnOk result (length self.new.seen.items ≡ length graph.now.manifest.paths) }
-        ensures same { OnOk result ((p : ℕ) → look_at self.new.seen.items p ≡ look_at self.old.seen.items p) }
-        ensures seen { OnOk result ((paths more : List (List ℕ)) → graph.now.manifest.paths ≡ paths ++ more → length self.old.seen.items ≡ length paths → StaysSeen paths graph.now.manifest.paths self.old.seen.items self.new.seen.items) }
+        ensures same { OnOk result (KeepsAll self.old self.new) }
+        ensures seen { OnOk result (StaysSeenIn graph.now self.old self.new) }
         ensures front { take (length self.old.seen.items) self.new.seen.items ≡ self.old.seen.items }
         ensures err { OnErr result (self.new.seen.items ≡ self.old.seen.items) }
     {
@@ -129,8 +128,8 @@ impl Looks {
 
     /// Forgets what was seen of these paths.
     pub fn forget(&mut self, paths: &[PathId])
-        ensures forgotten { (p : ℕ) → has_number paths.now p ≡ true → look_at self.new.seen.items p ≡ Unasked }
-        ensures others { (p : ℕ) → has_number paths.now p ≡ false → look_at self.new.seen.items p ≡ look_at self.old.seen.items p }
+        ensures forgotten { HasForgotten paths.now self.new }
+        ensures others { KeepsOthers paths.now self.old self.new }
         ensures fits { length self.new.seen.items ≡ length self.old.seen.items }
     {
         for path in paths {
@@ -141,7 +140,7 @@ impl Looks {
     /// Forgets what was seen of the path.
     fn forget_one(&mut self, path: PathId)
         ensures forgotten { look_at self.new.seen.items path ≡ Unasked }
-        ensures others { (p : ℕ) → (p ≡ path → ⊥) → look_at self.new.seen.items p ≡ look_at self.old.seen.items p }
+        ensures others { KeepsAllBut path self.old self.new }
         ensures fits { length self.new.seen.items ≡ length self.old.seen.items }
     {
         let place = path.index();

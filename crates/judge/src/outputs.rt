@@ -1,17 +1,10 @@
 //! The facts of an edge's outputs.
 
-ghost use Rattle.std.specs.Prelude.{◌≡◌, ◌<◌, ℕ, List, IfOk, true, false, length};
-ghost use Rattle.model.specs.declared.record.Record.{Record};
-ghost use Rattle.model.specs.declared.record.DepsRecord.{DepsRecord};
+ghost use Rattle.std.specs.Prelude.{◌≡◌, ◌<◌, ℕ, true, false, length};
 ghost use Rattle.model.specs.Calls.{HasCause};
 ghost use Rattle.model.specs.Graph.{has_number};
-ghost use Rattle.judge.specs.Looking.{HasLooked};
-ghost use Rattle.judge.specs.Seen.{IfKept};
-ghost use Rattle.model.specs.OutOfDate.{deps_start};
-ghost use Rattle.model.specs.Records.{deps_in_force};
-ghost use Rattle.paths.specs.Told.{text_at};
-ghost use Rattle.records.specs.Known.{IsOfDeps};
-ghost use Rattle.judge.specs.Facts.{AreKnownOf, HasOutputs};
+ghost use Rattle.judge.specs.Looking.{HasLookedAt};
+ghost use Rattle.judge.specs.Facts.{FindsMade, IsDepsStart};
 
 use crate::laws::looks_follow;
 use crate::looks::Looks;
@@ -35,9 +28,9 @@ pub(crate) fn outputs_of<S: Site>(
     requires running { (S.world site.old).stopped ≡ false }
     requires fits { length looks.old.seen.items ≡ length graph.now.manifest.paths }
     requires within { (p : ℕ) → has_number paths.now p ≡ true → p < length graph.now.manifest.paths }
-    ensures looked { HasLooked S.tells graph.now (S.world site.old) (S.world site.new) looks.old looks.new }
+    ensures looked { HasLookedAt S.tells S.world site.old site.new graph.now looks.old looks.new }
     ensures cause { HasCause (S.world site.old) (S.world site.new) result }
-    ensures outputs { IfOk result (λ outputs. (rs : List Record) (ds : List DepsRecord) → AreKnownOf graph.now.manifest.paths paths.now rs ds records.now → IfKept S.tells graph.now.manifest.paths (S.world site.old) (S.world site.new) looks.old.seen.items (HasOutputs graph.now act.now rs ds paths.now outputs)) }
+    ensures outputs { FindsMade S.tells S.world site.old site.new graph.now records.now looks.old act.now paths.now result }
 {
     looks_follow();
     let mut outputs = Outputs::new();
@@ -55,7 +48,7 @@ pub(crate) fn outputs_of<S: Site>(
 
 /// The start that the deps record of the path names.
 fn deps_start(records: &Records, path: PathId) -> Option<u64>
-    ensures { (ds : List DepsRecord) (paths : List (List ℕ)) → IsOfDeps ds paths records.now → path < length paths → result ≡ deps_start (deps_in_force ds (text_at paths path)) }
+    ensures { IsDepsStart records.now path result }
 {
     Some(records.deps(path)?.start)
 }

@@ -1,12 +1,10 @@
 //! What the inputs of phony edges come to.
 
-ghost use Rattle.std.specs.Prelude.{◌≡◌, ◌++◌, ◌&&◌, not, ℕ, List, [], ◌∷◌, Bool, true, false, if◌then◌else◌, IfSome, OnErr};
+ghost use Rattle.std.specs.Prelude.{◌≡◌, ◌&&◌, not, true, false, OnErr};
 ghost use Rattle.indexmap.specs.IndexMap.{IsEmpty, IsUnchanged};
 ghost use Rattle.model.specs.Graph.{has_number};
-ghost use Rattle.graph.specs.declared.graph.Graph.{Graph};
-ghost use Rattle.judge.specs.declared.looks.Look.{Look};
-ghost use Rattle.judge.specs.Lasting.{AreMarked, LeavesLasting, StayMarkedWith};
-ghost use Rattle.judge.specs.Summed.{IsSum, AreSums};
+ghost use Rattle.judge.specs.Lasting.{AreAnyMarked, LeavesLasting, StayMarkedWith, MarksIf, KeepsMarks};
+ghost use Rattle.judge.specs.Summed.{AreAnySums, GivesSum, StaySummedWith};
 
 use crate::input_facts::Inputs;
 use indexmap::IndexMap;
@@ -30,8 +28,8 @@ pub struct Sums {
 impl Sums {
     /// Nothing is known.
     pub fn new(alloc: Global) -> Sums
-        ensures summed { (graph : Graph) (flags : List Bool) (seen : List Look) → AreSums graph flags seen result }
-        ensures marked { (graph : Graph) (flags : List Bool) (seen : List Look) → AreMarked graph flags seen result }
+        ensures summed { AreAnySums result }
+        ensures marked { AreAnyMarked result }
     {
         Sums {
             alloc,
@@ -42,8 +40,8 @@ impl Sums {
 
     /// Forgets all that is known, and its memory.
     pub fn clear(&mut self)
-        ensures summed { (graph : Graph) (flags : List Bool) (seen : List Look) → AreSums graph flags seen self.new }
-        ensures marked { (graph : Graph) (flags : List Bool) (seen : List Look) → AreMarked graph flags seen self.new }
+        ensures summed { AreAnySums self.new }
+        ensures marked { AreAnyMarked self.new }
         ensures empty { IsEmpty self.new.by_edge }
     {
         self.by_edge = IndexMap::new(self.alloc);
@@ -80,7 +78,7 @@ impl Sums {
 
     /// What the phony edge reads comes to, where that is known.
     pub(crate) fn get(&self, edge: EdgeId) -> Option<Inputs>
-        ensures { (graph : Graph) (flags : List Bool) (seen : List Look) → AreSums graph flags seen self.now → IfSome result (IsSum graph flags seen edge) }
+        ensures { GivesSum edge self.now result }
     {
         self.by_edge.get(&edge).copied()
     }
@@ -93,7 +91,7 @@ impl Sums {
         inputs: Inputs,
         lasts: bool,
     ) -> Result<(), AllocError>
-        ensures summed { (graph : Graph) (flags : List Bool) (seen : List Look) → AreSums graph flags seen self.old → IsSum graph flags seen edge inputs → AreSums graph flags seen self.new }
+        ensures summed { StaySummedWith edge inputs self.old self.new }
         ensures marked { StayMarkedWith lasts edge inputs self.old self.new }
         ensures refused { OnErr result (self.new.passing.items ≡ self.old.passing.items) }
     {
@@ -111,8 +109,8 @@ impl Sums {
     /// Marks the edge as one whose sum does not last, where it does not. Says whether there was room for that.
     fn mark(&mut self, edge: EdgeId, lasts: bool) -> bool
         ensures by_edge { self.new.by_edge ≡ self.old.by_edge }
-        ensures pushed { self.new.passing.items ≡ self.old.passing.items ++ (if result && not lasts then edge ∷ [] else []) }
-        ensures others { (q : ℕ) → has_number self.new.passing.items q ≡ false → has_number self.old.passing.items q ≡ false }
+        ensures pushed { MarksIf (result && not lasts) edge self.old self.new }
+        ensures others { KeepsMarks self.old self.new }
         ensures marked { result ≡ true → lasts ≡ false → has_number self.new.passing.items edge ≡ true }
     {
         lasts || self.passing.push(edge).is_ok()

@@ -1,3 +1,4 @@
 pub mod Gathering
 pub mod Keeping
 pub mod Looking
+pub mod Parting

@@ -1,2 +1,3 @@
 pub mod Above
 pub mod Tools
+pub mod Written

@@ -9,6 +9,7 @@ use crate::missing_told::missing_answer;
 use ninja_words::Options;
 use paths::PathId;
 use records::Records;
+use seen::Measured;
 use site::Site;
 use std::alloc::Global;
 use tools::{
@@ -23,21 +24,29 @@ pub struct Asking<'a> {
     pub tool: Tool,
     pub options: &'a Options<'a>,
     pub switches: &'a Switches<'a>,
+    /// Whether stamps are trusted: what builds have noted counts for nothing.
+    pub trusts_stamps: bool,
 }
 
 impl<'a> Asking<'a> {
-    pub fn new(tool: Tool, options: &'a Options<'a>, switches: &'a Switches<'a>) -> Asking<'a> {
+    pub fn new(
+        tool: Tool,
+        options: &'a Options<'a>,
+        switches: &'a Switches<'a>,
+        trusts_stamps: bool,
+    ) -> Asking<'a> {
         Asking {
             tool,
             options,
             switches,
+            trusts_stamps,
         }
     }
 }
 
 /// What a tool answers of what was read.
 #[tactic(auto, using(crate::proofs::Looking::looking))]
-pub fn answer_read<S: Site>(
+pub fn answer_read<S: Measured>(
     alloc: Global,
     site: &mut S,
     asking: Asking<'_>,

@@ -1,9 +1,15 @@
 //! What `clean` and `cleandead` remove, and what is told of it, as real ninja does.
 
+ghost use Rattle.std.specs.Prelude.{IfOk};
+ghost use Rattle.ninja_asked.specs.Written.{RemovesLeft, StandsForSome};
+
 use crate::answers::Asking;
+use crate::written::{Parted, no_notes, part, read_notes};
 use ninja_words::Shown;
 use paths::{PathId, Paths};
 use records::Records;
+use seen::Measured;
+use seen_log::Log;
 use site::Site;
 use std::alloc::{AllocError, Global};
 use tools::{
@@ -127,11 +133,11 @@ pub fn cleaned<S: Site>(
         let targets = asked(alloc, &declared.graph, words)?;
         cleaner.remove_targets(alloc, site, &targets)?;
     }
-    answer_of(alloc, site, &cleaner.cleaned, None)
+    Ok(answer_of(alloc, &cleaner.cleaned)?)
 }
 
-/// Removes what neither a line nor a dyndep file that could be loaded names any more.
-pub fn buried<S: Site>(
+/// Removes what neither a line nor a dyndep file that could be loaded names any more, but for what somebody else wrote there.
+pub fn buried<S: Measured>(
     alloc: Global,
     site: &mut S,
     declared: &Declared,
@@ -139,9 +145,73 @@ pub fn buried<S: Site>(
     asking: Asking<'_>,
 ) -> Result<Answer, Fault> {
     let found = to_bury(alloc, declared, records)?;
+    let buried = bury_noted(alloc, site, declared, &found.dead, asking)?;
+    told_of(alloc, site, &found.kept, &buried)
+}
+
+/// Removes those of the paths where nobody else wrote what stands there.
+fn bury_noted<S: Measured>(
+    alloc: Global,
+    site: &mut S,
+    declared: &Declared,
+    dead: &Paths,
+    asking: Asking<'_>,
+) -> Result<Cleared, Fault> {
+    let notes = notes_for(alloc, site, declared, asking)?;
+    bury(alloc, site, &notes, dead, asking)
+}
+
+/// What builds have noted of paths; nothing where stamps are trusted.
+fn notes_for<S: Site>(
+    alloc: Global,
+    site: &mut S,
+    declared: &Declared,
+    asking: Asking<'_>,
+) -> Result<Log, Fault>
+    ensures { IfOk result StandsForSome }
+{
+    if asking.trusts_stamps {
+        return Ok(no_notes(alloc));
+    }
+    read_notes(alloc, site, declared.graph.manifest.builddir.as_str())
+}
+
+/// What came of dead paths.
+#[derive(Drop)]
+struct Cleared {
+    cleaned: Cleaned,
+    /// Those that are kept, as somebody else wrote what stands there.
+    others: Paths,
+}
+
+/// The same, by what builds have noted.
+fn bury<S: Measured>(
+    alloc: Global,
+    site: &mut S,
+    notes: &Log,
+    dead: &Paths,
+    asking: Asking<'_>,
+) -> Result<Cleared, Fault>
+    ensures { IfOk result (λ buried. RemovesLeft S.tells asking.entry.options.now.dry (S.world site.old) (S.world site.new) notes.now dead.now buried.others) }
+{
+    let parted = part(alloc, site, notes, dead)?;
     let mut cleaned = Cleaned::new(alloc, tells_each(asking));
-    clean(alloc, site, &found.dead, asking.options.dry, &mut cleaned)?;
-    answer_of(alloc, site, &cleaned, Some(&found.kept))
+    clean(alloc, site, &parted.left, asking.options.dry, &mut cleaned)?;
+    let Parted { others, .. } = parted;
+    Ok(Cleared { cleaned, others })
+}
+
+/// What is told of it, and of those that are kept since deps records list them.
+fn told_of<S: Site>(
+    alloc: Global,
+    site: &mut S,
+    listed: &Paths,
+    buried: &Cleared,
+) -> Result<Answer, Fault> {
+    let mut answer = answer_of(alloc, &buried.cleaned)?;
+    push_listed(site, &mut answer.text, listed)?;
+    push_others(&mut answer.text, &buried.others)?;
+    Ok(answer)
 }
 
 /// Whether a line tells each file that is removed.
@@ -149,18 +219,10 @@ fn tells_each(asking: Asking<'_>) -> bool {
     asking.options.dry || asking.options.shown == Shown::Commands
 }
 
-/// What is told of what was removed, which of the others are kept, and beside it what could not be removed.
-fn answer_of<S: Site>(
-    alloc: Global,
-    site: &mut S,
-    cleaned: &Cleaned,
-    kept: Option<&Paths>,
-) -> Result<Answer, Fault> {
+/// What is told of what was removed, and beside it what could not be removed.
+fn answer_of(alloc: Global, cleaned: &Cleaned) -> Result<Answer, AllocError> {
     let mut text = String::new(alloc);
     push_removed(alloc, &mut text, cleaned)?;
-    if let Some(kept) = kept {
-        push_kept(site, &mut text, kept)?;
-    }
     let beside = refused(alloc, cleaned)?;
     let status = if cleaned.refused.is_empty() { 0 } else { 1 };
     Ok(Answer {
@@ -193,17 +255,17 @@ fn refused(alloc: Global, cleaned: &Cleaned) -> Result<String, AllocError> {
     Ok(told)
 }
 
-/// Tells which of the paths are there and kept.
-fn push_kept<S: Site>(site: &mut S, text: &mut String, kept: &Paths) -> Result<(), Fault> {
+/// Tells which of the paths that deps records list are there and kept.
+fn push_listed<S: Site>(site: &mut S, text: &mut String, kept: &Paths) -> Result<(), Fault> {
     for place in 0..kept.len() {
         if let Some(path) = path_at(kept, place) {
-            push_kept_path(site, text, path)?;
+            push_listed_path(site, text, path)?;
         }
     }
     Ok(())
 }
 
-fn push_kept_path<S: Site>(site: &mut S, text: &mut String, path: &str) -> Result<(), Fault> {
+fn push_listed_path<S: Site>(site: &mut S, text: &mut String, path: &str) -> Result<(), Fault> {
     if site.stat(path)?.is_some() {
         push_line(
             text,
@@ -213,6 +275,17 @@ fn push_kept_path<S: Site>(site: &mut S, text: &mut String, path: &str) -> Resul
                 "', which the deps log lists as an input",
             ],
         )?;
+    }
+    Ok(())
+}
+
+/// Tells that these are kept, where somebody else wrote what stands there.
+fn push_others(text: &mut String, others: &Paths) -> Result<(), AllocError> {
+    for place in 0..others.len() {
+        if let Some(path) = path_at(others, place) {
+            let line = ["ninja: kept '", path, "', which somebody else wrote"];
+            push_line(text, line.as_slice())?;
+        }
     }
     Ok(())
 }

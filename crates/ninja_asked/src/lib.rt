@@ -7,6 +7,7 @@ mod cleaning;
 mod missing_told;
 mod processors;
 mod targets;
+mod written;
 
 pub use above::{Above, all_above};
 pub use answers::{Asking, answer_read};

@@ -41,6 +41,15 @@ struct Lines<'a> {
     around: Around<'a>,
 }
 
+/// A tool that is called.
+#[derive(Clone, Copy)]
+struct Called<'a> {
+    tool: Tool,
+    given: &'a Given<'a>,
+    /// Whether stamps are trusted.
+    trusts_stamps: bool,
+}
+
 /// The whole program: does what the words ask for, without the program's name among them, and answers the exit status: 0 after a
 /// success, 3 where dependencies are missing, else 1.
 pub fn run<W: Write + Drop, E: Write>(
@@ -58,7 +67,14 @@ pub fn run<W: Write + Drop, E: Write>(
             told::information(information, jobs, out, err)
         }
         Ok(Asked::Build(given)) => run_build(rt, &given, around, out, err),
-        Ok(Asked::Tool(tool, given)) => run_tool(rt, tool, &given, out, err),
+        Ok(Asked::Tool(tool, given)) => {
+            let called = Called {
+                tool,
+                given: &given,
+                trusts_stamps: around.trusts_stamps,
+            };
+            run_tool(rt, called, out, err)
+        }
         Err(fault) => {
             let jobs = jobs_here(rt);
             told::words(&fault, jobs, err)
@@ -390,19 +406,26 @@ fn build_options(alloc: Global, given: &Given<'_>, jobs: u32) -> Result<Options,
 
 fn run_tool<W: Write, E: Write>(
     rt: &HostRuntime,
-    tool: Tool,
-    given: &Given<'_>,
+    called: Called<'_>,
     out: &mut W,
     err: &mut E,
 ) -> io::Result<u8>
     ensures { IfOk result (λ status. status ≤ 3) }
 {
     let alloc = rt.alloc();
+    let Called {
+        tool,
+        given,
+        trusts_stamps,
+    } = called;
     if !enter(rt, given, err)? {
         return Ok(1);
     }
     match switches_of(alloc, tool, given.words.as_slice()) {
-        Ok(found) => answer_in(rt, Asking::new(tool, given, &found), out, err),
+        Ok(found) => {
+            let asking = Asking::new(tool, given, &found, trusts_stamps);
+            answer_in(rt, asking, out, err)
+        }
         Err(Usage::Memory) => told::error("N61: out of memory", err),
         Err(usage) => {
             if let Usage::Letter(letter) = usage {

@@ -1,5 +1,5 @@
 -- Edges that wait for their start, in pools of which so many commands may run at once.
-use Rattle.std.specs.Prelude.{◌≡◌, ℕ, ◌<◌, nat_lt, ◌&&◌, Bool, true, false, List, slice_index, slice_index_or, slice_set, Option, None, Some}
+use Rattle.std.specs.Prelude.{◌≡◌, ℕ, ◌<◌, nat_lt, ◌&&◌, Bool, true, false, List, length, replicate, slice_index, slice_index_or, slice_set, Option, None, Some}
 use Rattle.plan.specs.Flags.{has}
 
 pub record Turns : Type 0 where
@@ -11,6 +11,11 @@ pub record Turns : Type 0 where
   pub running : List ℕ
   -- whether each edge waits
   pub waiting : List Bool
+
+-- no edge waits and no command runs
+abbrev pub first_turns : List (Option ℕ) → List ℕ → Turns
+first_turns groups depths =
+    record { groups = groups; depths = depths; running = replicate (length depths) 0; waiting = replicate (length groups) false }
 
 abbrev pub group_at : Turns → ℕ → Option ℕ
 group_at turns e = slice_index_or turns.groups e None

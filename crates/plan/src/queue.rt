@@ -1,9 +1,9 @@
 //! Which edge may be started next, by the room in pools.
 
-ghost use Rattle.std.specs.Prelude.{◌≡◌, ◌<◌, ◌-◌, ℕ, suc, true, false, [], map, length, replicate, slice_get, IfOk, OnOk, MatchOption, Some};
+ghost use Rattle.std.specs.Prelude.{◌≡◌, ◌<◌, ◌-◌, ℕ, suc, true, false, [], map, length, slice_get, IfOk, OnOk, MatchOption, Some};
 ghost use Rattle.plan.specs.declared.pool.Pool.{Pool};
 ghost use Rattle.plan.specs.Seats.{members_of, depth_of, running_of, shown_of, members_at, AreEmpty, AreSeated, HaveSameLimits, HasRoom, with_member, rank_in};
-ghost use Rattle.plan.specs.Turns.{Turns, may, room, IsFirstTurn, NoTurn, group_at, runs_at, with_waiting, with_running, AreWithin};
+ghost use Rattle.plan.specs.Turns.{Turns, first_turns, may, room, IsFirstTurn, NoTurn, group_at, runs_at, with_waiting, with_running, AreWithin};
 
 use crate::lowest::Lowest;
 use crate::pool::{Pool, show};
@@ -47,7 +47,7 @@ impl Queue {
         depths: &[usize],
     ) -> Result<Queue, AllocError>
         requires { AreWithin (length depths.now) groups.items }
-        ensures { IfOk result (λ queue. queue ≡ record { groups = groups.items; depths = depths.now; running = replicate (length depths.now) 0; waiting = replicate (length groups.items) false }) }
+        ensures { IfOk result (λ queue. queue ≡ first_turns groups.items depths.now) }
     {
         let waiting = vec![in alloc; false; groups.len()]?;
         let front = Lowest::new(alloc, groups.len())?;

@@ -1,20 +1,22 @@
 -- What a plain plan knows of a build, by the steps so far.
-use Rattle.std.specs.Prelude.{◌≡◌, ◌⊎◌, ℕ, suc, Bool, true, false, List, length, None}
+use Rattle.std.specs.Prelude.{◌≡◌, ◌⊎◌, ℕ, suc, Bool, true, false, List, [], ◌∷◌, ◌++◌, length, None}
 use Rattle.model.specs.declared.graph.Edge.{Edge}
 use Rattle.model.specs.Graph.{edge_at, IsCommand}
 use Rattle.model.specs.Reading.{IsInCone}
-use Rattle.model.specs.Schedule.{Task, Step as Done, IsSettled, done_in}
+use Rattle.model.specs.Schedule.{Task, Step as Done, IsLawfulStep, IsSettled, done_in}
 use Rattle.graph.specs.declared.graph.Graph.{Graph}
+use Rattle.graph.specs.declared.cone.Cone.{Cone}
 use Rattle.graph.specs.declared.cone.Mark.{Mark}
 use Rattle.graph.specs.Links.{Links, links_of}
 use Rattle.graph.specs.Cone.{is_listed, mark_at}
 use Rattle.graph.specs.Extended.{dyndep_at}
+use Rattle.graph.specs.Linked.{IsConeOf}
 use Rattle.plan.specs.declared.step.Standing.{Standing}
 use Rattle.plan.specs.declared.step.Standing.TheVariants.{Outside, Unjudged, OutOfDate, Alias, Known}
 use Rattle.plan.specs.declared.step.Step.{Step}
 use Rattle.plan.specs.declared.step.Step.TheVariants.{Load, Judge, Start, Wait, Ended as Over}
 use Rattle.plan.specs.Standing.{standing_at, is_outside, is_phony, is_settled}
-use Rattle.plan.specs.Planned.{IsTaskOf, standing_in}
+use Rattle.plan.specs.Planned.{IsTaskOf, IsNextOf, IsDueOf, AreTaken, standing_in}
 use Rattle.plan_plain.specs.declared.plain.Plan.{Plan}
 use Rattle.plan_plain.specs.Scan.{may_settle, NonePasses}
 
@@ -48,6 +50,31 @@ pub record IsPlanned (task : Task) (graph : Graph) (plan : Plan) (steps : List D
   pub over : IsPlanOver graph plan
   pub stood : AreStood task plan.standings.items steps
 
+-- whatever is to be built of this cone under these limits, the plan is that of its beginning
+abbrev pub IsFirstPlan : Graph → Cone → ℕ → ℕ → Plan → Type 0
+IsFirstPlan graph cone jobs keep plan =
+    (task : Task) → IsTaskOf task graph → task.jobs ≡ jobs → task.keep ≡ keep
+    → IsConeOf task.graph.edges task.recorded task.targets cone.order.items cone.marks.items → IsPlanned task graph plan []
+
+-- whatever is built, the plan after steps is, with one more lawful one, that of the steps and it
+abbrev pub TakesStep : Graph → Plan → Plan → Done → Type 0
+TakesStep graph old new step =
+    (task : Task) (steps : List Done) → IsPlanned task graph old steps → AreTaken task steps → IsLawfulStep task steps step → IsPlanned task graph new (steps ++ step ∷ [])
+
+-- so it is over each graph
+abbrev pub TakesStepInAny : Plan → Plan → Done → Type 0
+TakesStepInAny old new step =
+    (task : Task) (graph : Graph) (steps : List Done) → IsPlanned task graph old steps → AreTaken task steps → IsLawfulStep task steps step
+    → IsPlanned task graph new (steps ++ step ∷ [])
+
+-- for whatever steps the plan is that of, what is said next is a lawful step, where it is one
+abbrev pub IsLawfulNext : Graph → Plan → Step → Type 0
+IsLawfulNext graph plan step = (task : Task) (steps : List Done) → IsPlanned task graph plan steps → AreTaken task steps → IsNextOf task steps step
+
+-- and a load just where one is due
+abbrev pub IsDueNext : Graph → Plan → Step → Type 0
+IsDueNext graph plan step = (task : Task) (steps : List Done) → IsPlanned task graph plan steps → AreTaken task steps → IsDueOf task graph steps step
+
 -- what is said may be told to the plan
 abbrev pub IsOffered : Plan → Step → Type 0
 IsOffered plan (Load file) = ⊥
@@ -80,3 +107,8 @@ pub record SettlesAliases (old new : Plan) : Type 0 where
 -- the edges that stand as aliases have no command
 abbrev pub AreAliases : List Edge → List Standing → Type 0
 AreAliases edges standings = (e : ℕ) → standing_at standings e ≡ Alias → (edge_at edges (suc e)).phony ≡ true
+
+-- what is settled stays so by what was done
+abbrev pub StaySound : Graph → List Standing → List Standing → Type 0
+StaySound graph old new =
+    (task : Task) (done : List ℕ) → IsTaskOf task graph → AreAliases task.graph.edges old → IsSound task.graph.edges done old → IsSound task.graph.edges done new

@@ -27,17 +27,16 @@ pub struct Plan {
 }
 
 impl Plan {
-    ghost use Rattle.std.specs.Prelude.{◌≡◌, ◌<◌, ◌++◌, ◌∷◌, ℕ, suc, true, false, List, [], length, vec_len, slice_set, slice_index_or, IfOk};
-    ghost use Rattle.model.specs.Schedule.{Task, Step as Done, Judged, Started, Ended as Finished, IsLawfulStep};
+    ghost use Rattle.std.specs.Prelude.{◌≡◌, ◌<◌, ℕ, suc, true, false, length, vec_len, slice_set, slice_index_or, IfOk};
+    ghost use Rattle.model.specs.Schedule.{Judged, Started, Ended as Finished};
     ghost use Rattle.graph.specs.declared.graph.Graph.{Graph};
     ghost use Rattle.graph.specs.Links.{links_of};
-    ghost use Rattle.graph.specs.Linked.{IsConeOf};
     ghost use Rattle.plan.specs.Standing.{standing_at};
     ghost use Rattle.plan.specs.Plan.{standing_by, standing_after, IsSettling};
     ghost use Rattle.plan.specs.Changed.{IsForEach, AreNoted};
-    ghost use Rattle.plan.specs.Planned.{IsTaskOf, IsNextOf, IsDueOf, AreTaken, is_stale};
+    ghost use Rattle.plan.specs.Planned.{is_stale};
     ghost use Rattle.plan_plain.specs.Scan.{may_settle, NonePasses};
-    ghost use Rattle.plan_plain.specs.Planned.{NamesNone, IsPlanOver, IsPlanned, IsOffered, IsSound, AreAliases, SettlesAliases};
+    ghost use Rattle.plan_plain.specs.Planned.{NamesNone, IsPlanOver, IsFirstPlan, IsOffered, IsLawfulNext, IsDueNext, TakesStep, TakesStepInAny, StaySound, SettlesAliases};
 
     /// A plan in which no edge of the cone is judged. No edge names a dyndep file: this plan says no load.
     pub fn new(
@@ -51,7 +50,7 @@ impl Plan {
         requires plain { NamesNone graph.now }
         ensures over { IfOk result (IsPlanOver graph.now) }
         ensures flags { IfOk result (λ plan. (p : ℕ) → slice_index_or plan.changed.items p false ≡ false) }
-        ensures planned { IfOk result (λ plan. (task : Task) → IsTaskOf task graph.now → task.jobs ≡ jobs → task.keep ≡ keep → IsConeOf task.graph.edges task.recorded task.targets cone.now.order.items cone.now.marks.items → IsPlanned task graph.now plan []) }
+        ensures planned { IfOk result (λ plan. IsFirstPlan graph.now cone.now jobs keep plan) }
     {
         let mut plan = Plan {
             standings: first_standings(alloc, graph, cone)?,
@@ -67,8 +66,8 @@ impl Plan {
     pub fn next(&self, graph: &Graph) -> Step
         requires { IsPlanOver graph.now self.now }
         ensures offered { IsOffered self.now result }
-        ensures lawful { (task : Task) (steps : List Done) → IsPlanned task graph.now self.now steps → AreTaken task steps → IsNextOf task steps result }
-        ensures loads { (task : Task) (steps : List Done) → IsPlanned task graph.now self.now steps → AreTaken task steps → IsDueOf task graph.now steps result }
+        ensures lawful { IsLawfulNext graph.now self.now result }
+        ensures loads { IsDueNext graph.now self.now result }
     {
         standings_tell();
         steps_name();
@@ -97,7 +96,7 @@ impl Plan {
         ensures over { IsPlanOver graph.now self.new }
         ensures stands { IsSettling self.old.standings.items self.new.standings.items edge (standing_by verdict) }
         ensures flags { self.new.changed ≡ self.old.changed }
-        ensures planned { (task : Task) (steps : List Done) → IsPlanned task graph.now self.old steps → AreTaken task steps → IsLawfulStep task steps (Judged (suc edge) (is_stale verdict)) → IsPlanned task graph.now self.new (steps ++ Judged (suc edge) (is_stale verdict) ∷ []) }
+        ensures planned { TakesStep graph.now self.old self.new (Judged (suc edge) (is_stale verdict)) }
     {
         steps_move();
         self.standings[edge.index()] = standing_by(verdict);
@@ -110,7 +109,7 @@ impl Plan {
         ensures over { (graph : Graph) → IsPlanOver graph self.old → IsPlanOver graph self.new }
         ensures stands { self.new.standings.items ≡ slice_set self.old.standings.items edge Standing.Running }
         ensures flags { self.new.changed ≡ self.old.changed }
-        ensures planned { (task : Task) (graph : Graph) (steps : List Done) → IsPlanned task graph self.old steps → AreTaken task steps → IsLawfulStep task steps (Started (suc edge)) → IsPlanned task graph self.new (steps ++ Started (suc edge) ∷ []) }
+        ensures planned { TakesStepInAny self.old self.new (Started (suc edge)) }
     {
         steps_move();
         self.standings[edge.index()] = Standing::Running;
@@ -125,7 +124,7 @@ impl Plan {
         ensures over { IsPlanOver graph.now self.new }
         ensures stands { IsSettling self.old.standings.items self.new.standings.items edge (standing_after ok) }
         ensures flags { AreNoted self.old.changed.items self.new.changed.items ((links_of graph.now).outputs edge) changed.entry }
-        ensures planned { (task : Task) (steps : List Done) → IsPlanned task graph.now self.old steps → AreTaken task steps → IsLawfulStep task steps (Finished (suc edge) ok) → IsPlanned task graph.now self.new (steps ++ Finished (suc edge) ok ∷ []) }
+        ensures planned { TakesStep graph.now self.old self.new (Finished (suc edge) ok) }
     {
         steps_move();
         note_changes(&mut self.changed, graph.outputs(edge), changed);
@@ -145,7 +144,7 @@ impl Plan {
         requires { length self.old.standings.items ≡ length graph.now.manifest.lines }
         ensures none { NonePasses (may_settle (links_of graph.now) self.new.standings.items) }
         ensures rest { SettlesAliases self.old self.new }
-        ensures sound { (task : Task) (done : List ℕ) → IsTaskOf task graph.now → AreAliases task.graph.edges self.old.standings.items → IsSound task.graph.edges done self.old.standings.items → IsSound task.graph.edges done self.new.standings.items }
+        ensures sound { StaySound graph.now self.old.standings.items self.new.standings.items }
     {
         while let Some(edge) = self.first_to_settle(graph) {
             self.standings[edge.index()] = Standing::Known;

@@ -14,6 +14,10 @@ abbrev pub listed_below : List Mark → ℕ → List ℕ
 listed_below marks zero = []
 listed_below marks (suc n) = listed_below marks n ++ (if is_listed (mark_at marks n) then n ∷ [] else [])
 
+-- the edge was listed behind others, if it is in the cone
+abbrev pub ListsIfMarked : Cone → ℕ → List ℕ → List ℕ → Type 0
+ListsIfMarked cone e old new = new ≡ old ++ (if is_listed (mark_at cone.marks.items e) then e ∷ [] else [])
+
 -- these are just the edges of the cone, whatever edges and targets it is of
 abbrev pub IsSameCone : Graph → Cone → List ℕ → Type 0
 IsSameCone graph cone order =

@@ -1,7 +1,8 @@
 -- Why commands are due, by what was seen of files and by the records of the logs.
-use Rattle.std.specs.Prelude.{◌≡◌, ◌<◌, ℕ, suc, Bool, true, false, ◌&&◌, ◌||◌, ◌⊎◌, ◌++◌, ◌∷◌, not, List, [], map, filter, find, length, Option, Some, None, is_some, is_none, if◌then◌else◌}
+use Rattle.std.specs.Prelude.{◌≡◌, ◌<◌, ℕ, suc, Bool, true, false, ◌&&◌, ◌||◌, ◌⊎◌, ◌++◌, ◌∷◌, not, List, [], map, filter, find, length, Option, Some, None, is_some, is_none, if◌then◌else◌, IfOk, OnOk, Result, Vec}
 use Rattle.std.specs.List.{AllByRecursion, flat_map}
 use Rattle.std.specs.Option.{option_or}
+use Rattle.std.specs.declared.alloc.Global.{Global}
 use Rattle.model.specs.declared.act.Act.{Act}
 use Rattle.model.specs.declared.reason.Reason.{Reason}
 use Rattle.model.specs.declared.reason.Reason.TheVariants.{OutputAbsent, NoRecord, OtherAct, InputAbsent, InputChanged, InputLater, OutputOlder, DepsUnknown}
@@ -46,6 +47,10 @@ OfRecords records numbers So =
 abbrev pub HaveAsked : List Look → List ℕ → Type 0
 HaveAsked seen numbers = (p : ℕ) → has_number numbers p ≡ true → is_asked (look_at seen p) ≡ true
 
+-- and so were the regular inputs of these edges
+abbrev pub HaveAskedOf : Graph → Looks → List ℕ → Type 0
+HaveAskedOf graph looks edges = HaveAsked looks.seen.items (flat_map (links_of graph).regular edges)
+
 -- an output, as it was seen and recorded
 abbrev pub seen_output : List (List ℕ) → List Record → List DepsRecord → List Look → ℕ → OutputFacts
 seen_output paths rs ds seen p =
@@ -56,6 +61,11 @@ abbrev pub TakesSeen : Records → List Look → Act → ℕ → Outputs → Out
 TakesSeen records seen act p old new =
     (paths : List (List ℕ)) (rs : List Record) (ds : List DepsRecord) → IsOf rs paths records → IsOfDeps ds paths records → p < length paths
     → TakesOutput act (seen_output paths rs ds seen p) old new
+
+-- what was taken in are these outputs, as they were seen and recorded
+abbrev pub SumsOutputs : Records → Looks → Act → List ℕ → Outputs → Type 0
+SumsOutputs records looks act numbers outputs =
+    OfRecords records numbers (λ paths rs ds. AreOutputs act (map (seen_output paths rs ds looks.seen.items) numbers) outputs)
 
 -- ---- of which path a reason holds
 
@@ -94,6 +104,11 @@ is_sought links anew seen outputs reason always p =
 abbrev pub first_of : Links → List Bool → List Look → Outputs → Reason → Bool → List ℕ → Option ℕ
 first_of links anew seen outputs reason always paths = find (λ p. is_sought links anew seen outputs reason always p) paths
 
+-- the first of the regular inputs of these edges that count
+abbrev pub first_read : Graph → List Bool → Looks → Outputs → Reason → List ℕ → Option ℕ
+first_read graph anew looks outputs reason edges =
+    first_of (links_of graph) anew looks.seen.items outputs reason false (flat_map (links_of graph).regular edges)
+
 -- the first of the regular inputs of these edges that count, then of the recorded inputs of the edge
 abbrev pub first_input : Links → List Bool → List Look → Outputs → Reason → List ℕ → ℕ → Option ℕ
 first_input links anew seen outputs reason edges e =
@@ -113,6 +128,11 @@ holds_of_output act OutputOlder o = false
 -- the first of these outputs of which the reason holds
 abbrev pub first_output : List (List ℕ) → List Record → List DepsRecord → List Look → Act → Reason → List ℕ → Option ℕ
 first_output paths rs ds seen act reason numbers = find (λ p. holds_of_output act reason (seen_output paths rs ds seen p)) numbers
+
+-- it is the first of these outputs of which the reason holds, if one is
+abbrev pub IsFirstOutput : Records → Looks → Act → Reason → List ℕ → Option ℕ → Type 0
+IsFirstOutput records looks act reason numbers found =
+    OfRecords records numbers (λ paths rs ds. found ≡ first_output paths rs ds looks.seen.items act reason numbers)
 
 -- ---- the table
 
@@ -222,3 +242,21 @@ pub record HasTold (tells : Bool) (graph : Graph) (cone : Cone) (records : Recor
   pub commands : AreCommands graph due (length graph.manifest.lines) flags
   pub listed : map edge_in told ≡ filter (due_at flags) order
   pub all : AreWhy tells graph records flags old new before after told
+
+-- ---- What calls say that are given a site: `world` tells the world of the site, which the call found as `old` and left as `new`.
+
+abbrev pub FindsWhy : {S E : Type 0} → Bool → (S → World) → S → S → Graph → Records → List Bool → Looks → Looks → ℕ → Result DueCommand E → Type 0
+FindsWhy tells world old new graph records flags before after e result =
+    IfOk result (IsWhy tells graph records flags (world old) (world new) before after e)
+
+abbrev pub TellsEdge : {S E : Type 0} → Bool → (S → World) → S → S → Graph → Records → List Bool → Looks → Looks → ℕ → Vec DueCommand Global → Vec DueCommand Global → Result (Unit {0}) E → Type 0
+TellsEdge tells world old new graph records flags before after e told_before told result =
+    OnOk result (TellsOne tells graph records flags (world old) (world new) before after e told_before.items told.items)
+
+abbrev pub TellsWhy : {S E : Type 0} → Bool → (S → World) → S → S → Graph → Records → List Bool → Looks → Looks → Vec DueCommand Global → Result (Unit {0}) E → Type 0
+TellsWhy tells world old new graph records flags before after told result =
+    OnOk result (AreWhy tells graph records flags (world old) (world new) before after told.items)
+
+abbrev pub TellsDue : {S E : Type 0} → Bool → (S → World) → S → S → Graph → Cone → Records → List Bool → Looks → Looks → Result (Vec DueCommand Global) E → Type 0
+TellsDue tells world old new graph cone records due before after result =
+    IfOk result (λ told. HasTold tells graph cone records due (world old) (world new) before after told.items)

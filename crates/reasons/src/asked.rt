@@ -1,12 +1,11 @@
 //! Asking for what an edge names.
 
 ghost use Rattle.std.specs.Prelude.{◌≡◌, ◌<◌, ℕ, OnOk, true, false, length};
-ghost use Rattle.std.specs.List.{flat_map};
 ghost use Rattle.model.specs.Calls.{HasCause};
 ghost use Rattle.model.specs.Graph.{has_number};
 ghost use Rattle.graph.specs.Links.{links_of};
-ghost use Rattle.judge.specs.Looking.{HasLooked};
-ghost use Rattle.reasons.specs.Why.{HaveAsked};
+ghost use Rattle.judge.specs.Looking.{HasLookedAt};
+ghost use Rattle.reasons.specs.Why.{HaveAsked, HaveAskedOf};
 
 use graph::{Graph, lists_stand};
 use judge::{Looks, looks_follow};
@@ -27,10 +26,10 @@ pub(crate) fn ask_for<S: Site>(
     requires fits { length looks.old.seen.items ≡ length graph.now.manifest.paths }
     requires within { edge < length graph.now.manifest.lines }
     requires edges { (d : ℕ) → has_number edges.now d ≡ true → d < length graph.now.manifest.lines }
-    ensures looked { HasLooked S.tells graph.now (S.world site.old) (S.world site.new) looks.old looks.new }
+    ensures looked { HasLookedAt S.tells S.world site.old site.new graph.now looks.old looks.new }
     ensures cause { HasCause (S.world site.old) (S.world site.new) result }
     ensures outputs { OnOk result (HaveAsked looks.new.seen.items ((links_of graph.now).outputs edge)) }
-    ensures regular { OnOk result (HaveAsked looks.new.seen.items (flat_map (links_of graph.now).regular edges.now)) }
+    ensures regular { OnOk result (HaveAskedOf graph.now looks.new edges.now) }
     ensures recorded { OnOk result (HaveAsked looks.new.seen.items ((links_of graph.now).recorded edge)) }
 {
     looks_follow();
@@ -51,9 +50,9 @@ fn ask_regular<S: Site>(
     requires running { (S.world site.old).stopped ≡ false }
     requires fits { length looks.old.seen.items ≡ length graph.now.manifest.paths }
     requires edges { (d : ℕ) → has_number edges.now d ≡ true → d < length graph.now.manifest.lines }
-    ensures looked { HasLooked S.tells graph.now (S.world site.old) (S.world site.new) looks.old looks.new }
+    ensures looked { HasLookedAt S.tells S.world site.old site.new graph.now looks.old looks.new }
     ensures cause { HasCause (S.world site.old) (S.world site.new) result }
-    ensures regular { OnOk result (HaveAsked looks.new.seen.items (flat_map (links_of graph.now).regular edges.now)) }
+    ensures regular { OnOk result (HaveAskedOf graph.now looks.new edges.now) }
 {
     looks_follow();
     lists_stand(graph);

@@ -1,12 +1,11 @@
 //! The first path of which a reason holds, of what an edge reads.
 
-ghost use Rattle.std.specs.Prelude.{◌≡◌, ◌<◌, ℕ, true, false, length};
-ghost use Rattle.std.specs.List.{flat_map};
+ghost use Rattle.std.specs.Prelude.{◌≡◌, ◌<◌, ℕ, true, length};
 ghost use Rattle.model.specs.Graph.{has_number};
 ghost use Rattle.model.specs.Judgement.{is_later};
 ghost use Rattle.graph.specs.Links.{links_of};
 ghost use Rattle.judge.specs.Dues.{is_made_due};
-ghost use Rattle.reasons.specs.Why.{counts, input_tells, is_sought, first_of, first_input};
+ghost use Rattle.reasons.specs.Why.{counts, input_tells, is_sought, first_of, first_read, first_input};
 
 use crate::outputs::seen_stamp;
 use graph::Graph;
@@ -49,7 +48,7 @@ fn first_read(
 ) -> Option<PathId>
     requires edges { (d : ℕ) → has_number edges.now d ≡ true → d < length graph.now.manifest.lines }
     requires anew { length anew.now ≡ length graph.now.manifest.lines }
-    ensures { result ≡ first_of (links_of graph.now) anew.now looks.now.seen.items outputs reason false (flat_map (links_of graph.now).regular edges.now) }
+    ensures { result ≡ first_read graph.now anew.now looks.now outputs reason edges.now }
 {
     for edge in edges {
         let paths = graph.regular_inputs(*edge);

@@ -1,9 +1,9 @@
 //! The edges of a cone, makers first and else by number.
 
-ghost use Rattle.std.specs.Prelude.{◌≡◌, ◌++◌, ◌∷◌, [], if◌then◌else◌, IfOk, OnOk, length};
+ghost use Rattle.std.specs.Prelude.{◌≡◌, [], IfOk, OnOk, length};
 ghost use Rattle.graph.specs.Cone.{is_listed, mark_at, IsOrder};
 ghost use Rattle.graph.specs.Links.{links_of, AllEdges};
-ghost use Rattle.reasons.specs.Order.{IsSameCone, listed_below};
+ghost use Rattle.reasons.specs.Order.{IsSameCone, ListsIfMarked, listed_below};
 
 use graph::{Cone, Graph, Mark};
 use paths::EdgeId;
@@ -40,7 +40,7 @@ fn listed_edges(alloc: Global, graph: &Graph, cone: &Cone) -> Result<Vec<EdgeId>
 
 /// Puts the edge behind the others, if it is in the cone.
 fn push_listed(cone: &Cone, edge: EdgeId, edges: &mut Vec<EdgeId>) -> Result<(), AllocError>
-    ensures { OnOk result (edges.new.items ≡ edges.old.items ++ (if is_listed (mark_at cone.now.marks.items edge) then edge ∷ [] else [])) }
+    ensures { OnOk result (ListsIfMarked cone.now edge edges.old.items edges.new.items) }
 {
     if is_listed(cone, edge) {
         edges.push(edge)?;

@@ -1,14 +1,9 @@
 //! What is known of the outputs of an edge, by its records and by what was seen of them.
 
-ghost use Rattle.std.specs.Prelude.{◌≡◌, ◌<◌, map, length};
-ghost use Rattle.model.specs.OutOfDate.{deps_start};
-ghost use Rattle.model.specs.Records.{deps_in_force};
-ghost use Rattle.paths.specs.Told.{text_at};
-ghost use Rattle.records.specs.Known.{OfKnownDeps};
-ghost use Rattle.judge.specs.Summaries.{AreOutputs};
+ghost use Rattle.std.specs.Prelude.{◌≡◌};
 ghost use Rattle.judge.specs.Seen.{look_at};
-ghost use Rattle.judge.specs.Facts.{seen_stamp};
-ghost use Rattle.reasons.specs.Why.{OfRecords, TakesSeen, seen_output, output_tells, first_output};
+ghost use Rattle.judge.specs.Facts.{IsDepsStart, seen_stamp};
+ghost use Rattle.reasons.specs.Why.{IsFirstOutput, SumsOutputs, TakesSeen, output_tells};
 
 use judge::{Look, Looks, OutputFacts, Outputs, Reason};
 use model::Act;
@@ -17,7 +12,7 @@ use records::Records;
 
 /// What is kept of the facts of these outputs.
 pub(crate) fn summary_of(looks: &Looks, records: &Records, act: &Act, outputs: &[PathId]) -> Outputs
-    ensures { OfRecords records.now outputs.now (λ paths rs ds. AreOutputs act.now (map (seen_output paths rs ds looks.now.seen.items) outputs.now) result) }
+    ensures { SumsOutputs records.now looks.now act.now outputs.now result }
 {
     let mut summary = Outputs::new();
     for output in outputs {
@@ -46,7 +41,7 @@ pub(crate) fn first_output(
     reason: Reason,
     outputs: &[PathId],
 ) -> Option<PathId>
-    ensures { OfRecords records.now outputs.now (λ paths rs ds. result ≡ first_output paths rs ds looks.now.seen.items act.now reason outputs.now) }
+    ensures { IsFirstOutput records.now looks.now act.now reason outputs.now result }
 {
     for output in outputs {
         let mut alone = Outputs::new();
@@ -87,7 +82,7 @@ pub(crate) fn seen_stamp(looks: &Looks, path: PathId) -> Option<u64>
 
 /// The start that the deps record of the path names.
 fn deps_start(records: &Records, path: PathId) -> Option<u64>
-    ensures { OfKnownDeps records.now (λ ds paths. path < length paths → result ≡ deps_start (deps_in_force ds (text_at paths path))) }
+    ensures { IsDepsStart records.now path result }
 {
     Some(records.deps(path)?.start)
 }

@@ -1,17 +1,15 @@
 //! The commands that are due, with what is told of each.
 
-ghost use Rattle.std.specs.Prelude.{◌≡◌, ◌<◌, ℕ, suc, [], All, IfOk, OnOk, true, false, length, map, filter};
+ghost use Rattle.std.specs.Prelude.{◌≡◌, ◌<◌, ℕ, [], All, IfOk, OnOk, true, false, length, map, filter};
 ghost use Rattle.model.specs.Calls.{HasCause};
-ghost use Rattle.model.specs.Graph.{edge_at, has_number};
-ghost use Rattle.graph.specs.Told.{declared_by};
+ghost use Rattle.model.specs.Graph.{has_number};
 ghost use Rattle.graph.specs.Links.{links_of};
 ghost use Rattle.graph.specs.ReadingOf.{edges_in};
-ghost use Rattle.paths.specs.Lists.{line_at};
-ghost use Rattle.paths.specs.Told.{edge_of};
-ghost use Rattle.judge.specs.Looking.{HasLooked};
+ghost use Rattle.judge.specs.Looking.{HasLookedAt};
 ghost use Rattle.judge.specs.Dues.{due_at};
+ghost use Rattle.judge.specs.Judged.{DoesCommand};
 ghost use Rattle.judge.specs.Summed.{AreSums};
-ghost use Rattle.reasons.specs.Why.{AreNotPhony, AreWhy, IsWhy, IsTold, HasTold, TellsOne, edge_in};
+ghost use Rattle.reasons.specs.Why.{AreNotPhony, IsTold, FindsWhy, TellsDue, TellsEdge, TellsWhy, edge_in};
 
 use crate::asked::ask_for;
 use crate::flags::commands_due;
@@ -60,10 +58,10 @@ pub fn due_commands<S: Site>(
     requires running { (S.world site.old).stopped ≡ false }
     requires fits { length looks.old.seen.items ≡ length graph.now.manifest.paths }
     requires due { length due.now ≡ length graph.now.manifest.lines }
-    ensures looked { HasLooked S.tells graph.now (S.world site.old) (S.world site.new) looks.old looks.new }
+    ensures looked { HasLookedAt S.tells S.world site.old site.new graph.now looks.old looks.new }
     ensures cause { HasCause (S.world site.old) (S.world site.new) result }
     ensures within { IfOk result (λ told. All (λ command. command.edge < length graph.now.manifest.lines) told.items) }
-    ensures told { IfOk result (λ told. HasTold S.tells graph.now cone.now records.now due.now (S.world site.old) (S.world site.new) looks.old looks.new told.items) }
+    ensures told { TellsDue S.tells S.world site.old site.new graph.now cone.now records.now due.now looks.old looks.new result }
 {
     let flags = commands_due(alloc, graph, due)?;
     let order = in_order(alloc, graph, cone)?;
@@ -91,10 +89,10 @@ fn tell_all<S: Site>(
     requires flags { length flags.now ≡ length graph.now.manifest.lines }
     requires commands { AreNotPhony graph.now flags.now }
     requires none { told.old.items ≡ [] }
-    ensures looked { HasLooked S.tells graph.now (S.world site.old) (S.world site.new) looks.old looks.new }
+    ensures looked { HasLookedAt S.tells S.world site.old site.new graph.now looks.old looks.new }
     ensures cause { HasCause (S.world site.old) (S.world site.new) result }
     ensures listed { OnOk result (map edge_in told.new.items ≡ filter (due_at flags.now) order.now) }
-    ensures all { OnOk result (AreWhy S.tells graph.now records.now flags.now (S.world site.old) (S.world site.new) looks.old looks.new told.new.items) }
+    ensures all { TellsWhy S.tells S.world site.old site.new graph.now records.now flags.now looks.old looks.new told.new result }
 {
     looks_follow();
     let mut sums = Sums::new(alloc);
@@ -127,11 +125,11 @@ fn tell_one<S: Site>(
     requires commands { AreNotPhony graph.now flags.now }
     requires firm { length firm.old.items ≡ length graph.now.manifest.lines }
     requires summed { AreSums graph.now [] looks.old.seen.items sums.old }
-    ensures looked { HasLooked S.tells graph.now (S.world site.old) (S.world site.new) looks.old looks.new }
+    ensures looked { HasLookedAt S.tells S.world site.old site.new graph.now looks.old looks.new }
     ensures cause { HasCause (S.world site.old) (S.world site.new) result }
     ensures summed { AreSums graph.now [] looks.new.seen.items sums.new }
     ensures firm { length firm.new.items ≡ length graph.now.manifest.lines }
-    ensures told { OnOk result (TellsOne S.tells graph.now records.now flags.now (S.world site.old) (S.world site.new) looks.old looks.new edge told.old.items told.new.items) }
+    ensures told { TellsEdge S.tells S.world site.old site.new graph.now records.now flags.now looks.old looks.new edge told.old told.new result }
 {
     looks_follow();
     if !has_flag(flags, edge) {
@@ -179,11 +177,11 @@ fn due_command<S: Site>(
     requires flags { length flags.now ≡ length graph.now.manifest.lines }
     requires firm { length firm.now ≡ length graph.now.manifest.lines }
     requires summed { AreSums graph.now [] looks.old.seen.items sums.old }
-    ensures looked { HasLooked S.tells graph.now (S.world site.old) (S.world site.new) looks.old looks.new }
+    ensures looked { HasLookedAt S.tells S.world site.old site.new graph.now looks.old looks.new }
     ensures cause { HasCause (S.world site.old) (S.world site.new) result }
     ensures summed { AreSums graph.now [] looks.new.seen.items sums.new }
     ensures edge { IfOk result (λ command. command.edge ≡ edge) }
-    ensures why { IfOk result (IsWhy S.tells graph.now records.now flags.now (S.world site.old) (S.world site.new) looks.old looks.new edge) }
+    ensures why { FindsWhy S.tells S.world site.old site.new graph.now records.now flags.now looks.old looks.new edge result }
 {
     looks_follow();
     sums_follow();
@@ -244,7 +242,7 @@ fn edges_of(reading: &Reading) -> &[EdgeId]
 fn command_of(graph: &Graph, edge: EdgeId) -> &Command
     requires within { edge < length graph.now.manifest.lines }
     requires command { (links_of graph.now).phony edge ≡ false }
-    ensures { edge_at (declared_by graph.now).edges (suc edge) ≡ edge_of graph.now.manifest.paths (line_at graph.now.manifest.lines edge) (Action.Command result.now) }
+    ensures { DoesCommand graph.now edge result.now }
 {
     numbers_stand(graph);
     match graph.manifest.action(edge) {

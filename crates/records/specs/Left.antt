@@ -7,7 +7,10 @@ use Rattle.model.specs.Outcome.{Behaviour}
 use Rattle.model.specs.Records.{OwnFiles, LogFormat, Store}
 use Rattle.model.specs.Schedule.{Step}
 use Rattle.log_text.specs.Found.{texts_in}
+use Rattle.graph.specs.declared.graph.Graph.{Graph}
 use Rattle.records.specs.declared.logs.Logs.{Logs}
+use Rattle.records.specs.declared.records.Records.{Records}
+use Rattle.records.specs.Edges.{OfEdge}
 use Rattle.records.specs.Logging.{IsLogging, IsLoggedStill, NoneInForce, IsReported, MayReport, EndedWell}
 
 -- What is said of a run by its behaviour, its format, its own files, its steps, and the store and the world at its entry. They
@@ -105,3 +108,9 @@ HasDone tells stamp edges i old new = OfEnd tells stamp edges i old (Ends tells 
 
 abbrev pub TellDone : Bool → ℕ → List Edge → ℕ → Now → Now → Type 0
 TellDone tells stamp edges i old new = OfEnd tells stamp edges i old (Tell tells edges i old new)
+
+-- ---- What a call leaves that is given a site: `world` tells the world of that, which the call found as `old` and left as `new`.
+
+-- so it is of the edge with this number
+abbrev pub LeavesLogs : {S : Type 0} → (List Edge → ℕ → Now → Now → Type 0) → (S → World) → S → S → Graph → ℕ → Records → Records → Type 0
+LeavesLogs So world old new graph e before after = OfEdge So graph e (world old, before.logs) (world new, after.logs)

@@ -5,11 +5,11 @@ ghost use Rattle.std.specs.Option.{option_map};
 ghost use Rattle.model.specs.Calls.{OnlyLooks, HasCause};
 ghost use Rattle.model.specs.Graph.{IsCommand, IsMadeOnce};
 ghost use Rattle.theory.specs.Writes.{WritesAt};
-ghost use Rattle.records.specs.Edges.{paths_in, declared_edges, declared_outputs, OfEdge};
+ghost use Rattle.records.specs.Edges.{paths_in, declared_edges, declared_outputs};
 ghost use Rattle.records.specs.Held.{IsLonger};
 ghost use Rattle.records.specs.Known.{Knows, KnowsAll, OfKnown, OfKnownDeps, IsMade, IsTold, OfGrown, AreStillKnown};
 ghost use Rattle.records.specs.Laws.{AreRead};
-ghost use Rattle.records.specs.Left.{HasBegun, TellBegun, HasReported, TellReported, HasDone, TellDone};
+ghost use Rattle.records.specs.Left.{HasBegun, TellBegun, HasReported, TellReported, HasDone, TellDone, LeavesLogs};
 ghost use Rattle.records.specs.Logging.{AreSameLogs};
 
 use crate::lines::{begun_line_of, deps_line_of, done_line_of};
@@ -154,8 +154,8 @@ impl Records {
         ensures same { AreSameLogs self.old.logs self.new.logs }
         ensures places { self.new.places.items ≡ self.old.places.items }
         ensures deps_places { self.new.deps_places.items ≡ self.old.deps_places.items }
-        ensures ok { OnOk result (OfEdge (HasBegun S.tells) graph.now edge (S.world site.old, self.old.logs) (S.world site.new, self.new.logs)) }
-        ensures err { OnErr result (OfEdge (TellBegun S.tells) graph.now edge (S.world site.old, self.old.logs) (S.world site.new, self.new.logs)) }
+        ensures ok { OnOk result (LeavesLogs (HasBegun S.tells) S.world site.old site.new graph.now edge self.old self.new) }
+        ensures err { OnErr result (LeavesLogs (TellBegun S.tells) S.world site.old site.new graph.now edge self.old self.new) }
     {
         begun_line_of(alloc, &mut self.line, graph, edge)?;
         self.logs
@@ -186,8 +186,8 @@ impl Records {
         ensures same { AreSameLogs self.old.logs self.new.logs }
         ensures places { self.new.places.items ≡ self.old.places.items }
         ensures deps_places { self.new.deps_places.items ≡ self.old.deps_places.items }
-        ensures ok { OnOk result (OfEdge (HasReported S.tells start paths.now) graph.now edge (S.world site.old, self.old.logs) (S.world site.new, self.new.logs)) }
-        ensures err { OnErr result (OfEdge (TellReported S.tells start) graph.now edge (S.world site.old, self.old.logs) (S.world site.new, self.new.logs)) }
+        ensures ok { OnOk result (LeavesLogs (HasReported S.tells start paths.now) S.world site.old site.new graph.now edge self.old self.new) }
+        ensures err { OnErr result (LeavesLogs (TellReported S.tells start) S.world site.old site.new graph.now edge self.old self.new) }
     {
         deps_line_of(alloc, &mut self.line, graph, edge, start, paths)?;
         self.logs
@@ -217,8 +217,8 @@ impl Records {
         ensures same { AreSameLogs self.old.logs self.new.logs }
         ensures places { self.new.places.items ≡ self.old.places.items }
         ensures deps_places { self.new.deps_places.items ≡ self.old.deps_places.items }
-        ensures ok { OnOk result (OfEdge (HasDone S.tells start) graph.now edge (S.world site.old, self.old.logs) (S.world site.new, self.new.logs)) }
-        ensures err { OnErr result (OfEdge (TellDone S.tells start) graph.now edge (S.world site.old, self.old.logs) (S.world site.new, self.new.logs)) }
+        ensures ok { OnOk result (LeavesLogs (HasDone S.tells start) S.world site.old site.new graph.now edge self.old self.new) }
+        ensures err { OnErr result (LeavesLogs (TellDone S.tells start) S.world site.old site.new graph.now edge self.old self.new) }
     {
         done_line_of(alloc, &mut self.line, graph, edge, start)?;
         self.logs

@@ -109,16 +109,19 @@ impl<'a> Rows<'a> {
             "help" => push_help(&run_of(&self.folder, None, "--help")?, rest, told),
             "same" => self.push_same(alloc, rest, told),
             "documented" | "version" => self.push_page(alloc, first, rest, told),
-            "ninja" | "status_ninja" | "under_ninja" | "forced_ninja" | "drawn_ninja" => {
-                self.push_stand_in(alloc, first, rest, told)
-            }
+            "ninja"
+            | "status_ninja"
+            | "under_ninja"
+            | "trusting_ninja"
+            | "forced_ninja"
+            | "drawn_ninja" => self.push_stand_in(alloc, first, rest, told),
             _ => self.push_file(alloc, first, rest, told),
         }
     }
 
     /// `ninja WORDS`: runs the stand-in for ninja in the folder, and tells what it came to. `status_ninja WORDS` tells the status alone, and
-    /// `under_ninja TEXT WORDS` is under this `NINJA_STATUS`. The output of `forced_ninja WORDS` takes escapes, and that of
-    /// `drawn_ninja WORDS` is a terminal on which rows are drawn.
+    /// `under_ninja TEXT WORDS` is under this `NINJA_STATUS`, and `trusting_ninja WORDS` where `NJ_TRUST_STAMPS` is 1. The output of
+    /// `forced_ninja WORDS` takes escapes, and that of `drawn_ninja WORDS` is a terminal on which rows are drawn.
     fn push_stand_in(
         &self,
         alloc: Global,
@@ -139,7 +142,7 @@ impl<'a> Rows<'a> {
         let around = Around {
             heading: None,
             output: output_of(first),
-            trusts_stamps: false,
+            trusts_stamps: first == "trusting_ninja",
         };
         let ran = stand_in_run_of(&self.folder, around, rest)?;
         if first == "status_ninja" {

@@ -13,7 +13,8 @@ use Rattle.seen.specs.declared.judging.Judged.{Judged}
 use Rattle.seen.specs.declared.measure.Measure.{Measure}
 use Rattle.seen.specs.Answered.{counted_by, placed_by}
 use Rattle.seen.specs.Beginning.{past_of, started_by}
-use Rattle.seen.specs.Judged.{already, is_as_noted, is_turned, judged, plainly, turned, under as noted_under}
+use Rattle.seen_true.specs.Counting.{is_as_noted, is_turned}
+use Rattle.seen.specs.Judged.{already, judged, plainly, turned, under as noted_under}
 use Rattle.seen.specs.Looking.{judged_there, looked_there}
 use Rattle.seen.specs.Makers.{maker_of}
 use Rattle.seen.proofs.Faith.{some_is, none_some}

@@ -6,7 +6,8 @@ use Rattle.seen_log.specs.declared.note.Kind.{Kind}
 use Rattle.seen_log.specs.declared.note.Noted.{Noted}
 use Rattle.seen_log.specs.Log.{Notes}
 use Rattle.seen.specs.declared.answer.Looked.{Looked}
-use Rattle.seen.specs.Noting.{AbsenceOf, Grows, SeenOf, UnlessSettled, absence}
+use Rattle.seen_true.specs.Counting.{absence}
+use Rattle.seen.specs.Noting.{AbsenceOf, Grows, SeenOf, UnlessSettled}
 
 pub grows_none : (lines : List ℕ) → Grows lines lines
 grows_none lines = ([], sym (append-nil lines))

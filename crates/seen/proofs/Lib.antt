@@ -8,6 +8,7 @@ pub mod Answered
 pub mod Asked
 pub mod Faith
 pub mod Already
-pub mod SmallOne
 pub mod Growing
 pub mod Putting
+pub mod Kept
+pub mod Entered

@@ -19,8 +19,11 @@ use Rattle.seen.specs.declared.measure.Measure.{Measure}
 use Rattle.seen.specs.declared.own.Own.{Own}
 use Rattle.seen.specs.Answered.{counted_by, own_stamp, placed_by}
 use Rattle.seen.specs.Beginning.{counts_at, past_of, started_by}
-use Rattle.seen.specs.Judged.{is_as_noted, is_late, judged, judged_new, judged_same, turned, under as noted_under}
+use Rattle.seen_true.specs.Counting.{is_as_noted}
+use Rattle.seen_true.specs.Laws.{is_late}
+use Rattle.seen.specs.Judged.{judged, judged_new, judged_same, turned, under as noted_under}
 use Rattle.seen.specs.Looking.{KnowsSame, MayWrite, judged_there, looked_at, looked_own, looked_there}
+use Rattle.seen_true.specs.Counting.{telling}
 use Rattle.seen.specs.Begun.{Begun}
 use Rattle.seen.specs.Makers.{is_job, maker_of}
 use Rattle.seen.specs.Measured.{measure_of, measured_at}
@@ -32,7 +35,7 @@ under_stamp (Some stamp) content = refl
 
 -- ---- a file of the model was put there when it was written
 
-placed_there : (is_made : Bool) (file : File) → placed_by is_made (Some (measure_of file)) ≡ Some (measure_of file)
+pub placed_there : (is_made : Bool) (file : File) → placed_by is_made (Some (measure_of file)) ≡ Some (measure_of file)
 placed_there true file = refl
 placed_there false file = refl
 
@@ -129,14 +132,14 @@ same_counts old new same p file =
     else (judged (record { noted = option_map (λ last. last.noted) (get_by_text (sym same.notes i).last p); is_output = is_some (sym (same.makers p) i); since = None }) (sym same.number i) (Some (measure_of file))).counts
 
 module _ (b : Begun) (old new : Counts) (same : KnowsSame old new) where
-  pub counted_same : ((p : List ℕ) (file : File) → b.telling.counts p file ≡ counts_at old.notes old.makers old.own old.number p file)
-      → (p : List ℕ) (file : File) → b.telling.counts p file ≡ counts_at new.notes new.makers new.own new.number p file
+  pub counted_same : ((p : List ℕ) (file : File) → (telling b.knows).counts p file ≡ counts_at old.notes old.makers old.own old.number p file)
+      → (p : List ℕ) (file : File) → (telling b.knows).counts p file ≡ counts_at new.notes new.makers new.own new.number p file
   counted_same is p file = is p file ∙ same_counts old new same p file
 
-  pub hidden_same : ((p : List ℕ) → b.telling.hidden p ≡ bytes_eq old.own.seen p) → (p : List ℕ) → b.telling.hidden p ≡ bytes_eq new.own.seen p
+  pub hidden_same : ((p : List ℕ) → (telling b.knows).hidden p ≡ bytes_eq old.own.seen p) → (p : List ℕ) → (telling b.knows).hidden p ≡ bytes_eq new.own.seen p
   hidden_same is p = is p ∙ ap (λ (o : Own). bytes_eq o.seen p) (sym same.own)
 
-  pub makes_same : ((job : ℕ) (p : List ℕ) → has (b.telling.makes job) p ≡ is_job job (maker_of old.makers p)) → (job : ℕ) (p : List ℕ) → has (b.telling.makes job) p ≡ is_job job (maker_of new.makers p)
+  pub makes_same : ((job : ℕ) (p : List ℕ) → has ((telling b.knows).makes job) p ≡ is_job job (maker_of old.makers p)) → (job : ℕ) (p : List ℕ) → has ((telling b.knows).makes job) p ≡ is_job job (maker_of new.makers p)
   makes_same is job p = is job p ∙ ap (is_job job) (sym (same.makers p))
 
   pub room_same : ((p : List ℕ) (job : ℕ) → maker_of old.makers p ≡ Some job → job < length old.starts.items) → (p : List ℕ) (job : ℕ) → maker_of new.makers p ≡ Some job → job < length new.starts.items

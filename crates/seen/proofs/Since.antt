@@ -13,7 +13,9 @@ use Rattle.model.specs.World.{World}
 use Rattle.model.specs.Calls.{AllByOthers, Adds, Appends, AppendsOrNot, Finishes, IsRestart, OnlyLooks, OthersWrote, SpoilsOrNot, Starts, Ticks, TicksOrNot, Writes, WritesOrNot}
 use Rattle.model.specs.Graph.{has}
 use Rattle.seen_law.specs.Retold.{Telling, Started, begun, none_started, start_these, started_after}
-use Rattle.seen.specs.Begun.{Begun, GoesOn, since}
+use Rattle.seen_true.specs.Going.{since}
+use Rattle.seen_true.specs.Counting.{telling}
+use Rattle.seen.specs.Begun.{Begun, GoesOn}
 
 started-append : (t : Telling) (started : Started) (xs ys : List Moment) → started_after t started (xs ++ ys) ≡ started_after t (started_after t started xs) ys
 started-append t started [] ys = refl
@@ -42,30 +44,30 @@ module _ (b : Begun) (x y : World) (so_far : x.history ≡ b.first ++ since b x)
   goes_by ms grows = grown ms grows ∙ ap (λ (h : List Moment). b.first ++ h) (sym (since_on ms grows))
 
   abbrev now : Started
-  now = started_after b.telling none_started (since b x)
+  now = started_after (telling b.knows) none_started (since b x)
 
-  started_by_all : (ms : List Moment) → y.history ≡ x.history ++ ms → started_after b.telling none_started (since b y) ≡ started_after b.telling now ms
-  started_by_all ms grows = ap (λ (l : List Moment). started_after b.telling none_started l) (since_on ms grows) ∙ started-append b.telling none_started (since b x) ms
+  started_by_all : (ms : List Moment) → y.history ≡ x.history ++ ms → started_after (telling b.knows) none_started (since b y) ≡ started_after (telling b.knows) now ms
+  started_by_all ms grows = ap (λ (l : List Moment). started_after (telling b.knows) none_started l) (since_on ms grows) ∙ started-append (telling b.knows) none_started (since b x) ms
 
-  started_same : (running : ℕ → Type 0) (ms : List Moment) → y.history ≡ x.history ++ ms → AllByOthers running ms → started_after b.telling none_started (since b y) ≡ now
-  started_same running ms grows all = started_by_all ms grows ∙ others_none running b.telling now ms all
+  started_same : (running : ℕ → Type 0) (ms : List Moment) → y.history ≡ x.history ++ ms → AllByOthers running ms → started_after (telling b.knows) none_started (since b y) ≡ now
+  started_same running ms grows all = started_by_all ms grows ∙ others_none running (telling b.knows) now ms all
 
   started_around : (before after : ℕ → Type 0) (m : Moment) (earlier later : List Moment) → y.history ≡ x.history ++ (earlier ++ m ∷ later) → AllByOthers before earlier → AllByOthers after later
-      → started_after b.telling none_started (since b y) ≡ started_after b.telling now (m ∷ [])
+      → started_after (telling b.knows) none_started (since b y) ≡ started_after (telling b.knows) now (m ∷ [])
   started_around before after m earlier later grows all_earlier all_later =
       started_by_all (earlier ++ m ∷ later) grows
-      ∙ (started-append b.telling now earlier (m ∷ later)
-      ∙ (ap (λ (s : Started). started_after b.telling s (m ∷ later)) (others_none before b.telling now earlier all_earlier)
-      ∙ (started-append b.telling now (m ∷ []) later
-      ∙ others_none after b.telling (started_after b.telling now (m ∷ [])) later all_later)))
+      ∙ (started-append (telling b.knows) now earlier (m ∷ later)
+      ∙ (ap (λ (s : Started). started_after (telling b.knows) s (m ∷ later)) (others_none before (telling b.knows) now earlier all_earlier)
+      ∙ (started-append (telling b.knows) now (m ∷ []) later
+      ∙ others_none after (telling b.knows) (started_after (telling b.knows) now (m ∷ [])) later all_later)))
 
 -- The history goes on, and these commands were started.
 pub record Follows (b : Begun) (x y : World) (started : Started) : Type 0 where
   pub so_far : y.history ≡ b.first ++ since b y
-  pub is : started_after b.telling none_started (since b y) ≡ started
+  pub is : started_after (telling b.knows) none_started (since b y) ≡ started
 
 abbrev pub started_in : Begun → World → Started
-started_in b x = started_after b.telling none_started (since b x)
+started_in b x = started_after (telling b.knows) none_started (since b x)
 
 module _ (b : Begun) (x y : World) (so_far : x.history ≡ b.first ++ since b x) where
   others_follow : (running : ℕ → Type 0) → OthersWrote running x.history y.history → Follows b x y (started_in b x)
@@ -100,7 +102,7 @@ module _ (b : Begun) (x y : World) (so_far : x.history ≡ b.first ++ since b x)
       let adds = does.history refl in
       record { so_far = goes_by b x y so_far _ adds.grows; is = started_around b x y so_far _ _ _ adds.earlier adds.later adds.grows adds.all_earlier adds.all_later }
 
-  pub starts_follow : (job : ℕ) (act : Act) → Starts true job act x y → Follows b x y (start_these (started_in b x) (b.telling.makes job) x.ticked)
+  pub starts_follow : (job : ℕ) (act : Act) → Starts true job act x y → Follows b x y (start_these (started_in b x) ((telling b.knows).makes job) x.ticked)
   starts_follow job act does =
       let adds = does.history refl in
       record { so_far = goes_by b x y so_far _ adds.grows; is = started_around b x y so_far _ _ _ adds.earlier adds.later adds.grows adds.all_earlier adds.all_later }
@@ -171,10 +173,10 @@ module _ (tells : Bool) (b : Begun) (x y : World) (so_far : GoesOn tells b x) wh
   waited (Err fault) ok err = looks_stay err
 
   -- a start is noted under its stamp
-  pub starts_stay : (job : ℕ) (act : Act) → Starts tells job act x y → GoesOn tells b y × (IsTrue tells → (p : List ℕ) → started_in b y p ≡ begun (started_in b x p) (has (b.telling.makes job) p) x.ticked)
+  pub starts_stay : (job : ℕ) (act : Act) → Starts tells job act x y → GoesOn tells b y × (IsTrue tells → (p : List ℕ) → started_in b y p ≡ begun (started_in b x p) (has ((telling b.knows).makes job) p) x.ticked)
   starts_stay job act done = by tells so_far done
     where
-      by : (it : Bool) → GoesOn it b x → Starts it job act x y → GoesOn it b y × (IsTrue it → (p : List ℕ) → started_in b y p ≡ begun (started_in b x p) (has (b.telling.makes job) p) x.ticked)
+      by : (it : Bool) → GoesOn it b x → Starts it job act x y → GoesOn it b y × (IsTrue it → (p : List ℕ) → started_in b y p ≡ begun (started_in b x p) (has ((telling b.knows).makes job) p) x.ticked)
       by false goes is = (λ told. absurd (never told), λ told. absurd (never told))
       by true goes is =
           let follows = starts_follow b x y (goes refl) job act is in
@@ -189,4 +191,4 @@ pub at_first : (b : Begun) (x : World) → x.history ≡ b.first → x.history �
 at_first b x is = is ∙ (sym (append-nil b.first) ∙ ap (λ (l : List Moment). b.first ++ l) (sym (nothing_since b x is)))
 
 pub none_since : (b : Begun) (x : World) → x.history ≡ b.first → (p : List ℕ) → started_in b x p ≡ None
-none_since b x is p = ap (λ (l : List Moment). started_after b.telling none_started l p) (nothing_since b x is)
+none_since b x is p = ap (λ (l : List Moment). started_after (telling b.knows) none_started l p) (nothing_since b x is)

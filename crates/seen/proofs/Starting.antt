@@ -13,6 +13,7 @@ use Rattle.seen_law.specs.Retold.{begun}
 use Rattle.seen.specs.declared.counts.Counts.{Counts}
 use Rattle.seen.specs.declared.makers.Makers.{Makers}
 use Rattle.seen.specs.declared.own.Own.{Own}
+use Rattle.seen_true.specs.Counting.{telling}
 use Rattle.seen.specs.Begun.{Begun, GoesOn}
 use Rattle.seen.specs.Looking.{NotesStart}
 use Rattle.seen.proofs.Since.{looks_stay, started_in, starts_stay}
@@ -152,7 +153,7 @@ module _ (x y : World) (events : List Event) (before : ℕ) (start : Option ℕ)
 -- ---- what is known of starts
 
 module _ (tells : Bool) (b : Begun) (x y : World) (k k2 : Counts) (job : ℕ) (act : Act) (start : Option ℕ) (so_far : GoesOn tells b x) (notes : NotesStart job start k k2)
-    (makes : IsTrue tells → (j : ℕ) (p : List ℕ) → has (b.telling.makes j) p ≡ is_job j (maker_of k.makers p))
+    (makes : IsTrue tells → (j : ℕ) (p : List ℕ) → has ((telling b.knows).makes j) p ≡ is_job j (maker_of k.makers p))
     (room : IsTrue tells → (p : List ℕ) (j : ℕ) → maker_of k.makers p ≡ Some j → j < length k.starts.items)
     (started : IsTrue tells → (p : List ℕ) → started_in b x p ≡ started_by k.starts.items (maker_of k.makers p)) where
   abbrev Kept : Type 0
@@ -184,14 +185,14 @@ module _ (tells : Bool) (b : Begun) (x y : World) (k k2 : Counts) (job : ℕ) (a
   start_kept events before counted told earlier is (Err fault) ok (inr does) = kept_starts does (start_is x y events before start counted told earlier is job act does.events)
 
   -- nothing else is new
-  pub counted_kept : (IsTrue tells → (p : List ℕ) (file : File) → b.telling.counts p file ≡ counts_at k.notes k.makers k.own k.number p file)
-      → IsTrue tells → (p : List ℕ) (file : File) → b.telling.counts p file ≡ counts_at k2.notes k2.makers k2.own k2.number p file
+  pub counted_kept : (IsTrue tells → (p : List ℕ) (file : File) → (telling b.knows).counts p file ≡ counts_at k.notes k.makers k.own k.number p file)
+      → IsTrue tells → (p : List ℕ) (file : File) → (telling b.knows).counts p file ≡ counts_at k2.notes k2.makers k2.own k2.number p file
   counted_kept counted is p file = counted is p file ∙ (λ i. counts_at (sym notes.notes i) (sym notes.makers i) (sym notes.own i) (sym notes.number i) p file)
 
-  pub hidden_kept : (IsTrue tells → (p : List ℕ) → b.telling.hidden p ≡ bytes_eq k.own.seen p) → IsTrue tells → (p : List ℕ) → b.telling.hidden p ≡ bytes_eq k2.own.seen p
+  pub hidden_kept : (IsTrue tells → (p : List ℕ) → (telling b.knows).hidden p ≡ bytes_eq k.own.seen p) → IsTrue tells → (p : List ℕ) → (telling b.knows).hidden p ≡ bytes_eq k2.own.seen p
   hidden_kept hidden is p = hidden is p ∙ ap (λ (o : Own). bytes_eq o.seen p) (sym notes.own)
 
-  pub makes_kept : IsTrue tells → (j : ℕ) (p : List ℕ) → has (b.telling.makes j) p ≡ is_job j (maker_of k2.makers p)
+  pub makes_kept : IsTrue tells → (j : ℕ) (p : List ℕ) → has ((telling b.knows).makes j) p ≡ is_job j (maker_of k2.makers p)
   makes_kept is j p = makes is j p ∙ ap (λ (m : Makers). is_job j (maker_of m p)) (sym notes.makers)
 
   pub room_kept : IsTrue tells → (p : List ℕ) (j : ℕ) → maker_of k2.makers p ≡ Some j → j < length k2.starts.items

@@ -1,26 +1,25 @@
 -- How a build began, and the site as it is told since.
-use Rattle.std.specs.Prelude.{◌≡◌, ℕ, Bool, true, false, List, [], ◌++◌, Option, Some, IsTrue, drop, length}
-use Rattle.model.specs.declared.event.Moment.{Moment}
-use Rattle.model.specs.World.{World, File}
-use Rattle.seen_law.specs.Retold.{Telling, BeginsSo, retold}
+use Rattle.std.specs.Prelude.{◌≡◌, Bool, true, false, [], None, ◌++◌, IsTrue}
+use Rattle.model.specs.World.{World}
+use Rattle.seen_law.specs.Retold.{BeginsSo, retold}
+use Rattle.seen_true.specs.Counting.{telling}
+use Rattle.seen_true.specs.Going.{Entered, since}
 
--- how files counted, what had happened on the site, and what was told of that
-pub record Begun : Type 0 where
-  pub telling : Telling
-  pub first : List Moment
-  pub before : List Moment
+-- what was known, what had happened on the site, and what was told of that
+abbrev pub Begun : Type 0
+Begun = Entered
 
--- each file counted under its own stamp, and nothing had happened
+-- nothing was known, and nothing had happened
 abbrev pub plainly_begun : Begun
-plainly_begun = record { telling = record { counts = λ p file. Some file.stamp; makes = λ job. []; hidden = λ p. false }; first = []; before = [] }
+plainly_begun = record {
+  knows = record { noted = λ p. None; is_output = λ p. false; is_own = λ p. false; number = 0; makes = λ job. []; seen = [] };
+  first = [];
+  before = [];
+}
 
 -- what was told then is what counts
 abbrev pub BeginsTold : Begun → Type 0
-BeginsTold b = BeginsSo b.telling b.first b.before
-
--- what happened since
-abbrev pub since : Begun → World → List Moment
-since b world = drop (length b.first) world.history
+BeginsTold b = BeginsSo (telling b.knows) b.first b.before
 
 -- where the site tells its files, they are those of the beginning and of what happened since
 abbrev pub GoesOn : Bool → Begun → World → Type 0
@@ -29,4 +28,4 @@ GoesOn tells b world = IsTrue tells → world.history ≡ b.first ++ since b wor
 -- the site as it is told, where it tells its files
 abbrev pub told_world : Bool → Begun → World → World
 told_world false b world = world
-told_world true b world = retold b.telling b.first b.before (since b world) world
+told_world true b world = retold (telling b.knows) b.first b.before (since b world) world

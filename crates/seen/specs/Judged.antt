@@ -1,26 +1,14 @@
 -- How what is found at a path counts, by what is noted of it. All is this project's own.
-use Rattle.std.specs.Prelude.{ℕ, ◌+◌, ◌-◌, ◌%◌, ◌^◌, ◌==◌, ◌&&◌, ◌||◌, not, max, min, nat_lt, Bool, true, false, if◌then◌else◌, Option, Some, None, is_some}
+use Rattle.std.specs.Prelude.{ℕ, ◌+◌, ◌-◌, ◌^◌, ◌==◌, ◌&&◌, ◌||◌, not, max, min, Bool, true, false, if◌then◌else◌, Option, Some, None, is_some}
 use Rattle.seen_log.specs.declared.note.Kind.{Kind}
 use Rattle.seen_log.specs.declared.note.Kind.TheVariants.{Source, Made, Turned}
 use Rattle.seen_log.specs.declared.note.Noted.{Noted}
 use Rattle.seen_log.specs.Log.{counts_of}
+use Rattle.seen_true.specs.Counting.{is_as_noted, is_turned}
+use Rattle.seen_true.specs.Laws.{is_late}
 use Rattle.seen.specs.declared.judging.Judged.{Judged}
 use Rattle.seen.specs.declared.judging.Past.{Past}
 use Rattle.seen.specs.declared.measure.Measure.{Measure}
-
--- a stamp cut to whole seconds
-abbrev pub whole_seconds : ℕ → ℕ
-whole_seconds stamp = stamp - stamp % 1000000000
-
--- a file of this stamp and this size is the noted one, or the noted one with its stamp cut to whole seconds
-abbrev pub is_as_noted : Noted → ℕ → ℕ → Bool
-is_as_noted noted stamp size = (size == noted.size) && ((stamp == noted.stamp) || (stamp == whole_seconds noted.stamp))
-
--- what somebody else wrote where a command had made the path
-abbrev pub is_turned : Kind → Bool
-is_turned Source = false
-is_turned Made = false
-is_turned Turned = true
 
 -- as what a source is noted that is another than the noted one
 abbrev pub turned : Kind → Kind
@@ -46,11 +34,6 @@ abbrev pub judged_noted : Noted → (is_output : Bool) → (number stamp size pl
 judged_noted noted is_output number stamp size placed =
     if is_as_noted noted stamp size then judged_same noted is_output
     else (if is_output then plainly None else under (max number placed) (turned noted.kind))
-
--- commands of this build were started before it was put there
-abbrev pub is_late : (since : Option ℕ) → (placed : ℕ) → Bool
-is_late None placed = false
-is_late (Some start) placed = nat_lt start placed
 
 -- what was never noted has its own stamp, and is noted so. A source that was put there after the first start in this build counts as written
 -- then.

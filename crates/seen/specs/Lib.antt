@@ -14,5 +14,5 @@ pub mod Told
 pub mod Between
 pub mod Noting
 pub mod First
-pub mod Small
 pub mod Going
+pub mod Known

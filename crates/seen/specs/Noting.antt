@@ -8,6 +8,7 @@ use Rattle.seen_log.specs.declared.note.Kind.TheVariants.{Made, Source}
 use Rattle.seen_log.specs.declared.note.Last.{Last}
 use Rattle.seen_log.specs.declared.note.Noted.{Noted}
 use Rattle.seen_log.specs.Log.{Notes}
+use Rattle.seen_true.specs.Counting.{absence, no_size}
 use Rattle.seen.specs.declared.answer.Looked.{Looked}
 use Rattle.seen.specs.declared.judging.Judged.{Judged}
 use Rattle.seen.specs.declared.known.Known.{Known}
@@ -32,14 +33,7 @@ LinesOf kind (Some number) path found old new = LineOf kind number path found.st
 
 -- ---- the lines of what is absent
 
--- the size of what is absent, which no file has
-abbrev pub no_size : ℕ
-no_size = 18446744073709551615
-
--- what is noted where nothing is found, as of this kind: what comes there later is another than that
-abbrev pub absence : Kind → Noted
-absence kind = record { kind = kind; stamp = 0; size = no_size; number = 0 }
-
+-- it is noted that nothing is there
 abbrev pub is_absence : Noted → Bool
 is_absence noted = noted.size == no_size
 

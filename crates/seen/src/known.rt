@@ -28,7 +28,8 @@ pub struct Known {
 impl Known {
     ghost use Rattle.std.specs.Prelude.{◌≡◌, [], OnOk};
     ghost use Rattle.model.specs.Graph.{has};
-    ghost use Rattle.seen.specs.Noting.{AbsenceOf, AwayOf, Grows, LeftOf, LinesOf, NeverOf, SeenOf, UnlessSettled, UnmadeOf, absence, is_marked, is_settled};
+    ghost use Rattle.seen_true.specs.Counting.{absence};
+    ghost use Rattle.seen.specs.Noting.{AbsenceOf, AwayOf, Grows, LeftOf, LinesOf, NeverOf, SeenOf, UnlessSettled, UnmadeOf, is_marked, is_settled};
 
     /// Nothing was noted. This takes no memory.
     pub fn new(alloc: Global) -> Known

@@ -27,7 +27,7 @@ pub use beginning::Beginning;
 pub use counts::Counts;
 pub use judging::{Judged, Past, judge, next_number};
 pub use known::Known;
-pub use laws::{counts_either, looks_go_on, notes_are_met, notes_tell, number_is_later};
+pub use laws::{counts_either, looks_go_on, number_is_later, tellings_are_same};
 pub use measure::{Measure, Measured};
 pub use notes::{Entry, enter};
 pub use retold::Retold;

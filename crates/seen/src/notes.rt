@@ -1,9 +1,18 @@
 //! The file of the notes, as a build finds it.
 
-ghost use Rattle.std.specs.Prelude.{◌≡◌, [], false, None, IfOk, replicate};
+ghost use Rattle.std.specs.Prelude.{◌≡◌, [], ℕ, List, false, true, None, IfOk, IsTrue, replicate};
+ghost use Rattle.std.specs.Option.{option_map};
+ghost use Rattle.log_text.specs.Text.{IsRead};
+ghost use Rattle.log_text.specs.declared.tail.Tail.TheVariants.{Whole};
 ghost use Rattle.model.specs.Calls.{KeepsWait, OnlyLooks};
+ghost use Rattle.seen_log.specs.declared.note.Note.{Note};
+ghost use Rattle.seen_log.specs.Keeping.{Keeps};
+ghost use Rattle.seen_log.specs.Log.{noted_in_force};
+ghost use Rattle.seen_log.specs.Record.{forms};
+ghost use Rattle.seen_true.specs.Going.{BaseIsWhole};
 ghost use Rattle.seen.specs.Asking.{Asks};
 ghost use Rattle.seen.specs.Entering.{IsUnbegun};
+ghost use Rattle.seen.specs.Known.{EntersAt, IsEntryOf};
 ghost use Rattle.seen.specs.Makers.{AreJobs};
 
 use crate::counts::Counts;
@@ -14,6 +23,7 @@ use crate::own::Own;
 use log_text::{Records, Tail};
 use paths::{Manifest, Paths};
 use seen_log::Log;
+use seen_true::compaction_fits;
 use site::SiteFault;
 use std::alloc::{AllocError, Global};
 
@@ -34,6 +44,7 @@ pub fn enter<S: Measured>(alloc: Global, site: &mut S, manifest: &Manifest, log:
     ensures looks { OnlyLooks S.tells (S.world site.old) (S.world site.new) }
     ensures waits { KeepsWait (S.world site.old) (S.world site.new) }
     ensures unbegun { IsUnbegun result.counts }
+    ensures enters { IsTrue S.tells → result.lost ≡ false → EntersAt result.counts (option_map (λ text. text.items) result.base) (S.world site.old).history (S.world site.new).history }
 {
     match read_entry(alloc, site, manifest, log) {
         Ok(entry) => entry,
@@ -43,7 +54,8 @@ pub fn enter<S: Measured>(alloc: Global, site: &mut S, manifest: &Manifest, log:
 
 /// Where it could not be read.
 fn lost_entry(alloc: Global) -> Entry
-    ensures { IsUnbegun result.counts }
+    ensures unbegun { IsUnbegun result.counts }
+    ensures lost { result.lost ≡ true }
 {
     Entry {
         counts: Counts::none(alloc),
@@ -62,6 +74,7 @@ pub fn read_entry<S: Measured>(
     requires { (S.world site.old).stopped ≡ false }
     ensures asks { Asks S.tells (S.world site.old) (S.world site.new) result }
     ensures unbegun { IfOk result (λ entry. IsUnbegun entry.counts) }
+    ensures enters { IsTrue S.tells → IfOk result (λ entry. EntersAt entry.counts (option_map (λ text. text.items) entry.base) (S.world site.old).history (S.world site.new).history) }
 {
     let makers = Makers::of(alloc, manifest)?;
     read_by(alloc, site, makers, log)
@@ -78,6 +91,7 @@ pub fn read_by<S: Measured>(
     requires { (S.world site.old).stopped ≡ false }
     ensures asks { Asks S.tells (S.world site.old) (S.world site.new) result }
     ensures unbegun { AreJobs makers → makers.table.entries ≡ [] → IfOk result (λ entry. IsUnbegun entry.counts) }
+    ensures enters { IsTrue S.tells → IfOk result (λ entry. EntersAt entry.counts (option_map (λ text. text.items) entry.base) (S.world site.old).history (S.world site.new).history) }
 {
     let own = Own::beside(alloc, log)?;
     let start = last_start(site, &own)?;
@@ -107,7 +121,9 @@ fn entry_of(
     start: u64,
     text: &[u8],
 ) -> Result<Entry, AllocError>
-    ensures { AreJobs makers → makers.table.entries ≡ [] → IfOk result (λ entry. IsUnbegun entry.counts) }
+    ensures unbegun { AreJobs makers → makers.table.entries ≡ [] → IfOk result (λ entry. IsUnbegun entry.counts) }
+    ensures own { IfOk result (λ entry. entry.counts.own ≡ own) }
+    ensures text { IfOk result (λ entry. IsEntryOf text.now entry.counts (option_map (λ text. text.items) entry.base)) }
 {
     let starts = no_starts(alloc, makers.count())?;
     let (notes, tail) = Log::parse(alloc, text)?;
@@ -137,14 +153,30 @@ fn no_starts(alloc: Global, jobs: usize) -> Result<Vec<Option<u64>>, AllocError>
 }
 
 /// The text that takes the place of a file of this text, which tells this and ends so, if one is to.
-fn base_of(
-    alloc: Global,
-    text: &[u8],
-    log: &Log,
-    tail: Tail,
-) -> Result<Option<Vec<u8>>, AllocError> {
-    if text.is_empty() || !matches!(tail, Tail::Whole) || log.wants_compaction() {
-        return Ok(Some(log.compacted(alloc)?));
+fn base_of(alloc: Global, text: &[u8], log: &Log, tail: Tail) -> Result<Option<Vec<u8>>, AllocError>
+    ensures { (records : List Note) → IsRead forms text.now records tail → Keeps records log.now → IfOk result (λ base. BaseIsWhole text.now (noted_in_force records) (option_map (λ text. text.items) base)) }
+{
+    compaction_fits();
+    if goes_on(text, tail) && !log.wants_compaction() {
+        return Ok(None);
     }
-    Ok(None)
+    let base = log.compacted(alloc)?;
+    Ok(Some(base))
+}
+
+/// Whether a line may be put behind a file of this text, which ends so.
+fn goes_on(text: &[u8], tail: Tail) -> bool
+    ensures whole { result ≡ true → tail ≡ Whole }
+    ensures some { result ≡ true → text.now ≡ [] → ⊥ }
+{
+    !text.is_empty() && is_whole(tail)
+}
+
+fn is_whole(tail: Tail) -> bool
+    ensures { result ≡ true → tail ≡ Whole }
+{
+    match tail {
+        Tail::Whole => true,
+        Tail::Old | Tail::Torn | Tail::Damaged => false,
+    }
 }

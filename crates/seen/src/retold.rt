@@ -1,23 +1,35 @@
 //! A site that is told by what counts.
 
-ghost use Rattle.std.specs.Prelude.{◌≡◌, ◌<◌, ℕ, true, List, Some, IsTrue, bytes_eq, length};
+ghost use Rattle.std.specs.Prelude.{◌≡◌, ◌<◌, ℕ, false, true, List, Some, IsTrue, bytes_eq, length};
+ghost use Rattle.std.specs.Option.{option_map};
+ghost use Rattle.std.proofs.Props.{props};
 ghost use Rattle.model.specs.Graph.{has};
 ghost use Rattle.model.specs.World.{File, World};
 ghost use Rattle.seen_law.specs.Retold.{none_started, started_after};
+ghost use Rattle.seen_true.specs.Going.{Notes, NotesStand};
 ghost use Rattle.seen.specs.Beginning.{counts_at, started_by};
-ghost use Rattle.seen.specs.Begun.{BeginsTold, GoesOn, since, told_world};
+ghost use Rattle.seen_true.specs.Going.{since};
+ghost use Rattle.seen_true.specs.Counting.{telling};
+ghost use Rattle.seen.specs.Begun.{BeginsTold, GoesOn, told_world};
 ghost use Rattle.seen.specs.Makers.{is_job, maker_of};
+ghost use Rattle.seen.specs.Own.{is_own};
+ghost use Rattle.seen.specs.Known.{NumbersSo};
 ghost use Rattle.seen.specs.Asking.{fault_of};
 
 use crate::answer::{Looked, content_counted, measure_in};
 use crate::beginning::Beginning;
 use crate::counts::Counts;
+use crate::known::Known;
 use crate::makers::Makers;
 use crate::measure::Measured;
 use crate::notes::{Entry, read_by};
 use crate::starts::started_since;
 use model::{Act, Event, Finished};
 use seen_law::{answers_are_told, events_are_told, looks_are_told, writes_are_told};
+use seen_true::{
+    absence_notes, calls_note, calls_stand, enters_noted, found_in_call, lines_note, none_in_call,
+    note_calls_note,
+};
 use site::{Site, SiteFault, Texts};
 use std::alloc::{AllocError, Global};
 use std::marker::PhantomData;
@@ -29,12 +41,18 @@ use text::Bytes;
 ///
 /// As a site it tells its files where the one below does: not those that are there, but those that count, under the stamps under which they
 /// count. What the program does on it, it does on the one below. Where it is for one build, the program writes neither the notes nor what a command
-/// makes: it finds no memory there.
+/// makes: it finds no memory there. What is noted in the build is kept here too, as each call keeps the notes true.
 #[derive(Drop)]
 pub struct Retold<S: Measured, B: Beginning> {
     /// The site below.
     pub site: S,
     pub known: Counts,
+    /// What was noted in the build, and the lines of that which are still to be put behind the notes.
+    pub noted: Known,
+    /// The text that takes the place of the notes before a line is put behind them, where one is to.
+    pub base: Option<Vec<u8>>,
+    /// Whether lines could not be put behind the notes in this build, so that a part of them may stand there, or what is noted found no memory.
+    pub torn: bool,
     /// Whether it is for one build, which has begun. Else it is for builds one after another, on a site that does not tell its files.
     pub is_for_one: bool,
     /// Whether a build has begun. Before, files are as they are there.
@@ -42,39 +60,52 @@ pub struct Retold<S: Measured, B: Beginning> {
     of: PhantomData<B>,
     pub ghost one: { IsTrue S.tells → is_for_one ≡ true },
     pub ghost begun: { is_for_one ≡ true → is_begun ≡ true },
-    pub ghost counted: { IsTrue S.tells → (p : List ℕ) (file : File) → B.begun.telling.counts p file ≡ counts_at known.notes known.makers known.own known.number p file },
-    pub ghost hidden: { IsTrue S.tells → (p : List ℕ) → B.begun.telling.hidden p ≡ bytes_eq known.own.seen p },
-    pub ghost makes: { IsTrue S.tells → (job : ℕ) (p : List ℕ) → has (B.begun.telling.makes job) p ≡ is_job job (maker_of known.makers p) },
+    pub ghost counted: { IsTrue S.tells → (p : List ℕ) (file : File) → (telling B.begun.knows).counts p file ≡ counts_at known.notes known.makers known.own known.number p file },
+    pub ghost hidden: { IsTrue S.tells → (p : List ℕ) → (telling B.begun.knows).hidden p ≡ bytes_eq known.own.seen p },
+    pub ghost makes: { IsTrue S.tells → (job : ℕ) (p : List ℕ) → has ((telling B.begun.knows).makes job) p ≡ is_job job (maker_of known.makers p) },
     pub ghost room: { IsTrue S.tells → (p : List ℕ) (job : ℕ) → maker_of known.makers p ≡ Some job → job < length known.starts.items },
     pub ghost begins: { IsTrue S.tells → BeginsTold B.begun },
     pub ghost so_far: { GoesOn S.tells B.begun (S.world site) },
-    pub ghost started: { IsTrue S.tells → (p : List ℕ) → started_after B.begun.telling none_started (since B.begun (S.world site)) p ≡ started_by known.starts.items (maker_of known.makers p) },
+    pub ghost started: { IsTrue S.tells → (p : List ℕ) → started_after (telling B.begun.knows) none_started (since B.begun (S.world site)) p ≡ started_by known.starts.items (maker_of known.makers p) },
+    pub ghost numbers: { IsTrue S.tells → NumbersSo B.begun.knows known },
+    pub ghost owns: { IsTrue S.tells → (p : List ℕ) → B.begun.knows.is_own p ≡ is_own known.own p },
+    pub ghost here: { IsTrue S.tells → B.begun.knows.seen ≡ known.own.seen },
+    pub ghost stand: { NotesStand S.tells B.begun (S.world site) } by { Prim.hlevel props },
+    pub ghost kept: { torn ≡ false → Notes S.tells B.begun (option_map (λ text. text.items) base) noted.lines.items (S.world site) } by { Prim.hlevel props },
 }
 
 impl<S: Measured, B: Beginning> Retold<S, B> {
-    ghost use Rattle.std.specs.Prelude.{◌≡◌, false, true, IfOk, IsTrue, OnOk, Some};
+    ghost use Rattle.std.specs.Prelude.{◌≡◌, [], false, true, IfOk, IsTrue, None, OnErr, OnOk, Some};
+    ghost use Rattle.std.specs.Option.{option_map};
+    ghost use Rattle.seen_true.specs.Going.{EntersBy, Notes, NotesStand};
     ghost use Rattle.model.specs.Calls.{Appends, HasCause, KeepsWait, OnlyLooks, Sees, Writes};
     ghost use Rattle.model.specs.World.{content_of, file_at, stamp_of};
     ghost use Rattle.seen_law.specs.Laws.{IsPlain, IsTold};
     ghost use Rattle.seen.specs.Asking.{Asks, Refuses};
-    ghost use Rattle.seen.specs.Beginning.{telling_of};
+    ghost use Rattle.seen.specs.Known.{MayLeave, MaySee, known_of};
+    ghost use Rattle.seen.specs.Noting.{Grows, MayReplace, PutsLines};
     ghost use Rattle.seen.specs.Begun.{BeginsTold};
     ghost use Rattle.seen.specs.Entering.{IsUnbegun};
     ghost use Rattle.seen.specs.Looking.{KnowsSame, looked_by};
     ghost use Rattle.seen.specs.Own.{is_own};
 
-    /// The site over this one, for one build, by what is known when it begins.
-    pub fn over(site: S, known: Counts) -> Retold<S, B>
+    /// The site over this one, for one build, by what is known when it begins, and with the text that takes the place of the notes before a line is put
+    /// behind them, where one is to.
+    pub fn over(alloc: Global, site: S, known: Counts, base: Option<Vec<u8>>) -> Retold<S, B>
         requires unbegun { IsUnbegun known }
-        requires telling { IsTrue S.tells → B.begun.telling ≡ telling_of known.notes known.makers known.own known.number }
+        requires knows { IsTrue S.tells → B.begun.knows ≡ known_of known }
         requires first { IsTrue S.tells → (S.world site).history ≡ B.begun.first }
         requires begins { IsTrue S.tells → BeginsTold B.begun }
+        requires enters { IsTrue S.tells → EntersBy B.begun.knows (option_map (λ text. text.items) base) B.begun.first }
         ensures site { result.site ≡ site }
-        ensures known { result.known ≡ known }
     {
+        enters_noted();
         Retold {
             site,
             known,
+            noted: Known::new(alloc),
+            base,
+            torn: false,
             is_for_one: true,
             is_begun: true,
             of: PhantomData,
@@ -90,6 +121,9 @@ impl<S: Measured, B: Beginning> Retold<S, B> {
         Retold {
             site,
             known: Counts::none(alloc),
+            noted: Known::new(alloc),
+            base: None,
+            torn: false,
             is_for_one: false,
             is_begun: false,
             of: PhantomData,
@@ -103,11 +137,13 @@ impl<S: Measured, B: Beginning> Retold<S, B> {
         ensures one { self.new.is_for_one ≡ self.old.is_for_one }
     {
         looks_are_told();
+        calls_note();
+        calls_stand();
         read_by(alloc, &mut self.site, makers, log)
     }
 
-    /// A build begins, and this is known.
-    pub fn begin(&mut self, known: Counts)
+    /// A build begins, this is known, and this text takes the place of the notes before a line is put behind them, if there is one.
+    pub fn begin(&mut self, alloc: Global, known: Counts, base: Option<Vec<u8>>)
         requires many { self.old.is_for_one ≡ false }
         ensures known { self.new.known ≡ known }
         ensures begun { self.new.is_begun ≡ true }
@@ -115,6 +151,9 @@ impl<S: Measured, B: Beginning> Retold<S, B> {
         ensures many { self.new.is_for_one ≡ false }
     {
         self.known = known;
+        self.noted = Known::new(alloc);
+        self.base = base;
+        self.torn = false;
         self.is_begun = true;
     }
 
@@ -132,9 +171,15 @@ impl<S: Measured, B: Beginning> Retold<S, B> {
     pub fn into_site(self) -> S
         ensures { result ≡ self.site }
     {
-        let Retold { site, known, .. } = self;
+        let Retold {
+            site,
+            known,
+            noted,
+            ..
+        } = self;
         // it is given back with the program, which has nothing left to do
         forget(known);
+        forget(noted);
         site
     }
 
@@ -147,6 +192,7 @@ impl<S: Measured, B: Beginning> Retold<S, B> {
         ensures number { self.new.known.number ≡ self.old.known.number }
         ensures starts { self.new.known.starts ≡ self.old.known.starts }
         ensures one { self.new.is_for_one ≡ self.old.is_for_one }
+        ensures noted { self.new.noted ≡ self.old.noted }
     {
         self.known.made.add(alloc, path)?;
         Ok(())
@@ -161,36 +207,141 @@ impl<S: Measured, B: Beginning> Retold<S, B> {
         ensures stamp { IsTrue S.tells → IfOk result (λ looked. Sees (λ history. stamp_of (file_at history path.now)) looked.counts (told_world S.tells B.begun (S.world self.old.site)).history (told_world S.tells B.begun (S.world self.new.site)).history) }
         ensures same { KnowsSame self.old.known self.new.known }
         ensures one { self.new.is_for_one ≡ self.old.is_for_one }
+        ensures noted { self.new.noted ≡ self.old.noted }
+        ensures see { IfOk result (λ looked. MaySee S.tells B.begun (S.world self.new.site) path.now looked) }
+        ensures leave { IfOk result (λ looked. MayLeave S.tells B.begun (S.world self.new.site) path.now looked) }
     {
         looks_are_told();
         answers_are_told();
+        calls_note();
+        calls_stand();
+        found_in_call();
+        none_in_call();
+        lines_note();
+        absence_notes();
         let found = self.site.measure(path)?;
         Ok(self.known.look_by(self.is_begun, path, found)?)
     }
 
-    /// Puts the bytes behind the notes.
-    pub fn put_behind(&mut self, lines: &[u8]) -> Result<(), SiteFault>
+    /// Looks at the path, and notes what was seen, where it is to be noted and was not asked for before in this build.
+    pub fn see(&mut self, path: &str) -> Result<Looked, SiteFault>
         ensures looks { OnlyLooks S.tells (told_world S.tells B.begun (S.world self.old.site)) (told_world S.tells B.begun (S.world self.new.site)) }
         ensures cause { HasCause (told_world S.tells B.begun (S.world self.old.site)) (told_world S.tells B.begun (S.world self.new.site)) result }
         ensures waits { KeepsWait (told_world S.tells B.begun (S.world self.old.site)) (told_world S.tells B.begun (S.world self.new.site)) }
-        ensures puts { OnOk result (Appends S.tells self.old.known.own.seen lines.now (S.world self.old.site) (S.world self.new.site)) }
+        ensures stamp { IsTrue S.tells → IfOk result (λ looked. Sees (λ history. stamp_of (file_at history path.now)) looked.counts (told_world S.tells B.begun (S.world self.old.site)).history (told_world S.tells B.begun (S.world self.new.site)).history) }
+        ensures grows { OnOk result (Grows self.old.noted.lines.items self.new.noted.lines.items) }
+        ensures own { self.new.known.own ≡ self.old.known.own }
+        ensures one { self.new.is_for_one ≡ self.old.is_for_one }
+    {
+        let looked = self.look(path)?;
+        let torn = self.torn;
+        self.torn = true;
+        self.noted.note(path, &looked)?;
+        self.torn = torn;
+        Ok(looked)
+    }
+
+    /// Looks at this output, whose command has ended well, and notes what was seen as it counts.
+    pub fn see_left(&mut self, output: &str) -> Result<(), SiteFault>
+        ensures looks { OnlyLooks S.tells (told_world S.tells B.begun (S.world self.old.site)) (told_world S.tells B.begun (S.world self.new.site)) }
+        ensures cause { HasCause (told_world S.tells B.begun (S.world self.old.site)) (told_world S.tells B.begun (S.world self.new.site)) result }
+        ensures waits { KeepsWait (told_world S.tells B.begun (S.world self.old.site)) (told_world S.tells B.begun (S.world self.new.site)) }
+        ensures grows { OnOk result (Grows self.old.noted.lines.items self.new.noted.lines.items) }
+        ensures own { self.new.known.own ≡ self.old.known.own }
+        ensures one { self.new.is_for_one ≡ self.old.is_for_one }
+    {
+        let looked = self.look(output)?;
+        let torn = self.torn;
+        self.torn = true;
+        self.noted.end(output, &looked)?;
+        self.torn = torn;
+        Ok(())
+    }
+
+    /// Puts the lines of what was noted behind the notes, if there are some. Where that failed in this build it is refused, since a line would join
+    /// what is left of another.
+    #[tactic(auto, using(crate::proofs::Answered::asks_none, crate::proofs::Answered::asks_more, crate::proofs::Answered::asks_fail, crate::proofs::Answered::asks_fault, crate::proofs::Answered::refused_asks, crate::proofs::Putting::err_always, crate::proofs::Putting::ok_never, crate::proofs::Putting::puts_none, crate::proofs::Putting::puts_them))]
+    pub fn put_lines(&mut self) -> Result<(), SiteFault>
+        ensures asks { Asks S.tells (told_world S.tells B.begun (S.world self.old.site)) (told_world S.tells B.begun (S.world self.new.site)) result }
+        ensures puts { OnOk result (PutsLines S.tells self.old.known.own.seen self.old.noted.lines.items (S.world self.old.site) (S.world self.new.site)) }
+        ensures left { OnOk result (self.new.noted.lines.items ≡ []) }
+        ensures torn { self.old.torn ≡ true → OnOk result (S.world self.new.site ≡ S.world self.old.site) }
+        ensures tears { OnErr result (self.new.torn ≡ true) }
+        ensures one { self.new.is_for_one ≡ self.old.is_for_one }
+    {
+        if self.noted.lines.is_empty() {
+            return Ok(());
+        }
+        if self.torn {
+            return Err(self.refuse_read());
+        }
+        self.torn = true;
+        let base = self.base.take();
+        self.put_base(base)?;
+        self.put_behind()?;
+        self.torn = false;
+        self.noted.let_go();
+        Ok(())
+    }
+
+    /// Puts this text in the place of the notes, if there is one.
+    #[tactic(auto, using(crate::proofs::Answered::asks_none, crate::proofs::Answered::asks_call, crate::proofs::Putting::may_not, crate::proofs::Putting::may_replace))]
+    fn put_base(&mut self, base: Option<Vec<u8>>) -> Result<(), SiteFault>
+        requires torn { self.old.torn ≡ true }
+        requires notes { Notes S.tells B.begun (option_map (λ text. text.items) base) self.old.noted.lines.items (S.world self.old.site) }
+        ensures asks { Asks S.tells (told_world S.tells B.begun (S.world self.old.site)) (told_world S.tells B.begun (S.world self.new.site)) result }
+        ensures before { OnOk result (MayReplace S.tells self.old.known.own.seen (S.world self.old.site) (S.world self.new.site)) }
+        ensures notes { OnOk result (Notes S.tells B.begun None self.old.noted.lines.items (S.world self.new.site)) }
+        ensures noted { self.new.noted ≡ self.old.noted }
+        ensures known { self.new.known ≡ self.old.known }
+        ensures torn { self.new.torn ≡ true }
+        ensures base { self.new.base ≡ self.old.base }
+        ensures one { self.new.is_for_one ≡ self.old.is_for_one }
+    {
+        match base {
+            Some(base) => self.put_anew(base.as_slice()),
+            None => Ok(()),
+        }
+    }
+
+    /// Puts the lines behind the notes.
+    fn put_behind(&mut self) -> Result<(), SiteFault>
+        requires torn { self.old.torn ≡ true }
+        requires notes { Notes S.tells B.begun None self.old.noted.lines.items (S.world self.old.site) }
+        ensures looks { OnlyLooks S.tells (told_world S.tells B.begun (S.world self.old.site)) (told_world S.tells B.begun (S.world self.new.site)) }
+        ensures cause { HasCause (told_world S.tells B.begun (S.world self.old.site)) (told_world S.tells B.begun (S.world self.new.site)) result }
+        ensures waits { KeepsWait (told_world S.tells B.begun (S.world self.old.site)) (told_world S.tells B.begun (S.world self.new.site)) }
+        ensures puts { OnOk result (Appends S.tells self.old.known.own.seen self.old.noted.lines.items (S.world self.old.site) (S.world self.new.site)) }
+        ensures notes { OnOk result (Notes S.tells B.begun None [] (S.world self.new.site)) }
         ensures same { self.new.known ≡ self.old.known }
+        ensures noted { self.new.noted ≡ self.old.noted }
+        ensures base { self.new.base ≡ self.old.base }
+        ensures torn { self.new.torn ≡ true }
         ensures one { self.new.is_for_one ≡ self.old.is_for_one }
     {
         looks_are_told();
-        self.site.append(self.known.own.seen.as_str(), lines)
+        note_calls_note();
+        self.site
+            .append(self.known.own.seen.as_str(), self.noted.lines.as_slice())
     }
 
     /// Puts this in the place of the notes.
-    pub fn put_anew(&mut self, text: &[u8]) -> Result<(), SiteFault>
+    fn put_anew(&mut self, text: &[u8]) -> Result<(), SiteFault>
+        requires torn { self.old.torn ≡ true }
+        requires notes { Notes S.tells B.begun (Some text.now) self.old.noted.lines.items (S.world self.old.site) }
         ensures looks { OnlyLooks S.tells (told_world S.tells B.begun (S.world self.old.site)) (told_world S.tells B.begun (S.world self.new.site)) }
         ensures cause { HasCause (told_world S.tells B.begun (S.world self.old.site)) (told_world S.tells B.begun (S.world self.new.site)) result }
         ensures waits { KeepsWait (told_world S.tells B.begun (S.world self.old.site)) (told_world S.tells B.begun (S.world self.new.site)) }
         ensures puts { OnOk result (Writes S.tells self.old.known.own.seen (Some text.now) (S.world self.old.site) (S.world self.new.site)) }
+        ensures notes { OnOk result (Notes S.tells B.begun None self.old.noted.lines.items (S.world self.new.site)) }
         ensures same { self.new.known ≡ self.old.known }
+        ensures noted { self.new.noted ≡ self.old.noted }
+        ensures base { self.new.base ≡ self.old.base }
+        ensures torn { self.new.torn ≡ true }
         ensures one { self.new.is_for_one ≡ self.old.is_for_one }
     {
         looks_are_told();
+        note_calls_note();
         self.site.replace(self.known.own.seen.as_str(), text)
     }
 
@@ -199,17 +350,24 @@ impl<S: Measured, B: Beginning> Retold<S, B> {
         ensures refused { Refuses S.tells (told_world S.tells B.begun (S.world self.old.site)) (told_world S.tells B.begun (S.world self.new.site)) result }
         ensures same { self.new.known ≡ self.old.known }
         ensures one { self.new.is_for_one ≡ self.old.is_for_one }
+        ensures noted { self.new.noted ≡ self.old.noted }
     {
         looks_are_told();
+        calls_note();
+        calls_stand();
         let seen = self.site.stat(path);
         fault_of(seen)
     }
 
     /// Why the notes cannot be read, or no line may be put behind them.
     pub fn refuse_read(&mut self) -> SiteFault
-        ensures { Refuses S.tells (told_world S.tells B.begun (S.world self.old.site)) (told_world S.tells B.begun (S.world self.new.site)) result }
+        ensures refused { Refuses S.tells (told_world S.tells B.begun (S.world self.old.site)) (told_world S.tells B.begun (S.world self.new.site)) result }
+        ensures torn { self.new.torn ≡ self.old.torn }
+        ensures one { self.new.is_for_one ≡ self.old.is_for_one }
     {
         looks_are_told();
+        calls_note();
+        calls_stand();
         let content = self.site.read(self.known.own.seen.as_str());
         fault_of(content)
     }
@@ -225,6 +383,8 @@ impl<S: Measured, B: Beginning> Retold<S, B> {
     {
         looks_are_told();
         answers_are_told();
+        calls_note();
+        calls_stand();
         self.site.read(path)
     }
 
@@ -238,6 +398,8 @@ impl<S: Measured, B: Beginning> Retold<S, B> {
     {
         looks_are_told();
         answers_are_told();
+        calls_note();
+        calls_stand();
         let found = self.site.read_measured(path)?;
         let looked = self.known.look_by(self.is_begun, path, measure_in(&found))?;
         Ok(content_counted(looked.counts, found))
@@ -246,10 +408,11 @@ impl<S: Measured, B: Beginning> Retold<S, B> {
     /// Whether the program may not write the path, where the site is for one build: that is the one of the notes, or a command makes it, or there
     /// was no memory to tell it.
     fn is_barred(&mut self, path: &str) -> bool
-        ensures told { IsTrue S.tells → result ≡ false → IsTold B.begun.telling path.now }
+        ensures told { IsTrue S.tells → result ≡ false → IsTold (telling B.begun.knows) path.now }
         ensures same { KnowsSame self.old.known self.new.known }
         ensures site { self.new.site ≡ self.old.site }
         ensures one { self.new.is_for_one ≡ self.old.is_for_one }
+        ensures noted { self.new.noted ≡ self.old.noted }
     {
         if !self.is_for_one {
             return false;
@@ -259,7 +422,7 @@ impl<S: Measured, B: Beginning> Retold<S, B> {
 
     /// Whether the path is that of the notes, where the site is for one build.
     fn is_kept_from_it(&self, path: &str) -> bool
-        ensures { IsTrue S.tells → result ≡ false → B.begun.telling.hidden path.now ≡ false }
+        ensures { IsTrue S.tells → result ≡ false → (telling B.begun.knows).hidden path.now ≡ false }
     {
         self.is_for_one && self.known.own.is_seen(path)
     }
@@ -267,7 +430,7 @@ impl<S: Measured, B: Beginning> Retold<S, B> {
     /// Whether the path is none of which the own stamp counts always, where the site is for one build: it is that of the notes, or none of the
     /// program's own.
     fn may_count_otherwise(&self, path: &str) -> bool
-        ensures { IsTrue S.tells → result ≡ false → IsPlain B.begun.telling path.now }
+        ensures { IsTrue S.tells → result ≡ false → IsPlain (telling B.begun.knows) path.now }
     {
         self.is_for_one && (self.known.own.is_seen(path) || !self.known.own.has(path))
     }
@@ -292,6 +455,9 @@ impl<S: Measured, B: Beginning> Texts for Retold<S, B> {
 }
 
 impl<S: Measured, B: Beginning> Site for Retold<S, B> {
+    ghost use Rattle.std.specs.Prelude.{◌≡◌, OnErr, OnOk};
+    ghost use Rattle.model.specs.Calls.{Appends, AppendsOrNot, HasCause, KeepsWait};
+
     ghost outcome = { S.outcome };
 
     fn stat(&mut self, path: &str) -> Result<Option<u64>, SiteFault> {
@@ -302,15 +468,25 @@ impl<S: Measured, B: Beginning> Site for Retold<S, B> {
     fn tick(&mut self, path: &str) -> Result<u64, SiteFault> {
         writes_are_told();
         looks_are_told();
+        calls_note();
+        calls_stand();
         if self.may_count_otherwise(path) {
             return Err(self.refuse(path));
         }
         self.site.tick(path)
     }
 
-    fn append(&mut self, path: &str, bytes: &[u8]) -> Result<(), SiteFault> {
+    fn append(&mut self, path: &str, bytes: &[u8]) -> Result<(), SiteFault>
+        ensures cause { HasCause (told_world S.tells B.begun (S.world self.old.site)) (told_world S.tells B.begun (S.world self.new.site)) result }
+        ensures waits { KeepsWait (told_world S.tells B.begun (S.world self.old.site)) (told_world S.tells B.begun (S.world self.new.site)) }
+        ensures appends { OnOk result (Appends S.tells path.now bytes.now (told_world S.tells B.begun (S.world self.old.site)) (told_world S.tells B.begun (S.world self.new.site))) }
+        ensures err { OnErr result (AppendsOrNot S.tells path.now bytes.now (told_world S.tells B.begun (S.world self.old.site)) (told_world S.tells B.begun (S.world self.new.site))) }
+        ensures noted { self.new.noted ≡ self.old.noted }
+    {
         writes_are_told();
         looks_are_told();
+        calls_note();
+        calls_stand();
         if self.is_barred(path) {
             return Err(self.refuse(path));
         }
@@ -320,6 +496,8 @@ impl<S: Measured, B: Beginning> Site for Retold<S, B> {
     fn replace(&mut self, path: &str, content: &[u8]) -> Result<(), SiteFault> {
         writes_are_told();
         looks_are_told();
+        calls_note();
+        calls_stand();
         if self.is_barred(path) {
             return Err(self.refuse(path));
         }
@@ -329,6 +507,8 @@ impl<S: Measured, B: Beginning> Site for Retold<S, B> {
     fn write(&mut self, path: &str, content: &[u8]) -> Result<(), SiteFault> {
         writes_are_told();
         looks_are_told();
+        calls_note();
+        calls_stand();
         if self.is_barred(path) {
             return Err(self.refuse(path));
         }
@@ -338,6 +518,8 @@ impl<S: Measured, B: Beginning> Site for Retold<S, B> {
     fn remove(&mut self, path: &str) -> Result<(), SiteFault> {
         writes_are_told();
         looks_are_told();
+        calls_note();
+        calls_stand();
         if self.is_kept_from_it(path) {
             return Err(self.refuse(path));
         }
@@ -346,12 +528,16 @@ impl<S: Measured, B: Beginning> Site for Retold<S, B> {
 
     fn make_dirs(&mut self, path: &str) -> Result<(), SiteFault> {
         looks_are_told();
+        calls_note();
+        calls_stand();
         self.site.make_dirs(path)
     }
 
     fn start(&mut self, job: usize, act: &Act, console: bool) -> Result<(), SiteFault> {
         events_are_told();
         looks_are_told();
+        calls_note();
+        calls_stand();
         let before = self.site.events().len();
         let done = self.site.start(job, act, console);
         let start = started_since(self.site.events(), before);
@@ -362,16 +548,22 @@ impl<S: Measured, B: Beginning> Site for Retold<S, B> {
     fn wait_any(&mut self) -> Result<Finished, SiteFault> {
         events_are_told();
         looks_are_told();
+        calls_note();
+        calls_stand();
         self.site.wait_any()
     }
 
     fn show(&mut self, text: &[u8]) -> Result<(), SiteFault> {
         looks_are_told();
+        calls_note();
+        calls_stand();
         self.site.show(text)
     }
 
     fn restart(&mut self) {
         events_are_told();
+        calls_note();
+        calls_stand();
         self.site.restart();
     }
 

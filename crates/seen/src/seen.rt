@@ -1,15 +1,16 @@
 //! A site over a site.
 
-ghost use Rattle.std.specs.Prelude.{◌≡◌, [], false, true, IsTrue, OnErr, OnOk};
+ghost use Rattle.std.specs.Prelude.{◌≡◌, [], false, IsTrue, OnErr, OnOk};
+ghost use Rattle.std.specs.Option.{option_map};
 ghost use Rattle.model.specs.Calls.{Appends, AppendsOrNot, HasCause, KeepsWait};
 ghost use Rattle.model.specs.World.{World};
 ghost use Rattle.seen.specs.Asking.{Asks};
+ghost use Rattle.seen_true.specs.Going.{EntersBy, NotesStand};
 ghost use Rattle.seen.specs.Begun.{BeginsTold, told_world};
-ghost use Rattle.seen.specs.Beginning.{telling_of};
+ghost use Rattle.seen.specs.Known.{known_of};
 ghost use Rattle.seen.specs.Entering.{IsUnbegun};
 
 use crate::beginning::Beginning;
-use crate::known::Known;
 use crate::lines::{Told, told_by};
 use crate::makers::Makers;
 use crate::measure::Measured;
@@ -21,7 +22,6 @@ use model::{Act, Event, Finished};
 use paths::Manifest;
 use site::{Site, SiteFault, Texts};
 use std::alloc::Global;
-use std::mem::forget;
 use text::{Bytes, cut};
 
 /// A site over a site. Calls go through to it; what `stat` and `read` answer is by what counts (`Retold`), and what is seen is noted in
@@ -40,38 +40,31 @@ use text::{Bytes, cut};
 pub struct Seen<S: Measured, B: Beginning> {
     alloc: Global,
     pub retold: Retold<S, B>,
-    pub known: Known,
     /// What commands make in the build that is to begin next.
     next: Option<Makers>,
-    /// The text that takes the place of the notes before a line is put behind them, where one is to.
-    base: Option<Vec<u8>>,
     /// Whether what is to be known could not be, so that no build begins.
     lost: bool,
-    /// Whether lines could not be put behind the notes in this build, so that a part of them may stand there.
-    torn: bool,
 }
 
 impl<S: Measured, B: Beginning> Seen<S, B> {
     ghost use Rattle.seen.specs.First.{NotesFirst};
-    ghost use Rattle.seen.specs.Noting.{Grows, MayReplace, PutsLines};
+    ghost use Rattle.seen.specs.Noting.{Grows};
 
     /// The site over this one, for a build that begins with this. This takes no memory.
     pub fn over(alloc: Global, site: S, entry: Entry) -> Seen<S, B>
         requires unbegun { IsUnbegun entry.counts }
-        requires telling { IsTrue S.tells → B.begun.telling ≡ telling_of entry.counts.notes entry.counts.makers entry.counts.own entry.counts.number }
+        requires knows { IsTrue S.tells → B.begun.knows ≡ known_of entry.counts }
         requires first { IsTrue S.tells → (S.world site).history ≡ B.begun.first }
         requires begins { IsTrue S.tells → BeginsTold B.begun }
+        requires enters { IsTrue S.tells → EntersBy B.begun.knows (option_map (λ text. text.items) entry.base) B.begun.first }
         ensures { result.retold.site ≡ site }
     {
         let Entry { counts, base, lost } = entry;
         Seen {
             alloc,
-            retold: Retold::over(site, counts),
-            known: Known::new(alloc),
+            retold: Retold::over(alloc, site, counts, base),
             next: None,
-            base,
             lost,
-            torn: false,
         }
     }
 
@@ -83,11 +76,8 @@ impl<S: Measured, B: Beginning> Seen<S, B> {
         Seen {
             alloc,
             retold: Retold::around(alloc, site),
-            known: Known::new(alloc),
             next: None,
-            base: None,
             lost: false,
-            torn: false,
         }
     }
 
@@ -111,20 +101,20 @@ impl<S: Measured, B: Beginning> Seen<S, B> {
     {
         let makers = self.next.take().unwrap_or(Makers::new(self.alloc));
         let Entry { counts, base, .. } = self.retold.enter(self.alloc, makers, log)?;
-        self.retold.begin(counts);
-        self.known = Known::new(self.alloc);
-        self.base = base;
-        self.torn = false;
+        self.retold.begin(self.alloc, counts, base);
         Ok(())
     }
+
+    /// The notes are true, wherever the build has come to. It does nothing: its contract is what this site keeps.
+    pub fn notes_stand(&self)
+        ensures { NotesStand S.tells B.begun (S.world self.now.retold.site) }
+    {}
 
     /// The site below. What is known of paths is not taken apart: that is long in a large build, and a program that ends gives it back at once.
     pub fn into_site(self) -> S
         ensures { result ≡ self.retold.site }
     {
-        let Seen { retold, known, .. } = self;
-        // it is given back with the program, which has nothing left to do
-        forget(known);
+        let Seen { retold, .. } = self;
         retold.into_site()
     }
 
@@ -132,11 +122,11 @@ impl<S: Measured, B: Beginning> Seen<S, B> {
     #[tactic(auto, using(crate::proofs::Answered::asks_both, crate::proofs::Answered::asks_fault))]
     fn note_before(&mut self, path: &str, bytes: &[u8]) -> Result<(), SiteFault>
         ensures asks { Asks S.tells (told_world S.tells B.begun (S.world self.old.retold.site)) (told_world S.tells B.begun (S.world self.new.retold.site)) result }
-        ensures notes { OnOk result (NotesFirst S.tells B.begun self.old.retold.known.own.seen self.old.known.lines.items (S.world self.old.retold.site) (S.world self.new.retold.site)) }
-        ensures left { OnOk result (self.new.known.lines.items ≡ []) }
+        ensures notes { OnOk result (NotesFirst S.tells B.begun self.old.retold.known.own.seen self.old.retold.noted.lines.items (S.world self.old.retold.site) (S.world self.new.retold.site)) }
+        ensures left { OnOk result (self.new.retold.noted.lines.items ≡ []) }
     {
         self.ask_for(path, bytes)?;
-        self.put_lines()?;
+        self.retold.put_lines()?;
         Ok(())
     }
 
@@ -144,7 +134,7 @@ impl<S: Measured, B: Beginning> Seen<S, B> {
     #[tactic(auto, using(crate::proofs::Answered::asks_none, crate::proofs::Answered::refused_asks, crate::proofs::Growing::grows_none, crate::proofs::Putting::ok_never))]
     fn ask_for(&mut self, path: &str, bytes: &[u8]) -> Result<(), SiteFault>
         ensures asks { Asks S.tells (told_world S.tells B.begun (S.world self.old.retold.site)) (told_world S.tells B.begun (S.world self.new.retold.site)) result }
-        ensures grows { OnOk result (Grows self.old.known.lines.items self.new.known.lines.items) }
+        ensures grows { OnOk result (Grows self.old.retold.noted.lines.items self.new.retold.noted.lines.items) }
         ensures own { self.new.retold.known.own ≡ self.old.retold.known.own }
     {
         if !is_log(path) {
@@ -164,7 +154,7 @@ impl<S: Measured, B: Beginning> Seen<S, B> {
     #[tactic(auto, using(crate::proofs::Answered::asks_none, crate::proofs::Answered::refused_asks, crate::proofs::Growing::grows_none, crate::proofs::Putting::ok_never))]
     fn note_record(&mut self, path: &str, fields: &[Field<'_>]) -> Result<(), SiteFault>
         ensures asks { Asks S.tells (told_world S.tells B.begun (S.world self.old.retold.site)) (told_world S.tells B.begun (S.world self.new.retold.site)) result }
-        ensures grows { OnOk result (Grows self.old.known.lines.items self.new.known.lines.items) }
+        ensures grows { OnOk result (Grows self.old.retold.noted.lines.items self.new.retold.noted.lines.items) }
         ensures own { self.new.retold.known.own ≡ self.old.retold.known.own }
     {
         match told_by(fields) {
@@ -179,7 +169,7 @@ impl<S: Measured, B: Beginning> Seen<S, B> {
     #[tactic(auto, using(crate::proofs::Answered::asks_none, crate::proofs::Answered::refused_asks, crate::proofs::Growing::grows_none, crate::proofs::Putting::ok_never))]
     fn note_start(&mut self, path: &str, outputs: &[Field<'_>]) -> Result<(), SiteFault>
         ensures asks { Asks S.tells (told_world S.tells B.begun (S.world self.old.retold.site)) (told_world S.tells B.begun (S.world self.new.retold.site)) result }
-        ensures known { self.new.known ≡ self.old.known }
+        ensures noted { self.new.retold.noted ≡ self.old.retold.noted }
         ensures own { self.new.retold.known.own ≡ self.old.retold.known.own }
     {
         for output in outputs {
@@ -194,7 +184,7 @@ impl<S: Measured, B: Beginning> Seen<S, B> {
     #[tactic(auto, using(crate::proofs::Answered::asks_none, crate::proofs::Answered::asks_both, crate::proofs::Answered::asks_fault, crate::proofs::Growing::grows_none, crate::proofs::Growing::grows_then))]
     fn ask_made(&mut self, outputs: &[Field<'_>]) -> Result<(), SiteFault>
         ensures asks { Asks S.tells (told_world S.tells B.begun (S.world self.old.retold.site)) (told_world S.tells B.begun (S.world self.new.retold.site)) result }
-        ensures grows { OnOk result (Grows self.old.known.lines.items self.new.known.lines.items) }
+        ensures grows { OnOk result (Grows self.old.retold.noted.lines.items self.new.retold.noted.lines.items) }
         ensures own { self.new.retold.known.own ≡ self.old.retold.known.own }
     {
         for output in outputs {
@@ -203,22 +193,20 @@ impl<S: Measured, B: Beginning> Seen<S, B> {
         Ok(())
     }
 
-    #[tactic(auto, using(crate::proofs::Answered::asks_none, crate::proofs::Answered::asks_more, crate::proofs::Answered::asks_fail, crate::proofs::Answered::asks_no_room, crate::proofs::Growing::grows_none, crate::proofs::Growing::grows_then))]
+    #[tactic(auto, using(crate::proofs::Answered::asks_call))]
     fn ask_left(&mut self, output: &str) -> Result<(), SiteFault>
         ensures asks { Asks S.tells (told_world S.tells B.begun (S.world self.old.retold.site)) (told_world S.tells B.begun (S.world self.new.retold.site)) result }
-        ensures grows { OnOk result (Grows self.old.known.lines.items self.new.known.lines.items) }
+        ensures grows { OnOk result (Grows self.old.retold.noted.lines.items self.new.retold.noted.lines.items) }
         ensures own { self.new.retold.known.own ≡ self.old.retold.known.own }
     {
-        let looked = self.retold.look(output)?;
-        self.known.end(output, &looked)?;
-        Ok(())
+        self.retold.see_left(output)
     }
 
     /// Asks for these paths, which a command told that it read, as far as that was not done in this build, and notes them.
     #[tactic(auto, using(crate::proofs::Answered::asks_none, crate::proofs::Answered::asks_both, crate::proofs::Answered::asks_fault, crate::proofs::Growing::grows_none, crate::proofs::Growing::grows_then))]
     fn ask_read(&mut self, paths: &[Field<'_>]) -> Result<(), SiteFault>
         ensures asks { Asks S.tells (told_world S.tells B.begun (S.world self.old.retold.site)) (told_world S.tells B.begun (S.world self.new.retold.site)) result }
-        ensures grows { OnOk result (Grows self.old.known.lines.items self.new.known.lines.items) }
+        ensures grows { OnOk result (Grows self.old.retold.noted.lines.items self.new.retold.noted.lines.items) }
         ensures own { self.new.retold.known.own ≡ self.old.retold.known.own }
     {
         for path in paths {
@@ -230,55 +218,14 @@ impl<S: Measured, B: Beginning> Seen<S, B> {
     #[tactic(auto, using(crate::proofs::Answered::asks_none, crate::proofs::Answered::asks_more, crate::proofs::Answered::asks_fail, crate::proofs::Answered::asks_no_room, crate::proofs::Growing::grows_none, crate::proofs::Growing::grows_then))]
     fn ask_once(&mut self, path: &str) -> Result<(), SiteFault>
         ensures asks { Asks S.tells (told_world S.tells B.begun (S.world self.old.retold.site)) (told_world S.tells B.begun (S.world self.new.retold.site)) result }
-        ensures grows { OnOk result (Grows self.old.known.lines.items self.new.known.lines.items) }
+        ensures grows { OnOk result (Grows self.old.retold.noted.lines.items self.new.retold.noted.lines.items) }
         ensures own { self.new.retold.known.own ≡ self.old.retold.known.own }
     {
         let last = self.retold.known.notes.last(path);
-        if self.retold.known.is_made(path) || self.known.is_settled(path, last) {
+        if self.retold.known.is_made(path) || self.retold.noted.is_settled(path, last) {
             return Ok(());
         }
-        let looked = self.retold.look(path)?;
-        self.known.note(path, &looked)?;
-        Ok(())
-    }
-
-    /// Puts the text in the place of the notes that is to be there before a line is put behind them, if there is one.
-    #[tactic(auto, using(crate::proofs::Answered::asks_none, crate::proofs::Answered::asks_call, crate::proofs::Putting::may_not, crate::proofs::Putting::may_replace))]
-    fn put_base(&mut self) -> Result<(), SiteFault>
-        ensures asks { Asks S.tells (told_world S.tells B.begun (S.world self.old.retold.site)) (told_world S.tells B.begun (S.world self.new.retold.site)) result }
-        ensures before { OnOk result (MayReplace S.tells self.old.retold.known.own.seen (S.world self.old.retold.site) (S.world self.new.retold.site)) }
-        ensures known { self.new.known ≡ self.old.known }
-        ensures own { self.new.retold.known.own ≡ self.old.retold.known.own }
-        ensures torn { self.new.torn ≡ self.old.torn }
-    {
-        match &self.base {
-            Some(base) => self.retold.put_anew(base.as_slice()),
-            None => Ok(()),
-        }
-    }
-
-    /// Puts the lines of what was noted behind the notes, if there are some. Where that failed in this build it is refused, since a line would join
-    /// what is left of another.
-    #[tactic(auto, using(crate::proofs::Answered::asks_none, crate::proofs::Answered::asks_more, crate::proofs::Answered::asks_fail, crate::proofs::Answered::asks_fault, crate::proofs::Answered::refused_asks, crate::proofs::Putting::err_always, crate::proofs::Putting::ok_never, crate::proofs::Putting::puts_none, crate::proofs::Putting::puts_them))]
-    fn put_lines(&mut self) -> Result<(), SiteFault>
-        ensures asks { Asks S.tells (told_world S.tells B.begun (S.world self.old.retold.site)) (told_world S.tells B.begun (S.world self.new.retold.site)) result }
-        ensures puts { OnOk result (PutsLines S.tells self.old.retold.known.own.seen self.old.known.lines.items (S.world self.old.retold.site) (S.world self.new.retold.site)) }
-        ensures left { OnOk result (self.new.known.lines.items ≡ []) }
-        ensures torn { self.old.torn ≡ true → OnOk result (S.world self.new.retold.site ≡ S.world self.old.retold.site) }
-        ensures tears { OnErr result (self.new.torn ≡ true) }
-    {
-        if self.known.lines.is_empty() {
-            return Ok(());
-        }
-        if self.torn {
-            return Err(self.retold.refuse_read());
-        }
-        self.torn = true;
-        self.put_base()?;
-        self.base = None;
-        self.retold.put_behind(self.known.lines.as_slice())?;
-        self.torn = false;
-        self.known.let_go();
+        self.retold.see(path)?;
         Ok(())
     }
 }
@@ -310,8 +257,7 @@ impl<S: Measured, B: Beginning> Site for Seen<S, B> {
     ghost outcome = { S.outcome };
 
     fn stat(&mut self, path: &str) -> Result<Option<u64>, SiteFault> {
-        let looked = self.retold.look(path)?;
-        self.known.note(path, &looked)?;
+        let looked = self.retold.see(path)?;
         Ok(looked.counts)
     }
 
@@ -324,8 +270,8 @@ impl<S: Measured, B: Beginning> Site for Seen<S, B> {
         ensures waits { KeepsWait (told_world S.tells B.begun (S.world self.old.retold.site)) (told_world S.tells B.begun (S.world self.new.retold.site)) }
         ensures appends { OnOk result (Appends S.tells path.now bytes.now (told_world S.tells B.begun (S.world self.old.retold.site)) (told_world S.tells B.begun (S.world self.new.retold.site))) }
         ensures err { OnErr result (AppendsOrNot S.tells path.now bytes.now (told_world S.tells B.begun (S.world self.old.retold.site)) (told_world S.tells B.begun (S.world self.new.retold.site))) }
-        ensures noted { OnOk result (IsNotedFirst S.tells B.begun self.old.retold.known.own.seen self.old.known.lines.items path.now bytes.now (S.world self.old.retold.site) (S.world self.new.retold.site)) }
-        ensures left { OnOk result (self.new.known.lines.items ≡ []) }
+        ensures noted { OnOk result (IsNotedFirst S.tells B.begun self.old.retold.known.own.seen self.old.retold.noted.lines.items path.now bytes.now (S.world self.old.retold.site) (S.world self.new.retold.site)) }
+        ensures left { OnOk result (self.new.retold.noted.lines.items ≡ []) }
     {
         self.note_before(path, bytes)?;
         self.retold.append(path, bytes)

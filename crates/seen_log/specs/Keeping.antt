@@ -1,11 +1,11 @@
 -- What is kept of the log.
-use Rattle.std.specs.Prelude.{◌≡◌, ℕ, List, Option, None, Some, map, length, slice_get, string_bytes, String}
+use Rattle.std.specs.Prelude.{◌≡◌, ℕ, ◌+◌, List, Option, None, Some, map, length, take, slice_get, string_bytes, String}
 use Rattle.indexmap.specs.IndexMap.{get_by_text}
 use Rattle.seen_log.specs.declared.note.Last.{Last}
 use Rattle.seen_log.specs.declared.note.Note.{Note}
 use Rattle.seen_log.specs.declared.log.Log.{Log}
 use Rattle.seen_log.specs.Record.{noting}
-use Rattle.seen_log.specs.Log.{compaction, greatest_of, noted_in_force, noteds}
+use Rattle.seen_log.specs.Log.{IsLog, compaction, greatest_of, noted_in_force, noteds}
 
 -- what is kept for a path tells what is in force, and where that stands
 abbrev pub IsLast : List Note → List ℕ → Option Last → Type 0
@@ -21,3 +21,7 @@ pub record Keeps (records : List Note) (log : Log) : Type 0 where
   pub in_force : map entry_note log.last.entries ≡ compaction records
   pub count : log.records ≡ length records
   pub greatest : log.greatest ≡ greatest_of records
+
+-- the text of what is kept for the first paths, up to this place, got the line of the next one
+abbrev pub LogGrows : Log → (place : ℕ) → List ℕ → List ℕ → Type 0
+LogGrows log place old new = IsLog old (map entry_note (take place log.last.entries)) → IsLog new (map entry_note (take (place + 1) log.last.entries))

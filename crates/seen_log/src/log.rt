@@ -1,9 +1,9 @@
 //! What is kept of the log.
 
-ghost use Rattle.std.specs.Prelude.{◌≡◌, ◌+◌, ◌<◌, IfOk, OnOk, OnErr, length, map, take};
+ghost use Rattle.std.specs.Prelude.{◌≡◌, ◌<◌, IfOk, OnOk, OnErr, length};
 ghost use Rattle.log_text.specs.Keeping.{IsParsed, KeepsAlso, KeepsSame, OfKept};
 ghost use Rattle.seen_log.specs.Record.{forms, noting};
-ghost use Rattle.seen_log.specs.Log.{IsLog, counts_of, greatest_of, noted_in_force, to_pass};
+ghost use Rattle.seen_log.specs.Log.{counts_of, greatest_of, noted_in_force, to_pass};
 
 use crate::note::{Kind, Last, Note, Noted};
 use crate::record::{note_line, plain_by, said_by};
@@ -121,7 +121,7 @@ impl Records for Log {
 
 impl Log {
     ghost use Rattle.indexmap.specs.IndexMap.{get_by_text};
-    ghost use Rattle.seen_log.specs.Keeping.{Keeps, IsLast, entry_note};
+    ghost use Rattle.seen_log.specs.Keeping.{Keeps, IsLast, LogGrows};
 
     /// What the text of a log tells, and how it ends. A damaged one tells nothing.
     ///
@@ -195,7 +195,7 @@ impl Log {
     /// Writes the line of the entry at this place at the end, if there is one.
     fn push_entry(&self, place: usize, text: &mut Vec<u8>) -> Result<(), AllocError>
         requires { place < length self.now.last.entries }
-        ensures { OnOk result (IsLog text.old.items (map entry_note (take place self.now.last.entries)) → IsLog text.new.items (map entry_note (take (place + 1) self.now.last.entries))) }
+        ensures { OnOk result (LogGrows self.now place text.old.items text.new.items) }
     {
         match self.last.get_index(place) {
             Some((path, last)) => note_line(text, path.as_str(), last.noted),

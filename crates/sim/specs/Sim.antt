@@ -11,8 +11,8 @@ use Rattle.model.specs.declared.fault.SiteFault.{SiteFault}
 use Rattle.model.specs.declared.fault.SiteFault.TheVariants.{Device, Stopped, Memory}
 use Rattle.model.specs.declared.outcome.Outcome.{Outcome}
 use Rattle.model.specs.declared.outcome.Write.{Write}
-use Rattle.model.specs.World.{View, file_at, content_of, stamp_of, view_of, IsRunning}
-use Rattle.model.specs.Calls.{OthersWrote, Sees}
+use Rattle.model.specs.World.{View, view_of, IsRunning}
+use Rattle.model.specs.Calls.{OthersWrote}
 use Rattle.sim.specs.declared.faults.Call.{Call}
 use Rattle.sim.specs.declared.faults.Named.{Named}
 use Rattle.sim.specs.declared.faults.Trouble.{Trouble}
@@ -102,15 +102,6 @@ putting_some path (byte ∷ bytes) sim = putting path (byte ∷ bytes) sim
 -- no more than so many of the bytes are put there
 abbrev pub putting_first : {C : Type 0} → List ℕ → List ℕ → ℕ → Sim C → Sim C
 putting_first path bytes count sim = putting_some path (take count bytes) sim
-
--- ---- what is seen
-
--- this was the content of the file at the path, or its stamp, at some point between
-abbrev pub SawContent : List ℕ → Option (List ℕ) → List Moment → List Moment → Type 0
-SawContent path content old new = Sees (λ history. content_of (file_at history path)) content old new
-
-abbrev pub SawStamp : List ℕ → Option ℕ → List Moment → List Moment → Type 0
-SawStamp path stamp old new = Sees (λ history. stamp_of (file_at history path)) stamp old new
 
 -- ---- what was named
 

@@ -1,8 +1,9 @@
 //! The site that a build works on.
 
 ghost use Rattle.std.specs.Prelude.{◌≡◌, ◌++◌, ℕ, true, false, Some, None, IsTrue, IfOk, OnOk, OnErr};
-ghost use Rattle.model.specs.World.{View, file_at, stamp_of, runs};
-ghost use Rattle.model.specs.Calls.{OnlyLooks, HasCause, KeepsWait, NotesWait, Sees, Ticks, TicksOrNot, Writes, WritesOrNot, SpoilsOrNot, Appends, AppendsOrNot, Starts, StartsOrNot, Finishes, IsRestart};
+ghost use Rattle.model.specs.World.{View, runs};
+ghost use Rattle.model.specs.Calls.{OnlyLooks, HasCause, KeepsWait, NotesWait, Ticks, TicksOrNot, Writes, WritesOrNot, SpoilsOrNot, Appends, AppendsOrNot, Starts, StartsOrNot, Finishes, IsRestart};
+ghost use Rattle.site.specs.Files.{SawStamp};
 
 use crate::texts::Texts;
 use model::{Act, Event, Finished, SiteFault};
@@ -24,7 +25,7 @@ pub trait Site: Texts {
         ensures looks { OnlyLooks Self.tells (Self.world self.old) (Self.world self.new) }
         ensures cause { HasCause (Self.world self.old) (Self.world self.new) result }
         ensures waits { KeepsWait (Self.world self.old) (Self.world self.new) }
-        ensures stamp { IsTrue Self.tells → IfOk result (λ stamp. Sees (λ history. stamp_of (file_at history path.now)) stamp (Self.world self.old).history (Self.world self.new).history) };
+        ensures stamp { IsTrue Self.tells → IfOk result (λ stamp. SawStamp path.now stamp (Self.world self.old).history (Self.world self.new).history) };
 
     /// Gives the file at the path a new stamp, and answers it. A file that is absent is made, with nothing in it.
     /// Where it fails, the file may have been touched.

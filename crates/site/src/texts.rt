@@ -1,8 +1,9 @@
 //! Where build files come from.
 
 ghost use Rattle.std.specs.Prelude.{◌≡◌, Bool, IsTrue, IfOk};
-ghost use Rattle.model.specs.World.{World, file_at, content_of};
-ghost use Rattle.model.specs.Calls.{OnlyLooks, HasCause, KeepsWait, Sees};
+ghost use Rattle.model.specs.World.{World};
+ghost use Rattle.model.specs.Calls.{OnlyLooks, HasCause, KeepsWait};
+ghost use Rattle.site.specs.Files.{SawContent};
 
 use model::SiteFault;
 use text::Bytes;
@@ -19,7 +20,7 @@ pub trait Texts {
         ensures looks { OnlyLooks tells (world self.old) (world self.new) }
         ensures cause { HasCause (world self.old) (world self.new) result }
         ensures waits { KeepsWait (world self.old) (world self.new) }
-        ensures content { IsTrue tells → IfOk result (λ content. Sees (λ history. content_of (file_at history path.now)) content (world self.old).history (world self.new).history) };
+        ensures content { IsTrue tells → IfOk result (λ content. SawContent path.now content (world self.old).history (world self.new).history) };
 
     /// How many calls the device has refused so far.
     fn failures(&self) -> u64

@@ -9,7 +9,7 @@ use builder::Report;
 use model::SiteFault;
 use ninja_asked::{Asking, answer_read};
 use nj_run::Alone;
-use site::Site;
+use seen::Measured;
 use std::alloc::{AllocError, Global};
 use tools::{Answer, Fault, Tool};
 
@@ -49,7 +49,7 @@ impl From<AllocError> for NoAnswer {
 /// `clean` and `cleandead` writes; these wait until nobody else is at work in the folder. `restat` and `recompact` only have their words
 /// checked, so that a generator may call them while a build has the logs open.
 #[tactic(auto, using(crate::proofs::Looking::looking))]
-pub fn answer<S: Alone>(
+pub fn answer<S: Alone + Measured>(
     alloc: Global,
     site: &mut S,
     asking: Asking<'_>,
@@ -67,7 +67,7 @@ pub fn answer<S: Alone>(
 
 /// What a tool answers once nobody else is at work in the folder.
 #[tactic(auto, using(crate::proofs::Looking::looking))]
-fn answer_alone<S: Alone>(
+fn answer_alone<S: Alone + Measured>(
     alloc: Global,
     site: &mut S,
     asking: Asking<'_>,
@@ -82,7 +82,7 @@ fn answer_alone<S: Alone>(
 
 /// What a tool answers of the build files as they are now.
 #[tactic(auto, using(crate::proofs::Looking::looking))]
-fn answer_here<S: Site>(
+fn answer_here<S: Measured>(
     alloc: Global,
     site: &mut S,
     asking: Asking<'_>,

@@ -1,6 +1,8 @@
 -- What tools print of a graph, line by line (the forms are real ninja's).
 use Rattle.std.specs.Prelude.{◌≡◌, ◌<◌, ℕ, zero, suc, if◌then◌else◌, Bool, true, false, List, [], ◌∷◌, ◌++◌, ◌↔◌, ◌⊎◌, map, filter, flat_map, codes, length, Option, Some, None, is_none, get_or, bytes_eq, String, string_bytes}
+use Rattle.std.specs.Borrow.{Bor}
 use Rattle.std.specs.List.{range_with_len}
+use Rattle.std.specs.Map.Iter.{deref}
 use Rattle.std.specs.declared.alloc.Global.{Global}
 use Rattle.std.specs.Ordering.{nat_cmp}
 use Rattle.std.specs.declared.cmp.Ordering.TheVariants.{Less}
@@ -81,6 +83,11 @@ pub record AreMet (graph : Graph) (paths : List ℕ) (met : List Bool) (edges : 
   pub marked : (e : ℕ) → e < length graph.manifest.lines → get_or met e false ≡ has_number edges e
   pub makers : AreMakers graph paths edges
 
+-- and so was the edge that makes one path more
+abbrev pub MeetsOne : Graph → ℕ → (met : List Bool) → (edges : List ℕ) → (more_met : List Bool) → (more_edges : List ℕ) → Type 0
+MeetsOne graph path met edges more_met more_edges =
+    (paths : List ℕ) → AreMet graph paths met edges → AreMet graph (paths ++ path ∷ []) more_met more_edges
+
 -- of the paths alone, or of all that is above them
 abbrev pub AreMeant : Graph → List ℕ → Bool → List ℕ → Type 0
 AreMeant graph paths true edges = AreMakers graph paths edges
@@ -97,10 +104,18 @@ IsInputFor declared paths text =
     (e p : ℕ) × IsNeededFor (links_of declared.graph) paths e × ((links_of declared.graph).phony e ≡ false)
     × (has_number ((links_of declared.graph).inputs e) p ≡ true) × (text ≡ quoted (path_text declared p))
 
+-- these paths, quoted
+abbrev pub quoted_paths : Declared → List ℕ → List (List ℕ)
+quoted_paths declared paths = map (λ p. quoted (path_text declared p)) paths
+
 -- the inputs of the edge, quoted, where it is a command
 abbrev pub quoted_inputs : Declared → ℕ → List (List ℕ)
 quoted_inputs declared e =
-    if (links_of declared.graph).phony e then [] else map (λ p. quoted (path_text declared p)) ((links_of declared.graph).inputs e)
+    if (links_of declared.graph).phony e then [] else quoted_paths declared ((links_of declared.graph).inputs e)
+
+-- these words stand behind those that there were
+abbrev pub AddsWords : {Y : Type 0} → (old new : List (String Y)) → List (List ℕ) → Type 0
+AddsWords old new more = map string_bytes new ≡ map string_bytes old ++ more
 
 pub record PrintsInputs (declared : Declared) (paths text : List ℕ) : Type 0 where
   pub inputs : List (List ℕ)
@@ -129,6 +144,10 @@ all_sources declared = sources_of declared.graph (flat_map (λ e. (links_of decl
 -- the outputs of the edge, each with the name of its rule
 abbrev pub targets_of : Declared → ℕ → List (List ℕ)
 targets_of declared e = map (with_rule declared e) ((links_of declared.graph).outputs e)
+
+-- these texts stand behind those that there were
+abbrev pub AddsTexts : (old new : List (Bor (List ℕ))) → List (List ℕ) → Type 0
+AddsTexts old new more = map deref new ≡ map deref old ++ more
 
 -- the outputs of the edge, where that is its rule
 abbrev pub outputs_of_rule : Declared → List ℕ → ℕ → List (List ℕ)
@@ -177,6 +196,10 @@ if_some (first ∷ others) told = told
 abbrev pub marked : Declared → List ℕ → List ℕ → List (List ℕ)
 marked declared mark paths = map (λ p. mark ++ path_text declared p) paths
 
+-- what validates, where something does
+abbrev pub validation_lines : Declared → List ℕ → List (List ℕ)
+validation_lines declared paths = if_some paths (codes "  validations:" ∷ marked declared (codes "    ") paths)
+
 -- the inputs of the edge that makes a path
 abbrev pub maker_lines : Declared → Option ℕ → List (List ℕ)
 maker_lines declared None = []
@@ -184,18 +207,25 @@ maker_lines declared (Some e) =
     (codes "  input: " ++ rule_of declared e) ∷ marked declared (codes "    ") (line_at declared.graph.manifest.lines e).explicit_inputs
     ++ marked declared (codes "    | ") (line_at declared.graph.manifest.lines e).implicit_inputs
     ++ marked declared (codes "    || ") (line_at declared.graph.manifest.lines e).order_only_inputs
-    ++ if_some ((links_of declared.graph).validations e) (codes "  validations:" ∷ marked declared (codes "    ") ((links_of declared.graph).validations e))
+    ++ validation_lines declared ((links_of declared.graph).validations e)
 
 -- the outputs of the edges that name a path
 abbrev pub outputs_of : Declared → List ℕ → List (List ℕ)
 outputs_of declared edges = flat_map (λ e. marked declared (codes "    ") ((links_of declared.graph).outputs e)) edges
 
--- the edges that name a path for validation
+-- those of these edges that name a path for validation
+abbrev pub validating : Declared → ℕ → List ℕ → List ℕ
+validating declared p edges = filter (λ e. has_number ((links_of declared.graph).validations e) p) edges
+
 abbrev pub validated_by : Declared → ℕ → List ℕ
-validated_by declared p = filter (λ e. has_number ((links_of declared.graph).validations e) p) (places declared.graph)
+validated_by declared p = validating declared p (places declared.graph)
+
+-- what these edges make, which name it, where some do
+abbrev pub validated_lines : Declared → List ℕ → List (List ℕ)
+validated_lines declared edges = if_some edges (codes "  validation for:" ∷ outputs_of declared edges)
 
 abbrev pub query_lines : Declared → ℕ → List (List ℕ)
 query_lines declared p =
     (path_text declared p ++ codes ":") ∷ maker_lines declared ((links_of declared.graph).maker p)
     ++ codes "  outputs:" ∷ outputs_of declared (users_at declared.graph p)
-    ++ if_some (validated_by declared p) (codes "  validation for:" ∷ outputs_of declared (validated_by declared p))
+    ++ validated_lines declared (validated_by declared p)

@@ -32,6 +32,9 @@ pub record IsCleanedOutput (declared : Declared) (cleaning : Cleaning) (generate
 abbrev pub IsOwnFileOf : Declared → ℕ → List ℕ → Type 0
 IsOwnFileOf declared e text = (text ≢ []) × (has (own_files declared e) text ≡ true)
 
+abbrev pub IsPathOf : Declared → List ℕ → List ℕ → Type 0
+IsPathOf declared numbers text = (text ≢ []) × (has (texts_at declared.graph.manifest.paths numbers) text ≡ true)
+
 -- the edge makes the path, or it is its depfile or response file; no line is without outputs
 pub record IsFileOf (declared : Declared) (e : ℕ) (text : List ℕ) : Type 0 where
   pub makes : (links_of declared.graph).outputs e ≢ []

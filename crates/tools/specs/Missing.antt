@@ -1,14 +1,16 @@
 -- Recorded inputs that an edge makes which is not above: a build could make them later than what reads them.
-use Rattle.std.specs.Prelude.{◌≡◌, ◌≢◌, ◌⊎◌, ◌↔◌, ℕ, Bool, true, false, List, ◌++◌, ◌∷◌, [], IsSome, Some, get_or}
+use Rattle.std.specs.Prelude.{◌≡◌, ◌≢◌, ◌⊎◌, ◌↔◌, ℕ, Bool, true, false, List, ◌++◌, ◌∷◌, [], IsSome, Some, get_or, slice_get}
 use Rattle.model.specs.declared.record.DepsRecord.{DepsRecord}
 use Rattle.model.specs.Graph.{has}
 use Rattle.model.specs.Records.{deps_in_force, paths_in}
 use Rattle.graph.specs.Links.{links_of}
 use Rattle.graph.specs.declared.graph.Graph.{Graph}
+use Rattle.log_text.specs.Kept.{if_some, texts_at}
 use Rattle.paths.specs.Told.{text_at}
 use Rattle.records.specs.Known.{Knows}
 use Rattle.records.specs.declared.records.Records.{Records}
 use Rattle.model.specs.declared.record.Record.{Record}
+use Rattle.tools.specs.declared.declared.Logged.{Logged}
 use Rattle.tools.specs.declared.missing.MissingDep.{MissingDep}
 use Rattle.tools.specs.Above.{IsNamedAbove, IsNeededFor}
 
@@ -64,3 +66,28 @@ AddsDeps old new added = (dep : MissingDep) → IsOneOf dep new ↔ (IsOneOf dep
 -- the missing ones of an output were added, whatever the logs tell
 abbrev pub AddsMissing : Graph → Records → (file : List ℕ) → ℕ → (old new : List MissingDep) → Type 0
 AddsMissing graph records file output old new = (rs : List Record) (ds : List DepsRecord) → Knows graph records rs ds → AddsDeps old new (λ dep. (dep.output ≡ output) × IsMissing graph ds file dep)
+
+-- ---- by what build files declare, and what logs tell of it
+
+-- the texts that the deps log has under these numbers
+abbrev pub told_texts : Logged → List ℕ → List (List ℕ)
+told_texts logged numbers = texts_at logged.records.now.logs.deps_log.log.outputs numbers
+
+abbrev pub told_text : Logged → ℕ → List (List ℕ)
+told_text logged number = if_some (slice_get logged.records.now.logs.deps_log.log.outputs number)
+
+-- just the missing ones
+abbrev pub MissesIn : Logged → (file : List ℕ) → (paths : List ℕ) → List MissingDep → Type 0
+MissesIn logged file paths found = Misses logged.declared.now.graph logged.records.now file paths found
+
+-- those of an output were added
+abbrev pub AddsMissingOf : Logged → (file : List ℕ) → ℕ → (old new : List MissingDep) → Type 0
+AddsMissingOf logged file output old new = AddsMissing logged.declared.now.graph logged.records.now file output old new
+
+-- those of these texts that an edge makes
+abbrev pub AddsMade : Logged → (file : List ℕ) → ℕ → (texts : List (List ℕ)) → (old new : List MissingDep) → Type 0
+AddsMade logged file output texts old new = AddsDeps old new (IsMadeFor logged.declared.now.graph output texts file)
+
+-- and whose maker is not above the output
+abbrev pub AddsApart : Logged → (file : List ℕ) → ℕ → (texts : List (List ℕ)) → (old new : List MissingDep) → Type 0
+AddsApart logged file output texts old new = AddsDeps old new (IsApart logged.declared.now.graph output texts file)

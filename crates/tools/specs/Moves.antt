@@ -1,5 +1,6 @@
 -- What `clean` and `cleandead` do to a site.
-use Rattle.std.specs.Prelude.{◌≡◌, ℕ, Bool, true, false, List, [], ◌∷◌, None}
+use Rattle.std.specs.Prelude.{◌≡◌, ℕ, Bool, true, false, IfSome, List, [], ◌∷◌, Option, None}
+use Rattle.std.specs.Borrow.{Bor}
 use Rattle.model.specs.Calls.{OnlyLooks, WritesOrNot}
 use Rattle.model.specs.Graph.{has}
 use Rattle.model.specs.World.{World}
@@ -28,3 +29,7 @@ AreAmong some paths = (path : List ℕ) → has some path ≡ true → has paths
 abbrev pub RemovesOf : Bool → Bool → List (List ℕ) → World → World → Type 0
 RemovesOf tells true paths old new = OnlyLooks tells old new
 RemovesOf tells false paths old new = (gone : List (List ℕ)) × AreAmong gone paths × AreRemoved tells gone old new
+
+-- so it is of any files among which this one is, if one is named
+abbrev pub RemovesAmong : Bool → Bool → Option (Bor (List ℕ)) → World → World → Type 0
+RemovesAmong tells only_count path old new = (paths : List (List ℕ)) → IfSome path (λ one. has paths one.now ≡ true) → RemovesOf tells only_count paths old new

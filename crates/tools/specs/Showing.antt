@@ -15,6 +15,9 @@ abbrev pub head_line : Declared → (level p : ℕ) → Option ℕ → List ℕ
 head_line declared level p None = indented level (path_text declared p)
 head_line declared level p (Some e) = indented level (with_rule declared e p)
 
+abbrev pub path_line : Declared → (level p : ℕ) → List ℕ
+path_line declared level p = head_line declared level p ((links_of declared.graph).maker p)
+
 -- what these paths of a level come to
 abbrev pub shown : Declared → (depth level : ℕ) → List ℕ → List (List ℕ)
 shown declared depth level paths = flat_map (tree declared (depth - level) level) paths

@@ -1,9 +1,8 @@
 //! `-t query`: what makes a path, and what is made of it.
 
-ghost use Rattle.std.specs.Prelude.{◌≡◌, ◌<◌, ◌++◌, ◌∷◌, [], IfOk, OnOk, Some, codes, filter, flat_map, length, string_bytes};
-ghost use Rattle.model.specs.Graph.{has_number};
+ghost use Rattle.std.specs.Prelude.{◌≡◌, ◌<◌, ◌++◌, ◌∷◌, [], IfOk, OnOk, Some, flat_map, length, string_bytes};
 ghost use Rattle.graph.specs.Links.{links_of};
-ghost use Rattle.tools.specs.Answers.{Tells, if_some, lines, maker_lines, marked, outputs_of, query_lines, validated_by};
+ghost use Rattle.tools.specs.Answers.{Tells, lines, maker_lines, marked, outputs_of, query_lines, validated_by, validated_lines, validating, validation_lines};
 
 use crate::access::{outputs_at, text_at, users_at};
 use crate::declared::Declared;
@@ -55,7 +54,7 @@ fn push_validated(
     edges: &[EdgeId],
     told: &mut String,
 ) -> Result<(), AllocError>
-    ensures { OnOk result (Tells told.old told.new (if_some edges.now (codes "  validation for:" ∷ outputs_of declared.now edges.now))) }
+    ensures { OnOk result (Tells told.old told.new (validated_lines declared.now edges.now)) }
 {
     if edges.is_empty() {
         return Ok(());
@@ -82,7 +81,7 @@ fn push_validations(
     paths: &[PathId],
     told: &mut String,
 ) -> Result<(), AllocError>
-    ensures { OnOk result (Tells told.old told.new (if_some paths.now (codes "  validations:" ∷ marked declared.now (codes "    ") paths.now))) }
+    ensures { OnOk result (Tells told.old told.new (validation_lines declared.now paths.now)) }
 {
     if paths.is_empty() {
         return Ok(());
@@ -137,7 +136,7 @@ fn push_if_validated(
     edges: &mut Vec<EdgeId>,
 ) -> Result<(), AllocError>
     requires { edge < length declared.now.graph.manifest.lines }
-    ensures { OnOk result (edges.new.items ≡ edges.old.items ++ filter (λ e. has_number ((links_of declared.now.graph).validations e) path) (edge ∷ [])) }
+    ensures { OnOk result (edges.new.items ≡ edges.old.items ++ validating declared.now path (edge ∷ [])) }
 {
     if declared.graph.validations(edge).contains(&path) {
         edges.push(edge)?;

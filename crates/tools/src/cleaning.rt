@@ -1,12 +1,11 @@
 //! `-t clean`: what is removed.
 
-ghost use Rattle.std.specs.Prelude.{◌≡◌, ◌≢◌, ◌↔◌, ◌<◌, ◌^◌, ℕ, List, [], IfOk, IfSome, IsTrue, OnOk, map, true};
+ghost use Rattle.std.specs.Prelude.{◌≡◌, ◌≢◌, ◌↔◌, ◌<◌, ◌^◌, [], IfOk, IsTrue, OnOk, map};
 ghost use Rattle.std.specs.Map.Iter.{deref};
 ghost use Rattle.model.specs.Graph.{has};
-ghost use Rattle.paths.specs.Told.{texts_at};
 ghost use Rattle.tools.specs.Clean.{AddsJust, AreCleaned, IsAnyRule, IsCleanedOutput, IsCleanedRule, IsCleanedTarget, IsFree, IsOtherAt, IsOwnFileOf, LacksJust};
-ghost use Rattle.tools.specs.Clean.{MayClean, MayCleanOfRule, MayCleanPath};
-ghost use Rattle.tools.specs.Moves.{RemovesOf, RemovesOne};
+ghost use Rattle.tools.specs.Clean.{IsPathOf, MayClean, MayCleanOfRule, MayCleanPath};
+ghost use Rattle.tools.specs.Moves.{RemovesAmong, RemovesOf, RemovesOne};
 
 use crate::access::{is_phony_at, outputs_at, path_at, text_at};
 use crate::declared::Declared;
@@ -295,7 +294,7 @@ fn add_outputs(
     outputs: &[PathId],
     paths: &mut Paths,
 ) -> Result<(), AllocError>
-    ensures { OnOk result (AddsJust paths.old paths.new (λ text. (text ≢ []) × (has (texts_at declared.now.graph.manifest.paths outputs.now) text ≡ true))) }
+    ensures { OnOk result (AddsJust paths.old paths.new (λ text. IsPathOf declared.now outputs.now text)) }
 {
     for output in outputs {
         add_text(alloc, text_at(&declared.graph, *output), paths)?;
@@ -354,7 +353,7 @@ fn remove_some<S: Site>(
     only_count: bool,
     cleaned: &mut Cleaned,
 ) -> Result<(), Fault>
-    ensures { (paths : List (List ℕ)) → IfSome path.entry (λ one. has paths one.now ≡ true) → RemovesOf S.tells only_count paths (S.world site.old) (S.world site.new) }
+    ensures { RemovesAmong S.tells only_count path.entry (S.world site.old) (S.world site.new) }
 {
     match path {
         Some(path) => remove_there(alloc, site, path, only_count, cleaned),

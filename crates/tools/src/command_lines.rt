@@ -1,7 +1,7 @@
 //! `-t commands`: the commands that make targets.
 
-ghost use Rattle.std.specs.Prelude.{◌++◌, ◌∷◌, ℕ, List, [], IfOk, OnOk, string_bytes};
-ghost use Rattle.tools.specs.Answers.{AreMakers, AreMeant, AreMet, PrintsCommands, Tells, commands_of};
+ghost use Rattle.std.specs.Prelude.{◌∷◌, [], IfOk, OnOk, string_bytes};
+ghost use Rattle.tools.specs.Answers.{AreMakers, AreMeant, MeetsOne, PrintsCommands, Tells, commands_of};
 
 use crate::above::edges_above;
 use crate::declared::Declared;
@@ -73,7 +73,7 @@ fn meet(
     met: &mut Vec<bool>,
     edges: &mut Vec<EdgeId>,
 ) -> Result<(), AllocError>
-    ensures { OnOk result ((paths : List ℕ) → AreMet graph.now paths met.old.items edges.old.items → AreMet graph.now (paths ++ path ∷ []) met.new.items edges.new.items) }
+    ensures { OnOk result (MeetsOne graph.now path met.old.items edges.old.items met.new.items edges.new.items) }
 {
     let Some(edge) = graph.maker(path) else {
         return Ok(());

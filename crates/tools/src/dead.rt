@@ -1,13 +1,8 @@
 //! `-t cleandead`: what a build made once and no line names any more.
 
-ghost use Rattle.std.specs.Prelude.{◌≡◌, IfOk, OnOk, map, slice_get, Some, true};
+ghost use Rattle.std.specs.Prelude.{IfOk, OnOk, map};
 ghost use Rattle.std.specs.Map.Iter.{deref};
-ghost use Rattle.model.specs.Graph.{has};
-ghost use Rattle.log_text.specs.Keeping.{OfKept};
-ghost use Rattle.log_text.specs.Kept.{texts_at};
-ghost use Rattle.log_text.specs.DepsLog.{Keeps};
-ghost use Rattle.tools.specs.Clean.{AddsJust};
-ghost use Rattle.tools.specs.Dead.{AddsEither, AddsLeft, Buries, BuriesMade, IsListedAt, ListsAll};
+ghost use Rattle.tools.specs.Dead.{AddsEither, AddsLeftOf, AddsLeftOne, AddsListed, AddsNumber, AddsRecord, Buries, BuriesMade, ListsAll};
 
 use crate::declared::Declared;
 use paths::Paths;
@@ -59,7 +54,7 @@ fn add_all(
     outputs: &[&str],
     found: &mut Dead,
 ) -> Result<(), AllocError>
-    ensures { OnOk result (AddsLeft declared.now.graph.manifest listed.now (λ text. has (map deref outputs.now) text ≡ true) found.old found.new) }
+    ensures { OnOk result (AddsLeftOf declared.now listed.now (map deref outputs.now) found.old found.new) }
 {
     for output in outputs {
         add(alloc, declared, listed, output, found)?;
@@ -75,7 +70,7 @@ fn add(
     output: &str,
     found: &mut Dead,
 ) -> Result<(), AllocError>
-    ensures { OnOk result (AddsLeft declared.now.graph.manifest listed.now (λ text. text ≡ output.now) found.old found.new) }
+    ensures { OnOk result (AddsLeftOne declared.now listed.now output.now found.old found.new) }
 {
     match declared.graph.manifest.number_of(output) {
         Some(_) => Ok(()),
@@ -114,7 +109,7 @@ fn add_record(
     number: usize,
     listed: &mut Paths,
 ) -> Result<(), AllocError>
-    ensures { OnOk result (OfKept Keeps records.now.logs.deps_log.log (λ all. AddsJust listed.old listed.new (IsListedAt all number))) }
+    ensures { OnOk result (AddsRecord records.now number listed.old listed.new) }
 {
     let Some(deps) = records.logs.deps_log.log().deps_at(number) else {
         return Ok(());
@@ -128,7 +123,7 @@ fn add_listed(
     numbers: &[usize],
     listed: &mut Paths,
 ) -> Result<(), AllocError>
-    ensures { OnOk result (AddsJust listed.old listed.new (λ text. has (texts_at records.now.logs.deps_log.log.outputs numbers.now) text ≡ true)) }
+    ensures { OnOk result (AddsListed records.now numbers.now listed.old listed.new) }
 {
     for number in numbers {
         add_number(alloc, records, *number, listed)?;
@@ -143,7 +138,7 @@ fn add_number(
     number: usize,
     listed: &mut Paths,
 ) -> Result<(), AllocError>
-    ensures { OnOk result (AddsJust listed.old listed.new (λ text. Some text ≡ slice_get records.now.logs.deps_log.log.outputs number)) }
+    ensures { OnOk result (AddsNumber records.now number listed.old listed.new) }
 {
     let Some(path) = records.deps_path(number) else {
         return Ok(());

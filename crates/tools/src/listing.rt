@@ -3,10 +3,9 @@
 ghost use Rattle.std.specs.Prelude.{◌≡◌, ◌<◌, ◌+◌, ◌++◌, ◌∷◌, [], IfOk, None, OnOk, filter, flat_map, is_none, length, map, string_bytes};
 ghost use Rattle.std.specs.Map.Iter.{deref};
 ghost use Rattle.std.specs.Option.{option_map};
-ghost use Rattle.graph.specs.Links.{links_of};
 ghost use Rattle.paths.specs.Told.{texts_at};
-ghost use Rattle.tools.specs.Answers.{PrintsEach, PrintsOfRule, PrintsTargets, Tells, all_sources, all_targets, levels, lines, outputs_of_rule, sources_of, targets_of, tree};
-ghost use Rattle.tools.specs.Showing.{IsGoneOn, Opens, Shows, head_line, indentation, unless_same, unrepeated};
+ghost use Rattle.tools.specs.Answers.{AddsTexts, PrintsEach, PrintsOfRule, PrintsTargets, Tells, all_sources, all_targets, levels, lines, outputs_of_rule, sources_of, targets_of, tree};
+ghost use Rattle.tools.specs.Showing.{IsGoneOn, Opens, Shows, indentation, path_line, unless_same, unrepeated};
 ghost use Rattle.tools.specs.declared.listing.Wanted.TheVariants as wanted;
 
 use crate::access::{inputs_at, outputs_at, text_at};
@@ -134,7 +133,7 @@ fn push_if_of_rule<'a>(
     rule: &str,
     paths: &mut Vec<&'a str>,
 ) -> Result<(), AllocError>
-    ensures { OnOk result (map deref paths.new.items ≡ map deref paths.old.items ++ outputs_of_rule declared.now rule.now edge) }
+    ensures { OnOk result (AddsTexts paths.old.items paths.new.items (outputs_of_rule declared.now rule.now edge)) }
 {
     if declared.rule(edge) == rule {
         return push_texts(&declared.graph, outputs_at(&declared.graph, edge), paths);
@@ -147,7 +146,7 @@ fn push_texts<'a>(
     numbers: &[PathId],
     paths: &mut Vec<&'a str>,
 ) -> Result<(), AllocError>
-    ensures { OnOk result (map deref paths.new.items ≡ map deref paths.old.items ++ texts_at graph.now.manifest.paths numbers.now) }
+    ensures { OnOk result (AddsTexts paths.old.items paths.new.items (texts_at graph.now.manifest.paths numbers.now)) }
 {
     for number in numbers {
         paths.push(text_at(graph, *number))?;
@@ -321,7 +320,7 @@ fn push_path(
     level: usize,
     told: &mut String,
 ) -> Result<(), AllocError>
-    ensures { OnOk result (Tells told.old told.new (head_line declared.now level path ((links_of declared.now.graph).maker path) ∷ [])) }
+    ensures { OnOk result (Tells told.old told.new (path_line declared.now level path ∷ [])) }
 {
     push_indent(told, level)?;
     let text = text_at(&declared.graph, path);

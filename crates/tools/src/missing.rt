@@ -1,10 +1,9 @@
 //! `-t missingdeps`: recorded inputs that are made, and whose maker is not above.
 
-ghost use Rattle.std.specs.Prelude.{◌≡◌, ◌++◌, ◌∷◌, [], IfOk, IsSome, OnOk, false, filter, flat_map, get_or, length, slice_get};
-ghost use Rattle.log_text.specs.Kept.{if_some, texts_at};
+ghost use Rattle.std.specs.Prelude.{◌≡◌, ◌++◌, ◌∷◌, [], IfOk, IsSome, OnOk, false, filter, flat_map, get_or, length};
 ghost use Rattle.graph.specs.Links.{links_of};
 ghost use Rattle.tools.specs.Above.{AreNamedBy, AreNamedMade, MarksAlso, marked_outputs};
-ghost use Rattle.tools.specs.Missing.{AddsDeps, AddsMissing, AreNeeded, IsApart, IsMadeFor, IsUnmarked, Misses};
+ghost use Rattle.tools.specs.Missing.{AddsApart, AddsDeps, AddsMade, AddsMissingOf, AreNeeded, IsUnmarked, MissesIn, told_text, told_texts};
 
 use crate::above::edges_above;
 use crate::access::{inputs_at, outputs_at};
@@ -39,7 +38,7 @@ pub fn missing_deps(
     paths: &[PathId],
     file: &str,
 ) -> Result<Missed, AllocError>
-    ensures { IfOk result (λ found. Misses logged.entry.declared.now.graph logged.entry.records.now file.now paths.now found.missing.items) }
+    ensures { IfOk result (λ found. MissesIn logged.entry file.now paths.now found.missing.items) }
 {
     let mut found = Missed {
         missing: Vec::new(alloc),
@@ -151,7 +150,7 @@ fn add_missing(
     missing: &mut Vec<MissingDep>,
 ) -> Result<(), AllocError>
     requires { IsSome ((links_of logged.declared.now.graph).maker output) }
-    ensures { OnOk result (AddsMissing logged.entry.declared.now.graph logged.entry.records.now file.now output missing.old.items missing.new.items) }
+    ensures { OnOk result (AddsMissingOf logged.entry file.now output missing.old.items missing.new.items) }
 {
     let Some(deps) = logged.records.deps(output) else {
         return Ok(());
@@ -168,7 +167,7 @@ fn add_apart(
     file: &str,
     missing: &mut Vec<MissingDep>,
 ) -> Result<(), AllocError>
-    ensures { OnOk result (AddsDeps missing.old.items missing.new.items (IsApart logged.entry.declared.now.graph output (texts_at logged.entry.records.now.logs.deps_log.log.outputs numbers.now) file.now)) }
+    ensures { OnOk result (AddsApart logged.entry file.now output (told_texts logged.entry numbers.now) missing.old.items missing.new.items) }
 {
     let made = made_inputs(alloc, logged, output, numbers, file)?;
     if made.is_empty() {
@@ -214,7 +213,7 @@ fn made_inputs(
     numbers: &[usize],
     file: &str,
 ) -> Result<Vec<MissingDep>, AllocError>
-    ensures { IfOk result (λ made. AddsDeps [] made.items (IsMadeFor logged.entry.declared.now.graph output (texts_at logged.entry.records.now.logs.deps_log.log.outputs numbers.now) file.now)) }
+    ensures { IfOk result (λ made. AddsMade logged.entry file.now output (told_texts logged.entry numbers.now) [] made.items) }
 {
     let mut made = Vec::new(alloc);
     for number in numbers {
@@ -230,7 +229,7 @@ fn push_made(
     file: &str,
     made: &mut Vec<MissingDep>,
 ) -> Result<(), AllocError>
-    ensures { OnOk result (AddsDeps made.old.items made.new.items (IsMadeFor logged.entry.declared.now.graph output (if_some (slice_get logged.entry.records.now.logs.deps_log.log.outputs number)) file.now)) }
+    ensures { OnOk result (AddsMade logged.entry file.now output (told_text logged.entry number) made.old.items made.new.items) }
 {
     let Some(path) = logged.records.deps_path(number) else {
         return Ok(());

@@ -1,9 +1,8 @@
 //! `-t inputs`: all that targets need.
 
-ghost use Rattle.std.specs.Prelude.{◌≡◌, ◌++◌, IfOk, OnOk, flat_map, map, string_bytes};
+ghost use Rattle.std.specs.Prelude.{◌≡◌, IfOk, OnOk, flat_map, map, string_bytes};
 ghost use Rattle.std.specs.Map.Iter.{deref};
-ghost use Rattle.lexer.specs.Quote.{quoted};
-ghost use Rattle.tools.specs.Answers.{PrintsInputs, path_text, quoted_inputs};
+ghost use Rattle.tools.specs.Answers.{AddsWords, PrintsInputs, quoted_inputs, quoted_paths};
 
 use crate::above::edges_above;
 use crate::access::{inputs_at, is_phony_at, text_at};
@@ -46,7 +45,7 @@ fn push_inputs(
     edge: EdgeId,
     words: &mut Vec<String>,
 ) -> Result<(), AllocError>
-    ensures { OnOk result (map string_bytes words.new.items ≡ map string_bytes words.old.items ++ quoted_inputs declared.now edge) }
+    ensures { OnOk result (AddsWords words.old.items words.new.items (quoted_inputs declared.now edge)) }
 {
     if is_phony_at(&declared.graph, edge) {
         return Ok(());
@@ -71,7 +70,7 @@ fn push_quoted(
     paths: &[PathId],
     texts: &mut Vec<String>,
 ) -> Result<(), AllocError>
-    ensures { OnOk result (map string_bytes texts.new.items ≡ map string_bytes texts.old.items ++ map (λ p. quoted (path_text declared.now p)) paths.now) }
+    ensures { OnOk result (AddsWords texts.old.items texts.new.items (quoted_paths declared.now paths.now)) }
 {
     for path in paths {
         texts.push(quote(alloc, text_at(&declared.graph, *path))?)?;

@@ -1,5 +1,5 @@
 -- What a call did at its paths.
-use Rattle.std.specs.Prelude.{ℕ, ◌&&◌, ◌||◌, not, List, [], ◌∷◌, Option, Some, None, option_map, option_and_then, codes, if◌then◌else◌}
+use Rattle.std.specs.Prelude.{ℕ, ◌&&◌, ◌||◌, not, List, [], ◌∷◌, ◌++◌, Option, Some, None, option_map, option_and_then, codes, if◌then◌else◌}
 use Rattle.std.specs.Str.{is_utf8}
 use Rattle.trace.specs.declared.calls.Row.{Row}
 use Rattle.trace.specs.declared.calls.Does.{Does}
@@ -106,6 +106,14 @@ at_second (Some deed) path real = told deed path real ∷ []
 
 abbrev pub opened : List ℕ → List ℕ → Option (List ℕ) → List Fact
 opened arguments path real = told (deeds arguments).0 path real ∷ at_second (deeds arguments).1 path real
+
+-- behind other facts, that a file was given another path
+abbrev pub with_moved : List Fact → Paths → List Fact
+with_moved facts paths = ((facts ++ fact Read paths.path ∷ []) ++ fact Removed paths.path ∷ []) ++ fact Wrote paths.other ∷ []
+
+-- and that one was given one more path
+abbrev pub with_linked : List Fact → Paths → List Fact
+with_linked facts paths = (facts ++ fact Read paths.path ∷ []) ++ told Wrote paths.other (Some paths.path) ∷ []
 
 -- what a call did that ended well
 abbrev pub done_by : Does → Seen → Paths → List Fact

@@ -2,7 +2,7 @@
 
 ghost use Rattle.std.specs.Prelude.{◌≡◌, ◌++◌, ◌∷◌, [], IfOk, OnOk, option_map};
 ghost use Rattle.trace.specs.Arguments.{descriptor};
-ghost use Rattle.trace.specs.Facts.{arguments_for, call_seen, deeds, done, fact, facts_of, looked, opened, paths_of, refused, removed, told};
+ghost use Rattle.trace.specs.Facts.{arguments_for, call_seen, deeds, done, fact, facts_of, looked, opened, paths_of, refused, removed, told, with_linked, with_moved};
 
 use crate::arguments::{behind, descriptor, first_argument, is_rooted, path_at};
 use crate::calls::Does;
@@ -141,7 +141,7 @@ fn removed(arguments: &[u8]) -> Deed
 
 /// Adds that a file was given another path.
 fn push_moved(alloc: Global, paths: &Paths, facts: &mut Items<Fact>) -> Result<(), AllocError>
-    ensures { OnOk result (facts.new ≡ ((facts.old ++ fact Deed.Read paths.now.path ∷ []) ++ fact Deed.Removed paths.now.path ∷ []) ++ fact Deed.Wrote paths.now.other ∷ []) }
+    ensures { OnOk result (facts.new ≡ with_moved facts.old paths.now) }
 {
     push(alloc, facts, Deed::Read, paths.path.as_slice())?;
     push(alloc, facts, Deed::Removed, paths.path.as_slice())?;
@@ -150,7 +150,7 @@ fn push_moved(alloc: Global, paths: &Paths, facts: &mut Items<Fact>) -> Result<(
 
 /// Adds that a file was given one more path.
 fn push_linked(alloc: Global, paths: &Paths, facts: &mut Items<Fact>) -> Result<(), AllocError>
-    ensures { OnOk result (facts.new ≡ (facts.old ++ fact Deed.Read paths.now.path ∷ []) ++ told Deed.Wrote paths.now.other (Some paths.now.path) ∷ []) }
+    ensures { OnOk result (facts.new ≡ with_linked facts.old paths.now) }
 {
     push(alloc, facts, Deed::Read, paths.path.as_slice())?;
     let path = Bytes::from_slice(alloc, paths.other.as_slice())?;

@@ -111,7 +111,7 @@ module _ (tells : Bool) (course : Course) (edges : List Edge) (phases : List Pha
 
 -- ---- what is found where the build stands
 
-module _ (tells : Bool) (tick : List ℕ) (course : Course) (edges : List Edge) (phases : List Phase) (graph : Graph) (cone : Cone) (state : State) (now : World) (stands : StandsAt tells tick course edges phases graph cone state now) where
+module _ (tells : Bool) (course : Course) (edges : List Edge) (phases : List Phase) (graph : Graph) (state : State) (now : World) (stands : StandsAt tells course edges phases graph state now) where
   abbrev here : Course
   here = grown_course course edges phases
 
@@ -128,10 +128,10 @@ module _ (tells : Bool) (tick : List ℕ) (course : Course) (edges : List Edge) 
   }
 
   -- they are the steps of a build under way
-  pub under : IsUnderWay graph state.records cone state.plan course.store (task_over course edges).targets steps
+  pub under : IsUnderWay graph state.records state.cone state.plan course.store (task_over course edges).targets steps
   under =
-      under_way graph state.records cone state.plan course.store known (task_over course edges).targets (task_over course edges) same_edges (ap (λ (es : List Edge). recorded_inputs course.store es) same_edges) refl steps stands.on.planned stands.on.taken
-      (subst (λ (es : List Edge). IsConeOf es (recorded_inputs course.store es) (task_over course edges).targets cone.order.items cone.marks.items) same_edges stands.listed) stands.numbers
+      under_way graph state.records state.cone state.plan course.store known (task_over course edges).targets (task_over course edges) same_edges (ap (λ (es : List Edge). recorded_inputs course.store es) same_edges) refl steps stands.on.planned stands.on.taken
+      (subst (λ (es : List Edge). IsConeOf es (recorded_inputs course.store es) (task_over course edges).targets state.cone.order.items state.cone.marks.items) same_edges stands.on.cone.listed) stands.on.cone.numbers
 
   -- ---- where nothing was started, whatever the program's own files are named like
 

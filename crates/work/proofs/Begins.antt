@@ -24,7 +24,7 @@ use Rattle.work.specs.Starting.{IsBegun}
 use Rattle.work.proofs.Onward.{said_next}
 use Rattle.work.proofs.Keeping.{stale_is_command, looks_carried, on_looks, on_hand, on_log, log_carried, build_log_writes, cut_free, cut_met}
 
-module _ (tells : Bool) (course : Course) (graph : Graph) (tick : List ℕ) (suits : Suits course tick graph) where
+module _ (tells : Bool) (course : Course) (graph : Graph) (suits : Suits course graph) where
   pub declared_once : IsMadeOnce (declared_by graph).edges
   declared_once = subst (λ (b : BuildGraph). IsMadeOnce b.edges) suits.same suits.once
 
@@ -72,7 +72,7 @@ module _ (tells : Bool) (course : Course) (graph : Graph) (tick : List ℕ) (sui
           → ((B : Behaviour) (format : LogFormat) (own : OwnFiles) (steps : List Done) (entry : Store) (first : World)
           → IsLogging tells B format own (declared_by graph).edges steps (Some (suc e)) entry first mid state.records.logs
           → IsLogging tells B format own (declared_by graph).edges steps (Some (suc e)) entry first new records.logs × NoneInForce tells format own (declared_by graph).edges (suc e) first new)
-          → IsBegun tells course graph (suc e) (record { plan = state.plan; looks = state.looks; records = records; display = display; due = state.due; starts = state.starts; failed = state.failed }) new
+          → IsBegun tells course graph (suc e) (record { alloc = state.alloc; cone = state.cone; plan = state.plan; looks = state.looks; records = records; display = display; tick = state.tick; due = state.due; starts = state.starts; failed = state.failed }) new
       begun_now records display same places deps_places begun =
           let told = begun course.behaviour course.format course.own on.steps course.store course.entry declared_logging in
           let logging = subst (λ (edges : List Edge). IsLogging tells course.behaviour course.format course.own edges on.steps (Some (suc e)) course.store course.entry new records.logs) (sym same_edges) told.0 in
@@ -92,6 +92,8 @@ module _ (tells : Bool) (course : Course) (graph : Graph) (tick : List ℕ) (sui
               started = after.started;
               removed = after.removed;
               room = record { looks = on.room.looks; starts = on.room.starts };
+              cone = on.cone;
+              ticking = on.ticking;
               noted = on.noted;
             };
             next = said.lawful;

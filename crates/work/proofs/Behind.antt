@@ -8,7 +8,6 @@ use Rattle.model.specs.Schedule.{Task, Step as Done, started_in}
 use Rattle.model.specs.SingleBuild.{asked_with}
 use Rattle.theory.proofs.Lists.{same_rest}
 use Rattle.theory.specs.Ledger.{IsRefused}
-use Rattle.graph.specs.declared.cone.Cone.{Cone}
 use Rattle.graph.specs.declared.graph.Graph.{Graph}
 use Rattle.work.specs.declared.cut.Cut.{Cut}
 use Rattle.work.specs.declared.state.State.{State}
@@ -25,11 +24,11 @@ use Rattle.work.specs.Standing.{grown_course, ended_course, task_over, StandsAt,
 use Rattle.work.proofs.Asking.{had_asked_on, whole}
 use Rattle.work.proofs.Halting.{still_unstarted}
 
-module _ (tells : Bool) (tick : List ℕ) (course : Course) (edges : List Edge) (graph : Graph) (cone : Cone) (state : State) (now : World) (refusal : Refusal) (refused : IsRefusedAt tells tick course edges graph cone state now refusal) where
+module _ (tells : Bool) (course : Course) (edges : List Edge) (graph : Graph) (state : State) (now : World) (refusal : Refusal) (refused : IsRefusedAt tells course edges graph state now refusal) where
   abbrev phases : List Phase
   phases = refused.phases
 
-  abbrev stands : StandsAt tells tick course edges phases graph cone state now
+  abbrev stands : StandsAt tells course edges phases graph state now
   stands = refused.stopped.stands
 
   abbrev task : Task
@@ -78,7 +77,7 @@ module _ (tells : Bool) (tick : List ℕ) (course : Course) (edges : List Edge) 
   cause : IsRefused stands.on.carried.phased
   cause = cause_of refusal refused.stopped.cause
 
-  pub ends_suits : Suits ends tick graph
+  pub ends_suits : Suits ends graph
   ends_suits = record {
     same = stands.suits.same;
     recorded = stands.suits.recorded;
@@ -87,16 +86,13 @@ module _ (tells : Bool) (tick : List ℕ) (course : Course) (edges : List Edge) 
     depfiles = stands.suits.depfiles;
     log_owned = stands.suits.log_owned;
     deps_owned = stands.suits.deps_owned;
-    owned = stands.suits.owned;
-    no_build_log = stands.suits.no_build_log;
-    no_deps_log = stands.suits.no_deps_log;
     idle = stands.suits.idle;
   }
 
   pub ends_on : IsOn tells ends graph None state now
   ends_on = on_refused tells here graph state now stands.on cause
 
-  pub ends_going : IsGoing tells false tick graph state now
+  pub ends_going : IsGoing tells false graph state now
   ends_going = record { course = ends; suits = ends_suits; is = refl; on = ends_on }
 
   module _ (new : World) (grows : ComesAfter tells now new) where

@@ -142,7 +142,7 @@ abbrev pub went_well : (ok : Bool) (told : Told) → ended_well ok told ≡ true
 went_well true told went = refl
 went_well false told went = absurd (false≢true went)
 
-module _ (tells : Bool) (course : Course) (tick : List ℕ) (graph : Graph) (suits : Suits course tick graph) (one : OneAnswer) (state : State) (now mid new : World) (i : ℕ) (ok : Bool) (on : IsOn tells course graph None state now)
+module _ (tells : Bool) (course : Course) (graph : Graph) (suits : Suits course graph) (one : OneAnswer) (state : State) (now mid new : World) (i : ℕ) (ok : Bool) (on : IsOn tells course graph None state now)
     (finish : Finishes tells i ok now mid) (looks : OnlyLooks tells mid new) where
   abbrev act : Act
   act = (edge_at (edges_of course) i).act

@@ -21,7 +21,6 @@ use Rattle.paths.specs.Commands.{no_action}
 use Rattle.paths.specs.Lists.{line_at}
 use Rattle.paths.specs.Told.{text_at, texts_at, edge_of}
 use Rattle.graph.specs.declared.back.Before.{Before}
-use Rattle.graph.specs.declared.cone.Cone.{Cone}
 use Rattle.graph.specs.declared.graph.Graph.{Graph}
 use Rattle.graph.specs.Back.{Undoes, MayBeTakenBack}
 use Rattle.graph.specs.Extended.{HasLoaded, FilesStand, dyndep_at}
@@ -107,7 +106,7 @@ same_graph b pools defaults builddir one two three =
 
 -- ---- the file joins
 
-module _ {asked : Asked} {store : Store} {graph : Graph} {cone : Cone} {state : State} {file : ℕ} (may : MayJoin asked store graph cone state file) where
+module _ {asked : Asked} {store : Store} {graph : Graph} {state : State} {file : ℕ} (may : MayJoin asked store graph state file) where
   abbrev path : List ℕ
   path = text_at graph.manifest.paths file
 
@@ -199,13 +198,13 @@ module _ {asked : Asked} {store : Store} {graph : Graph} {cone : Cone} {state : 
       pub longer : length graph.manifest.paths ≤ length grown.manifest.paths
       longer = let sum = ap length paths_are ∙ length-append graph.manifest.paths (has_it.added ++ joined.grown.more) in omega (arith, sum)
 
-      pub targets_within : All (λ p. p < length grown.manifest.paths) cone.targets.items
+      pub targets_within : All (λ p. p < length grown.manifest.paths) state.cone.targets.items
       targets_within k d lt = let was = may.targets k d lt in omega (arith, was, longer)
 
-      pub targets_are : targets_of (declared_graph asked_now) asked_now.targets ≡ texts_at grown.manifest.paths cone.targets.items
+      pub targets_are : targets_of (declared_graph asked_now) asked_now.targets ≡ texts_at grown.manifest.paths state.cone.targets.items
       targets_are =
           sym may.numbers
-          ∙ sym (ap (λ (l : List (List ℕ)). texts_at l cone.targets.items) paths_are ∙ texts_front graph.manifest.paths (has_it.added ++ joined.grown.more) cone.targets.items may.targets)
+          ∙ sym (ap (λ (l : List (List ℕ)). texts_at l state.cone.targets.items) paths_are ∙ texts_front graph.manifest.paths (has_it.added ++ joined.grown.more) state.cone.targets.items may.targets)
 
       -- edges need one another in a circle
       pub circle_by : (refusal : Refusal) → IsCircle asked_now store refusal → IsUnjoined asked store path additions refusal

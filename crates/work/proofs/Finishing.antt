@@ -30,6 +30,7 @@ use Rattle.theory.proofs.Ledger.{SaysAtEnd, ReadAtEnd, command_of, running_of, c
 use Rattle.theory.proofs.TakenIn.{ended_here, depfile_since}
 use Rattle.plan.specs.Flags as flags
 use Rattle.paths.specs.Told.{text_at}
+use Rattle.graph.specs.declared.cone.Cone.{Cone}
 use Rattle.graph.specs.declared.graph.Graph.{Graph}
 use Rattle.graph.specs.Links.{links_of}
 use Rattle.graph.specs.Linked.{StandFor}
@@ -47,7 +48,7 @@ use Rattle.records.specs.Logging.{NoneInForce}
 use Rattle.records.specs.Laws.{LogStays, NoneWhileRunning}
 use Rattle.work.specs.declared.reported.Told.{Told}
 use Rattle.work.specs.declared.state.State.{State}
-use Rattle.work.specs.Course.{Course, goes_on, Suits, IsSince, edges_of, is_quiet, IsSeenStill, AreAnew, AreSeenBefore, AreTold, HasRoom, IsOn}
+use Rattle.work.specs.Course.{Course, IsOwnTick, HasCone, goes_on, Suits, IsSince, edges_of, is_quiet, IsSeenStill, AreAnew, AreSeenBefore, AreTold, HasRoom, IsOn}
 use Rattle.work.specs.Going.{MayTakeIn, IsCut, IsInHand, HasEnded, failed_after}
 use Rattle.work.specs.Removing.{DepfilesStay, AreRemoved}
 use Rattle.work.specs.Restat.{is_same_look, IsFlagged}
@@ -180,7 +181,7 @@ module _ (tells : Bool) (course : Course) (graph : Graph) where
 
 -- ---- a command is taken in
 
-module _ (tells : Bool) (course : Course) (tick : List ℕ) (graph : Graph) (suits : Suits course tick graph) (state : State) (now mid new : World) (e : ℕ) (ok : Bool) (on : IsOn tells course graph None state now)
+module _ (tells : Bool) (course : Course) (graph : Graph) (suits : Suits course graph) (state : State) (now mid new : World) (e : ℕ) (ok : Bool) (on : IsOn tells course graph None state now)
     (turn : MayTakeIn course on.steps) (finish : Finishes tells (suc e) ok now mid) (looks : OnlyLooks tells mid new) where
   abbrev task : Task
   task = task_of course.asked course.store
@@ -271,14 +272,14 @@ module _ (tells : Bool) (course : Course) (tick : List ℕ) (graph : Graph) (sui
         by_end : (b : Bool) → ended_well ok told ≡ b → Carried tells course graph (After b) (in_hand_after (suc e) b) new
         by_end true went =
             carried_well tells course.behaviour course.format course.own course.asked course.store course.entry course.phases (goes_on course) on.steps now mid new (suc e) ok turn.lawful finish looks on.carried (went_well ok told went) (
-              subst (λ (w : Bool). SaysAtEnd tells course.behaviour course.format course.own course.asked course.store course.entry (suc e) w new) went (said_by tells course tick graph suits one state now mid new (suc e) ok on finish looks told read),
-              subst (λ (w : Bool). ReadAtEnd tells course.behaviour course.format course.own course.asked course.store course.entry (suc e) w new) went (read_by tells course tick graph suits one state now mid new (suc e) ok on finish looks told read),
+              subst (λ (w : Bool). SaysAtEnd tells course.behaviour course.format course.own course.asked course.store course.entry (suc e) w new) went (said_by tells course graph suits one state now mid new (suc e) ok on finish looks told read),
+              subst (λ (w : Bool). ReadAtEnd tells course.behaviour course.format course.own course.asked course.store course.entry (suc e) w new) went (read_by tells course graph suits one state now mid new (suc e) ok on finish looks told read),
             )
         by_end false failed =
             carried_failed tells course.behaviour course.format course.own course.asked course.store course.entry course.phases (goes_on course) on.steps now mid new (suc e) ok turn.lawful finish looks on.carried
-            (λ none. unnamed_end tells course tick graph suits one state now mid new (suc e) ok on finish looks told read none failed) (
-              subst (λ (w : Bool). SaysAtEnd tells course.behaviour course.format course.own course.asked course.store course.entry (suc e) w new) failed (said_by tells course tick graph suits one state now mid new (suc e) ok on finish looks told read),
-              subst (λ (w : Bool). ReadAtEnd tells course.behaviour course.format course.own course.asked course.store course.entry (suc e) w new) failed (read_by tells course tick graph suits one state now mid new (suc e) ok on finish looks told read),
+            (λ none. unnamed_end tells course graph suits one state now mid new (suc e) ok on finish looks told read none failed) (
+              subst (λ (w : Bool). SaysAtEnd tells course.behaviour course.format course.own course.asked course.store course.entry (suc e) w new) failed (said_by tells course graph suits one state now mid new (suc e) ok on finish looks told read),
+              subst (λ (w : Bool). ReadAtEnd tells course.behaviour course.format course.own course.asked course.store course.entry (suc e) w new) failed (read_by tells course graph suits one state now mid new (suc e) ok on finish looks told read),
             )
 
     -- where noting it met a fault
@@ -329,7 +330,7 @@ module _ (tells : Bool) (course : Course) (tick : List ℕ) (graph : Graph) (sui
 
 -- ---- its end is noted
 
-module _ (tells : Bool) (course : Course) (tick : List ℕ) (graph : Graph) (suits : Suits course tick graph) (state : State) (now mid was new : World) (e : ℕ) (ok : Bool) (on : IsOn tells course graph None state now)
+module _ (tells : Bool) (course : Course) (graph : Graph) (suits : Suits course graph) (state : State) (now mid was new : World) (e : ℕ) (ok : Bool) (on : IsOn tells course graph None state now)
     (turn : MayTakeIn course on.steps) (finish : Finishes tells (suc e) ok now mid) (looks : OnlyLooks tells mid was) (one : OneAnswer) (told : Told)
     (read : WasRead tells (edge_at (edges_of course) (suc e)).act ok mid was told) (stand : StandFor (declared_by graph).edges graph.manifest.paths (links_of graph)) (after : State)
     (noted_so : HasEnded tells graph e (ended_well ok told) was new state after) where
@@ -349,14 +350,14 @@ module _ (tells : Bool) (course : Course) (tick : List ℕ) (graph : Graph) (sui
   read_new = was_read_before tells (edge_at (edges_of course) (suc e)).act ok mid was new told noted_so.looked.looks read
 
   carried_was : Carried tells course graph so_far (in_hand_after (suc e) is_well) was
-  carried_was = end_carried tells course tick graph suits state now mid was e ok on turn finish looks one told read
+  carried_was = end_carried tells course graph suits state now mid was e ok on turn finish looks one told read
 
   carried_new : Carried tells course graph so_far (in_hand_after (suc e) is_well) new
-  carried_new = end_carried tells course tick graph suits state now mid new e ok on turn finish looked one told read_new
+  carried_new = end_carried tells course graph suits state now mid new e ok on turn finish looked one told read_new
 
   -- paths that were quiet before it ended, over its end and what was looked at
   over_looks : (last : World) → OnlyLooks tells mid last → Quietly tells course graph on.steps now last
-  over_looks last since = end_quiet tells course tick graph suits state now last last e ok on turn (finishes_looks tells (suc e) ok now mid last finish since) (looks_none tells last)
+  over_looks last since = end_quiet tells course graph suits state now last last e ok on turn (finishes_looks tells (suc e) ok now mid last finish since) (looks_none tells last)
 
   over_end : Quietly tells course graph on.steps now new
   over_end = over_looks new looked
@@ -494,14 +495,14 @@ module _ (tells : Bool) (course : Course) (tick : List ℕ) (graph : Graph) (sui
   module _ (stays : LogStays) (none : NoneWhileRunning) (takes : TakesStep graph state.plan after.plan (Ended (suc e) is_well)) (noted : after.failed.items ≡ failed_after state.failed.items e is_well) where
     noted_logging : Logging tells course graph so_far (in_hand_after (suc e) is_well) new after.records.logs
     noted_logging = subst (λ (r : Records). Logging tells course graph so_far (in_hand_after (suc e) is_well) new r.logs) (sym {A = Records} noted_so.beside.records)
-        (logging_with tells course graph on.steps so_far None (in_hand_after (suc e) is_well) new state.records.logs carried_new (rest_logging tells course tick graph suits state now mid new e ok on turn finish looked stays))
+        (logging_with tells course graph on.steps so_far None (in_hand_after (suc e) is_well) new state.records.logs carried_new (rest_logging tells course graph suits state now mid new e ok on turn finish looked stays))
 
     abbrev on_ended : IsOn tells course graph (in_hand_after (suc e) is_well) after new
     on_ended = record {
       steps = so_far;
-      planned = end_planned tells course tick graph suits state now mid new e ok on turn finish looked is_well after.plan takes;
-      taken = end_tells tells course tick graph suits state now mid new e ok on turn finish looked is_well;
-      since = end_since tells course tick graph suits state now mid new e ok on turn finish looked is_well;
+      planned = end_planned tells course graph suits state now mid new e ok on turn finish looked is_well after.plan takes;
+      taken = end_tells tells course graph suits state now mid new e ok on turn finish looked is_well;
+      since = end_since tells course graph suits state now mid new e ok on turn finish looked is_well;
       carried = carried_new;
       logging = noted_logging;
       told = noted_told;
@@ -509,8 +510,10 @@ module _ (tells : Bool) (course : Course) (tick : List ℕ) (graph : Graph) (sui
       anew = noted_anew;
       before = noted_before;
       started = λ k runs. stamp_kept k (ran_before on.steps (suc e) (suc k) is_well runs);
-      removed = end_removed tells course tick graph suits state now mid new e ok on turn finish looked one told read_new;
+      removed = end_removed tells course graph suits state now mid new e ok on turn finish looked one told read_new;
       room = noted_room;
+      cone = subst (λ (k : Cone). HasCone course.asked course.store graph k) (sym {A = Cone} noted_so.beside.cone) on.cone;
+      ticking = subst (λ (t : List ℕ). IsOwnTick course.own t) (sym {A = List ℕ} noted_so.beside.tick) on.ticking;
       noted = ap (map suc) noted ∙ noted_after state.failed.items on.steps e is_well on.noted;
     }
 
@@ -524,8 +527,8 @@ module _ (tells : Bool) (course : Course) (tick : List ℕ) (graph : Graph) (sui
         well = well_ended on.steps (suc e) is_well went;
         started = stamp_kept e edge_here.running;
         ended = λ tell. (_, ended_here tells course.behaviour course.format course.own course.asked course.store course.entry course.phases (goes_on course) on.steps now mid new (suc e) ok finish looked on.carried tell (went_well ok told went));
-        none = none_in_force tells course tick graph suits state now mid new e ok on turn finish looked stays none;
-        told = has_told tells course tick graph suits one state now mid new (suc e) ok on finish looked told read_new went;
+        none = none_in_force tells course graph suits state now mid new e ok on turn finish looked stays none;
+        told = has_told tells course graph suits one state now mid new (suc e) ok on finish looked told read_new went;
       };
     }
 
@@ -539,10 +542,10 @@ not_failed failed e false same = absurd (longer_by_one failed e same)
     longer_by_one : (failed : List ℕ) (e : ℕ) → failed ≡ failed ++ e ∷ [] → ⊥
     longer_by_one failed e same = let more = length_push failed e in omega (arith, more, ap length same)
 
-pub ending_of : (tells : Bool) (course : Course) (tick : List ℕ) (graph : Graph) → Suits course tick graph → (state : State) (now mid new : World) (job e : ℕ) (ok : Bool) (told : Told) (act : Act) → job ≡ suc e
+pub ending_of : (tells : Bool) (course : Course) (graph : Graph) → Suits course graph → (state : State) (now mid new : World) (job e : ℕ) (ok : Bool) (told : Told) (act : Act) → job ≡ suc e
     → (on : IsOn tells course graph None state now) → MayTakeIn course on.steps → Finishes tells job ok now mid → OnlyLooks tells mid new
     → act ≡ (edge_at (declared_by graph).edges (suc e)).act → WasRead tells act ok mid new told → IsEnding tells course graph (suc e) ok told state new
-ending_of tells course tick graph suits state now mid new job e ok told act is on turn finish looks act_is read = record {
+ending_of tells course graph suits state now mid new job e ok told act is on turn finish looks act_is read = record {
   before = now;
   mid = mid;
   on = on;
@@ -552,7 +555,7 @@ ending_of tells course tick graph suits state now mid new job e ok told act is o
   read = subst (λ (a : Act). WasRead tells a ok mid new told) (act_is ∙ ap (λ (g : BuildGraph). (edge_at g.edges (suc e)).act) (sym suits.same)) read;
 }
 
-module _ (tells : Bool) (course : Course) (tick : List ℕ) (graph : Graph) (suits : Suits course tick graph) (state : State) (now : World) (e : ℕ) (ok well : Bool) (told : Told) (is : well ≡ ended_well ok told) (one : OneAnswer) (ending : IsEnding tells course graph (suc e) ok told state now) where
+module _ (tells : Bool) (course : Course) (graph : Graph) (suits : Suits course graph) (state : State) (now : World) (e : ℕ) (ok well : Bool) (told : Told) (is : well ≡ ended_well ok told) (one : OneAnswer) (ending : IsEnding tells course graph (suc e) ok told state now) where
   pub ending_stands : standing_at state.plan.standings.items e ≡ Running
   ending_stands =
       let runs = running_edge tells course graph None state ending.before ending.on (suc e) ending.finishes.ran in
@@ -566,13 +569,13 @@ module _ (tells : Bool) (course : Course) (tick : List ℕ) (graph : Graph) (sui
   -- where noting it met a fault
   pub ending_cut : (new : World) → OnlyLooks tells now new → (plan : Plan) → TakesStep graph state.plan plan (Ended (suc e) well) → IsCut tells course graph plan new
   ending_cut new looks plan takes =
-      end_cut tells course tick graph suits state ending.before ending.mid new e ok ending.on ending.may ending.finishes (looks_then tells ending.mid now new ending.looks looks) one told
+      end_cut tells course graph suits state ending.before ending.mid new e ok ending.on ending.may ending.finishes (looks_then tells ending.mid now new ending.looks looks) one told
       (was_read_before tells (edge_at (edges_of course) (suc e)).act ok ending.mid now new told looks ending.read) plan (subst (λ (b : Bool). TakesStep graph state.plan plan (Ended (suc e) b)) is takes)
 
   pub ending_taken : StandFor (declared_by graph).edges graph.manifest.paths (links_of graph) → (new : World) (after : State) → HasEnded tells graph e well now new state after → LogStays → NoneWhileRunning
       → TakesStep graph state.plan after.plan (Ended (suc e) well) → after.failed.items ≡ failed_after state.failed.items e well → IsTakenIn tells course graph (suc e) (get_or after.starts.items e 0) well told after new
   ending_taken stand new after noted_so stays none takes noted =
       subst (λ (b : Bool). IsTakenIn tells course graph (suc e) (get_or after.starts.items e 0) b told after new) (sym is)
-      (end_taken_in tells course tick graph suits state ending.before ending.mid now new e ok ending.on ending.may ending.finishes ending.looks one told ending.read stand after
+      (end_taken_in tells course graph suits state ending.before ending.mid now new e ok ending.on ending.may ending.finishes ending.looks one told ending.read stand after
       (subst (λ (b : Bool). HasEnded tells graph e b now new state after) is noted_so) stays none
       (subst (λ (b : Bool). TakesStep graph state.plan after.plan (Ended (suc e) b)) is takes) (subst (λ (b : Bool). after.failed.items ≡ failed_after state.failed.items e b) is noted))

@@ -1,12 +1,11 @@
 -- How a run of a graph ends behind a refusal.
-use Rattle.std.proofs.Common.{◌≡◌, ℕ, Bool, false, List, None, Err, refl, sym, subst}
+use Rattle.std.proofs.Common.{◌≡◌, Bool, false, List, None, Err, refl, sym, subst}
 use Rattle.model.specs.declared.fault.SiteFault.{SiteFault}
 use Rattle.model.specs.declared.graph.Edge.{Edge}
 use Rattle.model.specs.World.{World}
 use Rattle.model.specs.SingleBuild.{PassesNoFault}
 use Rattle.model.specs.SingleBuild as answer
 use Rattle.theory.specs.Seen.{IsSeen, Unrefused, StartsUnrefused}
-use Rattle.graph.specs.declared.cone.Cone.{Cone}
 use Rattle.graph.specs.declared.graph.Graph.{Graph}
 use Rattle.work.specs.declared.cut.Cut.{Cut}
 use Rattle.work.specs.declared.state.State.{State}
@@ -25,35 +24,35 @@ use Rattle.work.proofs.Behind.{ends, ends_suits, ends_on, ends_going, stopped_fi
 pub refusal_so : (s : Stop) (refusal : Refusal) (So : Refusal → Type 0) → s ≡ stop.Refused refusal → IfRefused s So → So refusal
 refusal_so s refusal So is so = subst (λ (x : Stop). IfRefused x So) is so
 
-module _ (tells : Bool) (tick : List ℕ) (graph : Graph) (state : State) (now : World) (s : Stop) (refusal : Refusal) (is : s ≡ stop.Refused refusal) where
+module _ (tells : Bool) (graph : Graph) (state : State) (now : World) (s : Stop) (refusal : Refusal) (is : s ≡ stop.Refused refusal) where
   -- the run that is refused there ends
-  pub refused_going : IfRefused s (λ r. (course : Course) × (grown : List Edge) × (cone : Cone) × IsRefusedAt tells tick course grown graph cone state now r) → IsGoing tells false tick graph state now
+  pub refused_going : IfRefused s (λ r. (course : Course) × (grown : List Edge) × IsRefusedAt tells course grown graph state now r) → IsGoing tells false graph state now
   refused_going at =
-      let here = refusal_so s refusal (λ r. (course : Course) × (grown : List Edge) × (cone : Cone) × IsRefusedAt tells tick course grown graph cone state now r) is at in
-      ends_going tells tick here.0 here.1 graph here.2 state now refusal here.3
+      let here = refusal_so s refusal (λ r. (course : Course) × (grown : List Edge) × IsRefusedAt tells course grown graph state now r) is at in
+      ends_going tells here.0 here.1 graph state now refusal here.2
 
-  here_of : (course : Course) (grown : List Edge) (cone : Cone) → HasHalted tells tick course grown graph cone state now s → IsRefusedAt tells tick course grown graph cone state now refusal
-  here_of course grown cone halted = subst (λ (x : Stop). HasHalted tells tick course grown graph cone state now x) is halted
+  here_of : (course : Course) (grown : List Edge) → HasHalted tells course grown graph state now s → IsRefusedAt tells course grown graph state now refusal
+  here_of course grown halted = subst (λ (x : Stop). HasHalted tells course grown graph state now x) is halted
 
   module _ (new : World) (grows : ComesAfter tells now new) where
     -- all that ran was taken in
     pub refused_finished : (after : State) → LooksUnlessMore tells graph now new state.looks after.looks
-        → ((course : Course) → Suits course tick graph → goes_on course ≡ false → IsOn tells course graph None state now → IsFinished tells course graph after new)
-        → (course : Course) (grown : List Edge) (cone : Cone) → HasHalted tells tick course grown graph cone state now s → HasStopped tells course grown new refusal
-    refused_finished after looked ran course grown cone halted =
-        let here = here_of course grown cone halted in
-        stopped_finished tells tick course grown graph cone state now refusal here new grows after looked
-        (ran (ends tells tick course grown graph cone state now refusal here) (ends_suits tells tick course grown graph cone state now refusal here) refl (ends_on tells tick course grown graph cone state now refusal here))
+        → ((course : Course) → Suits course graph → goes_on course ≡ false → IsOn tells course graph None state now → IsFinished tells course graph after new)
+        → (course : Course) (grown : List Edge) → HasHalted tells course grown graph state now s → HasStopped tells course grown new refusal
+    refused_finished after looked ran course grown halted =
+        let here = here_of course grown halted in
+        stopped_finished tells course grown graph state now refusal here new grows after looked
+        (ran (ends tells course grown graph state now refusal here) (ends_suits tells course grown graph state now refusal here) refl (ends_on tells course grown graph state now refusal here))
 
     -- a fault was met
     pub refused_cut : (cut : Cut) (fault : SiteFault) → fault ≡ fault_of cut → IsLeft new cut
-        → ((course : Course) → Suits course tick graph → goes_on course ≡ false → IsOn tells course graph None state now → HasRun tells course new (Err cut))
-        → (course : Course) (grown : List Edge) (cone : Cone) → HasHalted tells tick course grown graph cone state now s → WasCut tells course grown new fault
-    refused_cut cut fault same left ran course grown cone halted =
-        let here = here_of course grown cone halted in
+        → ((course : Course) → Suits course graph → goes_on course ≡ false → IsOn tells course graph None state now → HasRun tells course new (Err cut))
+        → (course : Course) (grown : List Edge) → HasHalted tells course grown graph state now s → WasCut tells course grown new fault
+    refused_cut cut fault same left ran course grown halted =
+        let here = here_of course grown halted in
         subst (λ (f : SiteFault). WasCut tells course grown new f) (sym {A = SiteFault} same)
-        (stopped_cut tells tick course grown graph cone state now refusal here new grows cut left
-        (ran (ends tells tick course grown graph cone state now refusal here) (ends_suits tells tick course grown graph cone state now refusal here) refl (ends_on tells tick course grown graph cone state now refusal here)))
+        (stopped_cut tells course grown graph state now refusal here new grows cut left
+        (ran (ends tells course grown graph state now refusal here) (ends_suits tells course grown graph state now refusal here) refl (ends_on tells course grown graph state now refusal here)))
 
 -- ---- what the site shows
 
@@ -76,14 +75,14 @@ running_still a b s refusal is so = (well s is so).unrefused.goes_on
 pub fault_stays : (a b : World) (s : Stop) (fault : SiteFault) → s ≡ stop.Fault fault → IsStopOf a b s → IsStopOf a b (stop.Fault fault)
 fault_stays a b s fault is so = subst (λ (x : Stop). IsStopOf a b x) is so
 
-pub fault_ended : (tells : Bool) (tick : List ℕ) (course : Course) (grown : List Edge) (graph : Graph) (cone : Cone) (state : State) (now : World) (s : Stop) (fault : SiteFault) → s ≡ stop.Fault fault → HasHalted tells tick course grown graph cone state now s
+pub fault_ended : (tells : Bool) (course : Course) (grown : List Edge) (graph : Graph) (state : State) (now : World) (s : Stop) (fault : SiteFault) → s ≡ stop.Fault fault → HasHalted tells course grown graph state now s
     → WasCut tells course grown now fault
-fault_ended tells tick course grown graph cone state now s fault is halted = subst (λ (x : Stop). HasHalted tells tick course grown graph cone state now x) is halted
+fault_ended tells course grown graph state now s fault is halted = subst (λ (x : Stop). HasHalted tells course grown graph state now x) is halted
 
 -- ---- where it was halted
 
 -- a refusal has its place
-pub refused_some : (tells : Bool) (tick : List ℕ) (course : Course) (grown : List Edge) (graph : Graph) (cone : Cone) (state : State) (now : World) (s : Stop) → HasHalted tells tick course grown graph cone state now s
-    → IfRefused s (λ refusal. (of : Course) × (edges : List Edge) × (at : Cone) × IsRefusedAt tells tick of edges graph at state now refusal)
-refused_some tells tick course grown graph cone state now (stop.Refused refusal) halted = (course, grown, cone, halted)
-refused_some tells tick course grown graph cone state now (stop.Fault fault) halted = tt
+pub refused_some : (tells : Bool) (course : Course) (grown : List Edge) (graph : Graph) (state : State) (now : World) (s : Stop) → HasHalted tells course grown graph state now s
+    → IfRefused s (λ refusal. (of : Course) × (edges : List Edge) × IsRefusedAt tells of edges graph state now refusal)
+refused_some tells course grown graph state now (stop.Refused refusal) halted = (course, grown, halted)
+refused_some tells course grown graph state now (stop.Fault fault) halted = tt

@@ -18,7 +18,6 @@ use Rattle.theory.proofs.Orderly.{kept_orderly}
 use Rattle.theory.specs.Ledger.{IsPhased, IsCutOff}
 use Rattle.theory.proofs.Ledger.{cut_off}
 use Rattle.theory.proofs.PhasesGoOn.{phased_on}
-use Rattle.graph.specs.declared.cone.Cone.{Cone}
 use Rattle.graph.specs.declared.graph.Graph.{Graph}
 use Rattle.judge.specs.declared.looks.Looks.{Looks}
 use Rattle.judge.specs.Looking.{HasLooked}
@@ -30,7 +29,7 @@ use Rattle.work.specs.declared.cut.Cut.{Cut}
 use Rattle.work.specs.declared.state.State.{State}
 use Rattle.work.specs.declared.summary.Summary.{Summary}
 use Rattle.work.specs.After.{ComesAfter, LooksUnlessMore}
-use Rattle.work.specs.Course.{Course, goes_on, IsOn}
+use Rattle.work.specs.Course.{Course, HasCone, goes_on, IsOn}
 use Rattle.work.specs.Cut.{fault_of, IsLeft}
 use Rattle.work.specs.Going.{IsAtLoad, IsInHand}
 use Rattle.work.specs.Ran.{HasRun}
@@ -98,29 +97,26 @@ module _ (tells : Bool) (course : Course) (task : Task) (graph : Graph) (first s
 
 -- ---- it stands where it stood
 
-module _ (tells : Bool) (tick : List ℕ) (course : Course) (edges : List Edge) (phases : List Phase) (graph : Graph) (cone : Cone) (state : State) (now : World) (stands : StandsAt tells tick course edges phases graph cone state now) where
+module _ (tells : Bool) (course : Course) (edges : List Edge) (phases : List Phase) (graph : Graph) (state : State) (now : World) (stands : StandsAt tells course edges phases graph state now) where
   abbrev here : Course
   here = grown_course course edges phases
 
   -- over a call of a run that goes on
-  abbrev pub stands_on : (after : State) (new : World) → ComesAfter tells now new → LooksUnlessMore tells graph now new state.looks after.looks → IsOn tells here graph None after new → StandsAt tells tick course edges phases graph cone after new
+  abbrev pub stands_on : (after : State) (new : World) → ComesAfter tells now new → LooksUnlessMore tells graph now new state.looks after.looks → IsOn tells here graph None after new → StandsAt tells course edges phases graph after new
   stands_on after new grows looked on = record {
     goes = stands.goes;
     dyndeps = stands.dyndeps;
     others = stands.others;
     suits = stands.suits;
     on = on;
-    listed = stands.listed;
     acyclic = stands.acyclic;
-    within = stands.within;
-    numbers = stands.numbers;
     unstarted = λ none. still_unstarted tells course (task_over course edges) graph state after stands.on.steps on.steps now new stands.on.carried.run on.carried.run grows looked stands.unstarted stands.suits.idle none;
   }
 
   -- ---- before a load
 
   pub load_at : (after : State) (file : ℕ) (new : World) → ComesAfter tells now new → LooksUnlessMore tells graph now new state.looks after.looks → HasAsked tells course edges phases now → IsAtLoad tells here graph after file new
-      → IsAtNextLoad tells tick course edges phases graph cone after file new
+      → IsAtNextLoad tells course edges phases graph after file new
   load_at after file new grows looked asked at = record {
     stands = stands_on after new grows looked at.on;
     next = record { next = at.next; wanted = at.wanted; known = at.known };
@@ -129,15 +125,16 @@ module _ (tells : Bool) (tick : List ℕ) (course : Course) (edges : List Edge) 
 
   -- ---- at its end
 
-  pub done_at : (summary : Summary) (new : World) → ComesAfter tells now new → HasAsked tells course edges phases now → HasRun tells here new (Ok summary) → HasDone tells course edges graph cone new summary
-  done_at summary new grows asked ran = record {
+  pub done_at : (after : State) (summary : Summary) (new : World) → ComesAfter tells now new → HasAsked tells course edges phases now → (HasRun tells here new (Ok summary) × HasCone here.asked here.store graph after.cone)
+      → HasDone tells course edges graph after.cone new summary
+  done_at after summary new grows asked ran = record {
     phases = phases;
-    ran = ran;
+    ran = ran.0;
     asked = asked_on tells course edges phases stands.on.steps now stands.on.carried.run stands.on.carried.phased new grows asked;
     same = sym (ap (λ (b : BuildGraph). b.edges) stands.suits.same);
     once = stands.suits.once;
     acyclic = stands.acyclic;
-    listed = stands.listed;
+    listed = ran.1.listed;
   }
 
   pub cut_at : (cut : Cut) (new : World) → IsLeft new cut → ComesAfter tells now new → HasAsked tells course edges phases now → HasRun tells here new (Err cut) → WasCut tells course edges new (fault_of cut)
@@ -156,7 +153,7 @@ module _ (tells : Bool) (tick : List ℕ) (course : Course) (edges : List Edge) 
 
   module _ (stays : LogStays) (new : World) (after : Looks) (looked : HasLooked tells graph now new state.looks after) where
     abbrev base : IsOn tells here graph None (with_looks tells here graph state after) new
-    base = on_looked tells here graph stays tick stands.suits state now new after looked stands.on
+    base = on_looked tells here graph stays stands.suits state now new after looked stands.on
 
     -- the same phases, of the world now
     abbrev same_phases : IsPhased tells here.behaviour here.own here.asked here.store phases stands.on.steps here.entry new
@@ -165,7 +162,7 @@ module _ (tells : Bool) (tick : List ℕ) (course : Course) (edges : List Edge) 
     -- with what is shown, and what is due
     abbrev pub with_sources : Showing → Vec Bool Global → State
     with_sources display due =
-        record { plan = state.plan; looks = after; records = state.records; display = display; due = due; starts = state.starts; failed = state.failed }
+        record { alloc = state.alloc; cone = state.cone; plan = state.plan; looks = after; records = state.records; display = display; tick = state.tick; due = due; starts = state.starts; failed = state.failed }
 
     abbrev pub on_sources : (display : Showing) (due : Vec Bool Global) → IsOn tells here graph None (with_sources display due) new
     on_sources display due = record {
@@ -182,10 +179,12 @@ module _ (tells : Bool) (tick : List ℕ) (course : Course) (edges : List Edge) 
       started = base.started;
       removed = base.removed;
       room = record { looks = base.room.looks; starts = base.room.starts };
+      cone = base.cone;
+      ticking = base.ticking;
       noted = base.noted;
     }
 
-    abbrev pub stands_looked : (display : Showing) (due : Vec Bool Global) → StandsAt tells tick course edges phases graph cone (with_sources display due) new
+    abbrev pub stands_looked : (display : Showing) (due : Vec Bool Global) → StandsAt tells course edges phases graph (with_sources display due) new
     stands_looked display due = stands_on (with_sources display due) new (after_looks tells now new looked.looks) (λ same. looked) (on_sources display due)
 
     -- a fault cuts it off

@@ -78,7 +78,7 @@ judged_here e k true here =
     omega (arith, same)
 judged_here e k false here = absurd (false≢true here)
 
-module _ (tells : Bool) (course : Course) (graph : Graph) (stays : LogStays) (tick : List ℕ) (suits : Suits course tick graph) (state : State) (now new : World) (e : ℕ)
+module _ (tells : Bool) (course : Course) (graph : Graph) (stays : LogStays) (suits : Suits course graph) (state : State) (now new : World) (e : ℕ)
     (on : IsOn tells course graph None state now) (goes : goes_on course ≡ true) (next : IsNext state.plan (Judge e)) (looks : OnlyLooks tells now new) where
   abbrev said : IsSaid course graph on.steps (Judge e)
   said = said_next course graph state.plan (Judge e) on.steps goes on.planned on.taken next
@@ -232,7 +232,7 @@ module _ (tells : Bool) (course : Course) (graph : Graph) (stays : LogStays) (ti
     judged_started k runs = started_more (suc k) _ course.entry now new [] (looks.events ∙ sym (append-nil now.events)) (on.started k (sym (running_judged on.steps (suc e) stale (suc k)) ∙ runs))
 
     pub judged_on : (plan : Plan) (display : Display) → TakesStep graph state.plan plan (Judged (suc e) stale) → plan.changed ≡ state.plan.changed
-        → IsOn tells course graph None (record { plan = plan; looks = after; records = state.records; display = display; due = state.due; starts = state.starts; failed = state.failed }) new
+        → IsOn tells course graph None (record { alloc = state.alloc; cone = state.cone; plan = plan; looks = after; records = state.records; display = display; tick = state.tick; due = state.due; starts = state.starts; failed = state.failed }) new
     judged_on plan display takes flags_same =
         let now_told = told_over tells course graph on.steps state now new (looks_quiet tells course graph stays None state now new on looks) on.told in
         record {
@@ -249,15 +249,17 @@ module _ (tells : Bool) (course : Course) (graph : Graph) (stays : LogStays) (ti
           started = judged_started;
           removed = removed_steps tells course.own (edges_of course) on.steps more course.entry new None (well_judged on.steps (suc e) stale) (looks_removed tells course graph stays None state now new on looks);
           room = record { looks = looked.fits ∙ on.room.looks; starts = on.room.starts };
+          cone = on.cone;
+          ticking = on.ticking;
           noted = on.noted ∙ sym (failed_judged on.steps (suc e) stale);
         }
 
 -- it is that of a command in numbers too
-pub judged_command : (course : Course) (graph : Graph) (tick : List ℕ) → Suits course tick graph → (e : ℕ) → IsCommand (edges_of course) (suc e) → (links_of graph).phony e ≡ false
-judged_command course graph tick suits e command = phony_is graph e (subst (λ (b : BuildGraph). IsCommand b.edges (suc e)) suits.same command)
+pub judged_command : (course : Course) (graph : Graph) → Suits course graph → (e : ℕ) → IsCommand (edges_of course) (suc e) → (links_of graph).phony e ≡ false
+judged_command course graph suits e command = phony_is graph e (subst (λ (b : BuildGraph). IsCommand b.edges (suc e)) suits.same command)
 
 -- the outputs were asked for, as the graph has them
-pub asked_outputs : (course : Course) (graph : Graph) (tick : List ℕ) → Suits course tick graph → (e : ℕ) (looks : Looks)
+pub asked_outputs : (course : Course) (graph : Graph) → Suits course graph → (e : ℕ) (looks : Looks)
     → ((edge_at (declared_by graph).edges (suc e)).restat ≡ true → (p : ℕ) → has_number ((links_of graph).outputs e) p ≡ true → is_asked (look_at looks.seen.items p) ≡ true)
     → (edge_at (edges_of course) (suc e)).restat ≡ true → (p : ℕ) → has_number ((links_of graph).outputs e) p ≡ true → is_asked (look_at looks.seen.items p) ≡ true
-asked_outputs course graph tick suits e looks asked restat = asked (subst (λ (b : BuildGraph). (edge_at b.edges (suc e)).restat ≡ true) suits.same restat)
+asked_outputs course graph suits e looks asked restat = asked (subst (λ (b : BuildGraph). (edge_at b.edges (suc e)).restat ≡ true) suits.same restat)

@@ -42,7 +42,7 @@ use Rattle.records.specs.Known.{AreKnown}
 use Rattle.records.specs.Logging.{AreSameLogs, IsLogging, IsLoggedStill}
 use Rattle.records.specs.Laws.{LeavesTheLogs, LogStays}
 use Rattle.work.specs.declared.state.State.{State}
-use Rattle.work.specs.Course.{Course, goes_on, Suits, IsSince, edges_of, is_quiet, IsSeenStill, AreAnew, AreSeenBefore, AreTold, AreStarted, IsOn}
+use Rattle.work.specs.Course.{Course, goes_on, IsSince, edges_of, is_quiet, IsSeenStill, AreAnew, AreSeenBefore, AreTold, AreStarted, IsOn}
 use Rattle.work.specs.Removing.{AreRemoved}
 use Rattle.work.specs.Going.{IsInHand, IsCut}
 use Rattle.work.proofs.Quiet.{KeepsQuiet, files_then, RunBy, quiet_own, quiet_response, quiet_depfile, quiet_looks}
@@ -204,6 +204,8 @@ module _ (tells : Bool) (course : Course) (graph : Graph) where
       started = started_over on.steps state now new events on.started;
       removed = removed;
       room = on.room;
+      cone = on.cone;
+      ticking = on.ticking;
       noted = on.noted;
     }
 
@@ -221,24 +223,23 @@ module _ (tells : Bool) (course : Course) (graph : Graph) where
     on_looks once looks = on_over once (looks_carried looks) (looks_leave now new looks) (looks_quiet looks) looks.events (looks_removed looks)
 
     -- a tick
-    module _ (tick : List ℕ) (suits : Suits course tick graph) where
-      pub ticks_carried : (stamp : ℕ) → Ticks tells tick stamp now new → Carried on.steps hand new
-      ticks_carried stamp ticks =
-          carried_ticks tells course.behaviour course.format course.own course.asked course.store course.entry course.phases (goes_on course) on.steps hand now new tick suits.owned suits.no_build_log suits.no_deps_log stamp ticks on.carried
+    pub ticks_carried : (stamp : ℕ) → Ticks tells state.tick stamp now new → Carried on.steps hand new
+    ticks_carried stamp ticks =
+        carried_ticks tells course.behaviour course.format course.own course.asked course.store course.entry course.phases (goes_on course) on.steps hand now new state.tick on.ticking.owned on.ticking.no_build_log on.ticking.no_deps_log stamp ticks on.carried
 
-      pub ticks_quiet : (stamp : ℕ) → Ticks tells tick stamp now new → Quietly on.steps now new
-      ticks_quiet stamp ticks =
-          quiet_own tells course.own (edges_of course) on.steps course.entry now new (grown on.steps hand now on.carried) (run_by on.steps hand now on.carried) tick suits.owned (ticks_grew tells tick stamp now new ticks)
+    pub ticks_quiet : (stamp : ℕ) → Ticks tells state.tick stamp now new → Quietly on.steps now new
+    ticks_quiet stamp ticks =
+        quiet_own tells course.own (edges_of course) on.steps course.entry now new (grown on.steps hand now on.carried) (run_by on.steps hand now on.carried) state.tick on.ticking.owned (ticks_grew tells state.tick stamp now new ticks)
 
-      pub ticks_leave : (stamp : ℕ) → Ticks tells tick stamp now new → Leaves now new
-      ticks_leave stamp ticks = inl (record { events = ticks.events; path = tick; other = λ tell kept. (suits.no_build_log, suits.no_deps_log); history = ticks_grew tells tick stamp now new ticks })
+    pub ticks_leave : (stamp : ℕ) → Ticks tells state.tick stamp now new → Leaves now new
+    ticks_leave stamp ticks = inl (record { events = ticks.events; path = state.tick; other = λ tell kept. (on.ticking.no_build_log, on.ticking.no_deps_log); history = ticks_grew tells state.tick stamp now new ticks })
 
-      pub ticks_removed : (stamp : ℕ) → Ticks tells tick stamp now new → Removed
-      ticks_removed stamp ticks =
-          removed_own tells course.own (edges_of course) on.steps course.entry now new (grown on.steps hand now on.carried) rest hand on.removed tick suits.owned (ticks_grew tells tick stamp now new ticks)
+    pub ticks_removed : (stamp : ℕ) → Ticks tells state.tick stamp now new → Removed
+    ticks_removed stamp ticks =
+        removed_own tells course.own (edges_of course) on.steps course.entry now new (grown on.steps hand now on.carried) rest hand on.removed state.tick on.ticking.owned (ticks_grew tells state.tick stamp now new ticks)
 
-      abbrev pub on_ticks : (stamp : ℕ) → Ticks tells tick stamp now new → IsOn tells course graph hand state new
-      on_ticks stamp ticks = on_over suits.once (ticks_carried stamp ticks) (ticks_leave stamp ticks) (ticks_quiet stamp ticks) ticks.events (ticks_removed stamp ticks)
+    abbrev pub on_ticks : IsMadeOnce (edges_of course) → (stamp : ℕ) → Ticks tells state.tick stamp now new → IsOn tells course graph hand state new
+    on_ticks once stamp ticks = on_over once (ticks_carried stamp ticks) (ticks_leave stamp ticks) (ticks_quiet stamp ticks) ticks.events (ticks_removed stamp ticks)
 
     -- the response file of the edge in hand, which was judged out of date and whose command does not run, is written, or removed
     module _ (i : ℕ) (stale : has_number (out_of_date_in on.steps) i ≡ true) (rests : has_number (running_in on.steps) i ≡ false) (writes : WritesAt tells (edge_at (edges_of course) i).act.response_path now new) where
@@ -323,6 +324,8 @@ module _ (tells : Bool) (course : Course) (graph : Graph) where
     started = on.started;
     removed = removed_hand tells course.own (edges_of course) on.steps course.entry now (Some i) on.removed;
     room = on.room;
+    cone = on.cone;
+    ticking = on.ticking;
     noted = on.noted;
   }
 
@@ -331,7 +334,7 @@ module _ (tells : Bool) (course : Course) (graph : Graph) where
   -- the state with other records
   abbrev pub with_records : State → Records → State
   with_records state records =
-      record { plan = state.plan; looks = state.looks; records = records; display = state.display; due = state.due; starts = state.starts; failed = state.failed }
+      record { alloc = state.alloc; cone = state.cone; plan = state.plan; looks = state.looks; records = records; display = state.display; tick = state.tick; due = state.due; starts = state.starts; failed = state.failed }
 
   -- what is known stays where only what may be done with the files changed
   pub known_by : (rs : List Record) (ds : List DepsRecord) (old new : Records) → AreSameLogs old.logs new.logs → new.places.items ≡ old.places.items → new.deps_places.items ≡ old.deps_places.items
@@ -392,6 +395,8 @@ module _ (tells : Bool) (course : Course) (graph : Graph) where
       started = started_over on.steps state now new writes.events on.started;
       removed = subst (λ (h : Option ℕ). AreRemoved tells course.own (edges_of course) on.steps h course.entry new) held log_removed;
       room = record { looks = on.room.looks; starts = on.room.starts };
+      cone = on.cone;
+      ticking = on.ticking;
       noted = on.noted;
     }
 

@@ -70,9 +70,17 @@ pub start_told : {E : Type 0} (r : Result (Unit {0}) E) (tells : Bool) (job : �
 start_told (Ok x) tells job act old new known now known_is now_is same ok = shown known now (Start job act old.ticked) (one_more_event old new known now known_is now_is same (Start job act old.ticked) ok.events)
 start_told (Err e) tells job act old new known now known_is now_is same ok = tt
 
+-- ---- the file of ticks, by the path that was passed
+
+pub ticks_at : (tells : Bool) (stamp : ℕ) (old new : World) (path tick : List ℕ) → path ≡ tick → Ticks tells path stamp old new → Ticks tells tick stamp old new
+ticks_at tells stamp old new path tick is ticks = subst (λ (p : List ℕ). Ticks tells p stamp old new) is ticks
+
+pub ticks_or_not_at : (tells : Bool) (old new : World) (path tick : List ℕ) → path ≡ tick → TicksOrNot tells path old new → TicksOrNot tells tick old new
+ticks_or_not_at tells old new path tick is ticks = subst (λ (p : List ℕ). TicksOrNot tells p old new) is ticks
+
 -- ---- an edge that is begun
 
-module _ (tells : Bool) (course : Course) (graph : Graph) (stays : LogStays) (tick : List ℕ) (suits : Suits course tick graph) (state : State) (now gone : World) (e : ℕ) (act : Act)
+module _ (tells : Bool) (course : Course) (graph : Graph) (stays : LogStays) (suits : Suits course graph) (state : State) (now gone : World) (e : ℕ) (act : Act)
     (said : act ≡ (edge_at (declared_by graph).edges (suc e)).act) (begun : IsBegun tells course graph (suc e) state now) (removes : WritesOrNot tells act.depfile None now gone) where
   abbrev On : World → Type 0
   On world = IsOn tells course graph (Some (suc e)) state world
@@ -113,13 +121,13 @@ module _ (tells : Bool) (course : Course) (graph : Graph) (stays : LogStays) (ti
     cut_writing = cut_met tells course graph state.plan mid steps (suc e) in_hand begun.on.planned begun.on.taken begun.on.since on_mid.carried
 
     -- no stamp was given
-    pub cut_ticking : (new : World) → TicksOrNot tells tick mid new → IsCut tells course graph state.plan new
+    pub cut_ticking : (new : World) → TicksOrNot tells state.tick mid new → IsCut tells course graph state.plan new
     cut_ticking new ticks = cut_met tells course graph state.plan new steps (suc e) in_hand begun.on.planned begun.on.taken begun.on.since
-        (carried_ticks_or_not tells course.behaviour course.format course.own course.asked course.store course.entry course.phases (goes_on course) steps (Some (suc e)) mid new tick suits.owned suits.no_build_log suits.no_deps_log ticks on_mid.carried)
+        (carried_ticks_or_not tells course.behaviour course.format course.own course.asked course.store course.entry course.phases (goes_on course) steps (Some (suc e)) mid new state.tick on_mid.ticking.owned on_mid.ticking.no_build_log on_mid.ticking.no_deps_log ticks on_mid.carried)
 
-    module _ (new : World) (stamp : ℕ) (ticks : Ticks tells tick stamp mid new) where
+    module _ (new : World) (stamp : ℕ) (ticks : Ticks tells state.tick stamp mid new) where
       abbrev on_new : On new
-      on_new = on_ticks tells course graph stays (Some (suc e)) state mid new on_mid tick suits stamp ticks
+      on_new = on_ticks tells course graph stays (Some (suc e)) state mid new on_mid suits.once stamp ticks
 
       within_starts : e < length state.starts.items
       within_starts =
@@ -140,7 +148,7 @@ module _ (tells : Bool) (course : Course) (graph : Graph) (stays : LogStays) (ti
         on_last = on_stamped tells course graph (Some (suc e)) state new e stamp starts is_starts on_new begun.next.1.once
 
         ready : IsReadyToStart tells course.format course.own (edges_of course) (suc e) course.entry new
-        ready = ready_to_start tells course graph stays tick suits state now gone mid new (suc e) stamp begun.on begun.next begun.begun act is removes removed at written ticks
+        ready = ready_to_start tells course graph stays suits state now gone mid new (suc e) stamp begun.on begun.next begun.begun act is removes removed at written ticks
 
         given : get_or starts.items e 0 ≡ new.ticked
         given = ap (λ (l : List ℕ). get_or l e 0) is_starts ∙ (get_or-set_same state.starts.items e stamp 0 within_starts ∙ sym ticks.ticked)

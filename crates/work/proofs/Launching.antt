@@ -73,11 +73,11 @@ module _ (tells : Bool) (course : Course) (graph : Graph) where
   -- the state with other stamps, and with another plan
   abbrev pub with_starts : State → Vec ℕ Global → State
   with_starts state starts =
-      record { plan = state.plan; looks = state.looks; records = state.records; display = state.display; due = state.due; starts = starts; failed = state.failed }
+      record { alloc = state.alloc; cone = state.cone; plan = state.plan; looks = state.looks; records = state.records; display = state.display; tick = state.tick; due = state.due; starts = starts; failed = state.failed }
 
   abbrev pub with_plan : State → Plan → State
   with_plan state plan =
-      record { plan = plan; looks = state.looks; records = state.records; display = state.display; due = state.due; starts = state.starts; failed = state.failed }
+      record { alloc = state.alloc; cone = state.cone; plan = plan; looks = state.looks; records = state.records; display = state.display; tick = state.tick; due = state.due; starts = state.starts; failed = state.failed }
 
   module _ (hand : Option ℕ) (state : State) (now : World) (e stamp : ℕ) (starts : Vec ℕ Global) (is : starts.items ≡ slice_set state.starts.items e stamp) (on : IsOn tells course graph hand state now) (unstarted : has_number (started_in on.steps) (suc e) ≡ false) where
     pub stamped_started : AreStarted course on.steps (with_starts state starts) now
@@ -104,6 +104,8 @@ module _ (tells : Bool) (course : Course) (graph : Graph) where
       started = stamped_started;
       removed = on.removed;
       room = record { looks = on.room.looks; starts = ap length is ∙ (length-set state.starts.items e stamp ∙ on.room.starts) };
+      cone = on.cone;
+      ticking = on.ticking;
       noted = on.noted;
     }
 
@@ -197,16 +199,18 @@ module _ (tells : Bool) (course : Course) (graph : Graph) where
       started = start_started stamped;
       removed = start_removed;
       room = record { looks = on.room.looks; starts = on.room.starts };
+      cone = on.cone;
+      ticking = on.ticking;
       noted = on.noted ∙ sym (failed_started on.steps (suc e));
     }
 
   -- ---- all is made ready
 
   -- its old depfile was removed, its response file was written, and then a tick came
-  module _ (stays : LogStays) (tick : List ℕ) (suits : Suits course tick graph) (state : State) (now gone mid new : World) (i stamp : ℕ) (on : IsOn tells course graph (Some i) state now) (next : IsLawfulStep (task_of course.asked course.store) on.steps (Started i))
+  module _ (stays : LogStays) (suits : Suits course graph) (state : State) (now gone mid new : World) (i stamp : ℕ) (on : IsOn tells course graph (Some i) state now) (next : IsLawfulStep (task_of course.asked course.store) on.steps (Started i))
       (begun : HasNoRecord tells course.format course.own (edges_of course) i course.entry now) (act : Act) (is : act ≡ (edge_at (edges_of course) i).act)
       (removes : WritesOrNot tells act.depfile None now gone) (removed : act.depfile ≢ [] → Writes tells act.depfile None now gone)
-      (at : WritesAt tells act.response_path gone mid) (written : act.response_path ≢ [] → Writes tells act.response_path (Some act.response_content) gone mid) (ticks : Ticks tells tick stamp mid new) where
+      (at : WritesAt tells act.response_path gone mid) (written : act.response_path ≢ [] → Writes tells act.response_path (Some act.response_content) gone mid) (ticks : Ticks tells state.tick stamp mid new) where
     abbrev depfile : List ℕ
     depfile = (edge_at (edges_of course) i).act.depfile
 
@@ -235,13 +239,13 @@ module _ (tells : Bool) (course : Course) (graph : Graph) where
     carried_mid : Carried tells course graph on.steps (Some i) mid
     carried_mid = response_carried tells course graph stays (Some i) state gone mid on_gone i next.1.stale rests response_at
 
-    tick_grew : IsTrue tells → GrewAt tick (IsRunning mid.events) mid.history new.history
-    tick_grew = ticks_grew tells tick stamp mid new ticks
+    tick_grew : IsTrue tells → GrewAt state.tick (IsRunning mid.events) mid.history new.history
+    tick_grew = ticks_grew tells state.tick stamp mid new ticks
 
     -- what one of its two files holds behind the tick
     holds_ticked : (q : List ℕ) → IsPrivate (edges_of course) i q → (held : Option (List ℕ)) → HoldsStill tells course.own (edges_of course) q held course.entry mid → HoldsStill tells course.own (edges_of course) q held course.entry new
     holds_ticked q private held =
-        holds_over_own tells course.behaviour course.format course.own course.asked course.store course.entry course.phases (goes_on course) on.steps (Some i) mid new carried_mid i next.1.stale next.1.once q private held tick suits.owned tick_grew
+        holds_over_own tells course.behaviour course.format course.own course.asked course.store course.entry course.phases (goes_on course) on.steps (Some i) mid new carried_mid i next.1.stale next.1.once q private held state.tick on.ticking.owned tick_grew
 
     depfile_holds : depfile ≢ [] → depfile ≢ response → HoldsStill tells course.own (edges_of course) depfile None course.entry mid
     depfile_holds named other =
@@ -251,13 +255,13 @@ module _ (tells : Bool) (course : Course) (graph : Graph) where
 
     pub ready_to_start : IsReadyToStart tells course.format course.own (edges_of course) i course.entry new
     ready_to_start = record {
-      ticked = tick_given tells course.behaviour course.format course.own course.asked course.store course.entry course.phases (goes_on course) on.steps (Some i) mid new carried_mid tick stamp ticks;
+      ticked = tick_given tells course.behaviour course.format course.own course.asked course.store course.entry course.phases (goes_on course) on.steps (Some i) mid new carried_mid state.tick stamp ticks;
       depfile = λ named other. holds_ticked depfile (record { named = named; is = inl refl }) None (depfile_holds named other);
       response = λ named. holds_ticked response (record { named = named; is = inr refl }) (Some (edge_at (edges_of course) i).act.response_content)
           (holds_written tells course.behaviour course.format course.own course.asked course.store course.entry course.phases (goes_on course) on.steps (Some i) gone mid on_gone.carried i next.1.stale next.1.once response
           (record { named = named; is = inr refl }) (Some (edge_at (edges_of course) i).act.response_content) (response_written named));
-      begun = no_record_apart tells course.behaviour course.format course.own course.asked course.store course.entry course.phases (goes_on course) on.steps (Some i) mid new carried_mid i next.1.stale next.1.once tick
-          (λ files. (suits.no_build_log, suits.no_deps_log)) tick_grew (begun_over gone mid on_gone.carried response response_at (λ files. files.responses i command)
+      begun = no_record_apart tells course.behaviour course.format course.own course.asked course.store course.entry course.phases (goes_on course) on.steps (Some i) mid new carried_mid i next.1.stale next.1.once state.tick
+          (λ files. (on.ticking.no_build_log, on.ticking.no_deps_log)) tick_grew (begun_over gone mid on_gone.carried response response_at (λ files. files.responses i command)
           (begun_over now gone on.carried depfile (depfile_at tells course graph stays (Some i) state now gone on i next.1.stale rests depfile_removes) (λ files. files.depfiles i command) begun));
     }
       where

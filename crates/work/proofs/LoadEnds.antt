@@ -7,7 +7,6 @@ use Rattle.model.specs.World.{World}
 use Rattle.model.specs.Calls.{OnlyLooks, is_stop}
 use Rattle.model.specs.Phases.{Phase}
 use Rattle.theory.specs.Seen.{Unrefused}
-use Rattle.graph.specs.declared.cone.Cone.{Cone}
 use Rattle.graph.specs.declared.graph.Graph.{Graph}
 use Rattle.graph.specs.Told.{declared_by}
 use Rattle.records.specs.Laws.{LogStays}
@@ -41,31 +40,29 @@ load_stop_by tells now new (stop.Fault fault) looks unrefused memory =
 -- ---- where it stands
 
 -- of a fault it is known where it cut the build off
-pub stop_met : (tells : Bool) (tick : List ℕ) (course : Course) (edges : List Edge) (graph : Graph) (cone : Cone) (state : State) (now : World) (s : Stop) → StoppedThere tells tick course edges graph cone state now s
+pub stop_met : (tells : Bool) (course : Course) (edges : List Edge) (graph : Graph) (state : State) (now : World) (s : Stop) → StoppedThere tells course edges graph state now s
     → IfFault s (λ fault. (of : Course) × (at : Graph) × IsCut tells of at state.plan now)
-stop_met tells tick course edges graph cone state now (stop.Refused refusal) there = tt
-stop_met tells tick course edges graph cone state now (stop.Fault fault) there = (grown_course course edges there.phases, there.graph, there.cut)
+stop_met tells course edges graph state now (stop.Refused refusal) there = tt
+stop_met tells course edges graph state now (stop.Fault fault) there = (grown_course course edges there.phases, there.graph, there.cut)
 
-module _ (tells : Bool) (tick : List ℕ) (course : Course) (edges : List Edge) (phases : List Phase) (graph : Graph) (cone : Cone) (state : State) (file : ℕ) (now : World) (at : IsAtNextLoad tells tick course edges phases graph cone state file now)
+module _ (tells : Bool) (course : Course) (edges : List Edge) (phases : List Phase) (graph : Graph) (state : State) (file : ℕ) (now : World) (at : IsAtNextLoad tells course edges phases graph state file now)
     (stays : LogStays) (new : World) (looks : OnlyLooks tells now new) (after : State) where
   -- it is stopped where it stood
-  stops_at : IsAsBefore state after → StayKnown graph graph state.records after.records → (s : Stop) → IfRefused s (IsRefusedBy tells course edges phases at.stands.on.steps new) → StoppedThere tells tick course edges graph cone after new s
+  stops_at : IsAsBefore state after → StayKnown graph graph state.records after.records → (s : Stop) → IfRefused s (IsRefusedBy tells course edges phases at.stands.on.steps new) → StoppedThere tells course edges graph after new s
   stops_at same known (stop.Refused refusal) cause =
-      load_refused tells tick course edges phases graph graph cone cone state after file now new refusal at looks
-      (stopped_there tells tick course edges phases graph cone state now at.stands file at.next stays new looks after same known refusal cause)
-  stops_at same known (stop.Fault fault) cause = cut_here tells tick course edges phases graph cone state now at.stands file at.next stays new looks after same.plan at.asked
+      load_refused tells course edges phases graph graph state after file now new refusal at looks
+      (stopped_there tells course edges phases graph state now at.stands file at.next stays new looks after same known refusal cause)
+  stops_at same known (stop.Fault fault) cause = cut_here tells course edges phases graph state now at.stands file at.next stays new looks after same.plan at.asked
 
-  pub stops_undone : (grown : Graph) (next : Cone) → IsUndone graph grown cone next state after → (s : Stop) → IfRefused s (IsRefusedBy tells course edges phases at.stands.on.steps new) → StoppedThere tells tick course (declared_by grown).edges grown next after new s
-  stops_undone grown next undone s cause =
-      subst (λ (c : Cone). StoppedThere tells tick course (declared_by grown).edges grown c after new s) (sym {A = Cone} undone.cone_is)
-      (subst (λ (g : Graph). StoppedThere tells tick course (declared_by g).edges g cone after new s) (sym {A = Graph} undone.graph_is)
-      (subst (λ (es : List Edge). StoppedThere tells tick course es graph cone after new s) (ap (λ (b : BuildGraph). b.edges) at.stands.suits.same) (stops_at undone.state undone.known s cause)))
+  pub stops_undone : (grown : Graph) → IsUndone graph grown state after → (s : Stop) → IfRefused s (IsRefusedBy tells course edges phases at.stands.on.steps new) → StoppedThere tells course (declared_by grown).edges grown after new s
+  stops_undone grown undone s cause =
+      subst (λ (g : Graph). StoppedThere tells course (declared_by g).edges g after new s) (sym {A = Graph} undone.graph_is)
+      (subst (λ (es : List Edge). StoppedThere tells course es graph after new s) (ap (λ (b : BuildGraph). b.edges) at.stands.suits.same) (stops_at undone.state undone.known s cause))
 
 -- a refusal leaves each build where it stood, too, of which it is not known that nothing was missing
-pub refuses_undone : (tells : Bool) (tick : List ℕ) (course : Course) (edges : List Edge) (phases : List Phase) (graph : Graph) (cone : Cone) (state : State) (file : ℕ) (now : World) (stands : StandsAt tells tick course edges phases graph cone state now)
-    → IsLoadNext course edges graph state stands.on.steps file → LogStays → (new : World) → OnlyLooks tells now new → (after : State) (grown : Graph) (next : Cone) → IsUndone graph grown cone next state after
-    → (refusal : Refusal) → IsRefusedBy tells course edges phases stands.on.steps new refusal → IsStopped tells tick course edges phases grown next after new refusal
-refuses_undone tells tick course edges phases graph cone state file now stands to_load stays new looks after grown next undone refusal cause =
-    subst (λ (c : Cone). IsStopped tells tick course edges phases grown c after new refusal) (sym {A = Cone} undone.cone_is)
-    (subst (λ (g : Graph). IsStopped tells tick course edges phases g cone after new refusal) (sym {A = Graph} undone.graph_is)
-    (stopped_there tells tick course edges phases graph cone state now stands file to_load stays new looks after undone.state undone.known refusal cause))
+pub refuses_undone : (tells : Bool) (course : Course) (edges : List Edge) (phases : List Phase) (graph : Graph) (state : State) (file : ℕ) (now : World) (stands : StandsAt tells course edges phases graph state now)
+    → IsLoadNext course edges graph state stands.on.steps file → LogStays → (new : World) → OnlyLooks tells now new → (after : State) (grown : Graph) → IsUndone graph grown state after
+    → (refusal : Refusal) → IsRefusedBy tells course edges phases stands.on.steps new refusal → IsStopped tells course edges phases grown after new refusal
+refuses_undone tells course edges phases graph state file now stands to_load stays new looks after grown undone refusal cause =
+    subst (λ (g : Graph). IsStopped tells course edges phases g after new refusal) (sym {A = Graph} undone.graph_is)
+    (stopped_there tells course edges phases graph state now stands file to_load stays new looks after undone.state undone.known refusal cause)

@@ -31,9 +31,8 @@ use Rattle.theory.proofs.Turned.{kept_then}
 use Rattle.plan.specs.Flags as flags
 use Rattle.paths.specs.Told.{text_at}
 use Rattle.graph.specs.declared.graph.Graph.{Graph}
-use Rattle.graph.specs.declared.cone.Cone.{Cone}
 use Rattle.graph.specs.Links.{links_of}
-use Rattle.graph.specs.Linked.{StandFor, IsConeOf}
+use Rattle.graph.specs.Linked.{StandFor}
 use Rattle.graph.specs.Told.{declared_by, recorded_by, AreSameInputs}
 use Rattle.judge.specs.declared.looks.Look.{Look}
 use Rattle.judge.specs.Seen.{look_at, look_of, is_asked}
@@ -43,7 +42,7 @@ use Rattle.records.specs.declared.logs.Logs.{Logs}
 use Rattle.records.specs.Known.{AreKnown}
 use Rattle.records.specs.Logging.{IsLogging}
 use Rattle.work.specs.declared.state.State.{State}
-use Rattle.work.specs.Course.{Course, edges_of, goes_on, Suits, is_quiet, IsSeenStill, AreAnew, AreSeenBefore, AreTold, AreStarted, IsOn}
+use Rattle.work.specs.Course.{Course, IsOwnTick, HasCone, edges_of, goes_on, Suits, is_quiet, IsSeenStill, AreAnew, AreSeenBefore, AreTold, AreStarted, IsOn}
 use Rattle.work.specs.Removing.{AreRemoved}
 use Rattle.work.proofs.Finishing.{makes_it}
 use Rattle.work.proofs.Onward.{since_goes}
@@ -80,6 +79,7 @@ pub record HasRoomFor (graph grown : Graph) (old new : State) : Type 0 where
   pub logs : new.records.logs ≡ old.records.logs
   pub known : (rs : List Record) (ds : List DepsRecord) → AreKnown graph rs ds old.records → AreKnown grown rs ds new.records
   pub changed : (p : ℕ) → flags.has new.plan.changed.items p ≡ flags.has old.plan.changed.items p
+  pub tick : new.tick ≡ old.tick
   pub starts : new.starts.items ≡ old.starts.items
   pub failed : new.failed.items ≡ old.failed.items
 
@@ -134,7 +134,7 @@ none_unloaded false d f rest p is there = false≢true (sym (ap (λ (o : Option 
 
 -- ---- over the load
 
-module _ (tells : Bool) (course : Course) (tick : List ℕ) (graph grown : Graph) (file : List ℕ) (additions : List Addition) (gains : HasMore graph grown file additions) (suits : Suits course tick graph) (goes : goes_on course ≡ true)
+module _ (tells : Bool) (course : Course) (graph grown : Graph) (file : List ℕ) (additions : List Addition) (gains : HasMore graph grown file additions) (suits : Suits course graph) (goes : goes_on course ≡ true)
     (state after : State) (now : World) (on : IsOn tells course graph None state now) (room : HasRoomFor graph grown state after)
     (stand : StandFor (declared_by graph).edges graph.manifest.paths (links_of graph)) (stands : StandFor (declared_by grown).edges grown.manifest.paths (links_of grown)) where
   abbrev few : List Edge
@@ -330,7 +330,7 @@ module _ (tells : Bool) (course : Course) (tick : List ℕ) (graph grown : Graph
   grown_task = record { file = file; additions = additions; grown = grown_here; once = gains.once; recorded = recorded_more; targets = refl; jobs = refl; keep = refl }
 
   -- the graph suits the course behind the load, where its recorded inputs are those in use
-  pub suits_loaded : AreSameInputs (recorded_inputs course.store next) (recorded_by grown) → Suits later tick grown
+  pub suits_loaded : AreSameInputs (recorded_inputs course.store next) (recorded_by grown) → Suits later grown
   suits_loaded recorded = record {
     same = same_graph (declared_by grown) course.asked.graph.pools course.asked.graph.defaults course.asked.graph.builddir
         (ap (λ (b : BuildGraph). b.pools) suits.same ∙ sym gains.pools) (ap (λ (b : BuildGraph). b.defaults) suits.same ∙ sym gains.defaults) (ap (λ (b : BuildGraph). b.builddir) suits.same ∙ sym gains.builddir);
@@ -340,9 +340,6 @@ module _ (tells : Bool) (course : Course) (tick : List ℕ) (graph grown : Graph
     depfiles = suits.depfiles;
     log_owned = suits.log_owned;
     deps_owned = suits.deps_owned;
-    owned = suits.owned;
-    no_build_log = suits.no_build_log;
-    no_deps_log = suits.no_deps_log;
     idle = suits.idle;
   }
 
@@ -351,8 +348,8 @@ module _ (tells : Bool) (course : Course) (tick : List ℕ) (graph grown : Graph
   module _ (content : List ℕ) (is_next : IsNextLoad (task_of course.asked course.store) on.steps file) (read : course.behaviour.dyndep content ≡ Some additions) (order : IsInOrderAt course.store (task_of later.asked course.store))
       (holds : IsTrue tells → (files : FilesAreKept course.own few course.entry.history now.history) → files.free file ≡ false → view_of now.history file ≡ Some content)
       (held_then : IsTrue tells → HeldAt file (Some content) on.steps course.entry.history now.history)
-      (cone : Cone) (planned : GoesOn grown cone state.plan after.plan) (stated : IsTaskOf (task_of later.asked later.store) grown)
-      (is_cone : IsConeOf next (recorded_inputs course.store next) (task_of later.asked later.store).targets cone.order.items cone.marks.items) where
+      (planned : GoesOn grown after.cone state.plan after.plan) (stated : IsTaskOf (task_of later.asked later.store) grown)
+      (coned : HasCone later.asked later.store grown after.cone) where
     carried_then : IsCarried tells course.behaviour course.format course.own later.asked course.store later.phases true on.steps None course.entry now
     carried_then = carried_load tells course.behaviour course.format course.own course.asked course.store course.phases course.entry now next file content additions grown_here on.steps
         (record { run = on.carried.run; phased = on.carried.phased; goes = λ h. on.carried.goes goes; refused = λ off. absurd (true≢false off); beside = on.carried.beside }) is_next read order holds held_then
@@ -367,7 +364,7 @@ module _ (tells : Bool) (course : Course) (tick : List ℕ) (graph grown : Graph
     }
 
     pub plan_later : IsPlanned (task_of later.asked later.store) grown after.plan on.steps × AreTaken (task_of later.asked later.store) on.steps
-    plan_later = planned graph (task_of course.asked course.store) (task_of later.asked later.store) on.steps on.planned on.taken stated grown_task is_cone
+    plan_later = planned graph (task_of course.asked course.store) (task_of later.asked later.store) on.steps on.planned on.taken stated grown_task coned.listed
 
     pub logging_later : IsLogging tells course.behaviour course.format course.own next on.steps None course.store course.entry now after.records.logs
     logging_later = subst (λ (l : Logs). IsLogging tells course.behaviour course.format course.own next on.steps None course.store course.entry now l) (sym {A = Logs} room.logs) (record {
@@ -401,5 +398,7 @@ module _ (tells : Bool) (course : Course) (tick : List ℕ) (graph grown : Graph
       started = started_later;
       removed = loaded_removed;
       room = record { looks = room.fits; starts = ap length room.starts ∙ (on.room.starts ∙ sym gains.lines) };
+      cone = coned;
+      ticking = subst (λ (t : List ℕ). IsOwnTick course.own t) (sym {A = List ℕ} room.tick) on.ticking;
       noted = ap (map suc) room.failed ∙ on.noted;
     }

@@ -55,7 +55,7 @@ use Rattle.records.specs.Known.{AreKnown}
 use Rattle.records.specs.Laws.{LogStays}
 use Rattle.records.specs.Logging.{IsLogging}
 use Rattle.work.specs.declared.state.State.{State}
-use Rattle.work.specs.Course.{Course, edges_of, goes_on, IsOn, is_quiet}
+use Rattle.work.specs.Course.{Course, IsOwnTick, HasCone, edges_of, goes_on, IsOn, is_quiet}
 use Rattle.work.specs.Going.{IsInHand}
 use Rattle.work.proofs.Keeping.{seen_kept, looks_quiet, on_looks}
 use Rattle.work.proofs.Loaded.{HasMore, HasRoomFor, loaded_course, on_loaded, suits_loaded}
@@ -106,7 +106,7 @@ asked_below (look ∷ seen) (suc p) asked = let lt = asked_below seen p asked in
 
 -- ---- a build that stands before a load
 
-module _ (tells : Bool) (tick : List ℕ) (course : Course) (edges : List Edge) (phases : List Phase) (graph : Graph) (cone : Cone) (state : State) (now : World) (stands : StandsAt tells tick course edges phases graph cone state now) (file : ℕ)
+module _ (tells : Bool) (course : Course) (edges : List Edge) (phases : List Phase) (graph : Graph) (state : State) (now : World) (stands : StandsAt tells course edges phases graph state now) (file : ℕ)
     (next_load : IsLoadNext course edges graph state stands.on.steps file) where
   abbrev here : Course
   here = grown_course course edges phases
@@ -120,7 +120,7 @@ module _ (tells : Bool) (tick : List ℕ) (course : Course) (edges : List Edge) 
   kept : IsKept edges steps
   kept = kept_orderly edges steps stands.on.carried.run.orderly
 
-  pub may_join : MayJoin (asked_with course.asked edges) course.store graph cone state file
+  pub may_join : MayJoin (asked_with course.asked edges) course.store graph state file
   may_join = record {
     same = stands.suits.same;
     recorded = stands.suits.recorded;
@@ -130,8 +130,8 @@ module _ (tells : Bool) (tick : List ℕ) (course : Course) (edges : List Edge) 
     some = some_in state.plan.loads.items file next_load.wanted;
     within = next_load.known;
     seen = stands.on.room.looks;
-    targets = stands.within;
-    numbers = stands.numbers;
+    targets = stands.on.cone.within;
+    numbers = stands.on.cone.numbers;
   }
 
   -- ---- over calls that only look
@@ -173,27 +173,26 @@ module _ (tells : Bool) (tick : List ℕ) (course : Course) (edges : List Edge) 
         started = λ e runs. subst (λ (l : List ℕ). StartedUnder (suc e) (get_or l e 0) here.entry new) (sym {A = List ℕ} same.starts) (on_new.started e runs);
         removed = on_new.removed;
         room = record { looks = ap (λ (l : List Look). length l) same.looks ∙ on_new.room.looks; starts = ap (λ (l : List ℕ). length l) same.starts ∙ on_new.room.starts };
+        cone = subst (λ (k : Cone). HasCone here.asked here.store graph k) (sym {A = Cone} same.cone) on_new.cone;
+        ticking = subst (λ (t : List ℕ). IsOwnTick here.own t) (sym {A = List ℕ} same.tick) on_new.ticking;
         noted = ap (map suc) same.failed ∙ on_new.noted;
       }
 
-      abbrev pub stands_after : StandsAt tells tick course edges phases graph cone after new
+      abbrev pub stands_after : StandsAt tells course edges phases graph after new
       stands_after = record {
         goes = stands.goes;
         dyndeps = stands.dyndeps;
         others = stands.others;
         suits = stands.suits;
         on = on_after;
-        listed = stands.listed;
         acyclic = stands.acyclic;
-        within = stands.within;
-        numbers = stands.numbers;
         unstarted = λ none.
             let was = unstarted_new none in
             record { looks = was.looks; seen = λ tell free edits. subst (λ (l : List Look). AreSeenOf (is_bound free) graph.manifest.paths new.history l) (sym {A = List Look} same.looks) (was.seen tell free edits) };
       }
 
       -- the load is refused there
-      pub stopped_there : (refusal : Refusal) → IsRefusedBy tells course edges phases steps new refusal → IsStopped tells tick course edges phases graph cone after new refusal
+      pub stopped_there : (refusal : Refusal) → IsRefusedBy tells course edges phases steps new refusal → IsStopped tells course edges phases graph after new refusal
       stopped_there refusal cause = record { stands = stands_after; cause = cause }
 
     -- ---- what the file held
@@ -335,7 +334,7 @@ module _ (tells : Bool) (tick : List ℕ) (course : Course) (edges : List Edge) 
 
       -- ---- what it says has joined
 
-      module _ (grown : Graph) (after : State) (grown_cone : Cone) (gone : GoesOnWith course.store graph grown cone.targets.items grown_cone state.plan after.plan path additions)
+      module _ (grown : Graph) (after : State) (gone : GoesOnWith course.store graph grown state.cone.targets.items after.cone state.plan after.plan path additions)
           (stand : StandFor (declared_by graph).edges graph.manifest.paths (links_of graph)) (stand_grown : StandFor (declared_by grown).edges grown.manifest.paths (links_of grown))
           (is_task : (task : Task) → IsDeclaredTask task grown → IsTaskOf task grown) where
         abbrev next : List Edge
@@ -381,11 +380,24 @@ module _ (tells : Bool) (tick : List ℕ) (course : Course) (edges : List Edge) 
         abbrev later : Course
         later = loaded_course here next last
 
-        targets_are : texts_at grown.manifest.paths cone.targets.items ≡ (task_over course next).targets
-        targets_are = ap (λ (l : List (List ℕ)). texts_at l cone.targets.items) gains.paths ∙ (texts_front graph.manifest.paths gains.added cone.targets.items stands.within ∙ stands.numbers)
+        targets_are : texts_at grown.manifest.paths state.cone.targets.items ≡ (task_over course next).targets
+        targets_are = ap (λ (l : List (List ℕ)). texts_at l state.cone.targets.items) gains.paths ∙ (texts_front graph.manifest.paths gains.added state.cone.targets.items stands.on.cone.within ∙ stands.on.cone.numbers)
 
-        is_cone : IsConeOf next (recorded_inputs course.store next) (task_over course next).targets grown_cone.order.items grown_cone.marks.items
-        is_cone = subst (λ (l : List (List ℕ)). IsConeOf next (recorded_inputs course.store next) l grown_cone.order.items grown_cone.marks.items) targets_are gone.cone_of.listed
+        is_cone : IsConeOf next (recorded_inputs course.store next) (task_over course next).targets after.cone.order.items after.cone.marks.items
+        is_cone = subst (λ (l : List (List ℕ)). IsConeOf next (recorded_inputs course.store next) l after.cone.order.items after.cone.marks.items) targets_are gone.cone_of.listed
+
+        within_then : All (λ p. p < length grown.manifest.paths) state.cone.targets.items
+        within_then k d lt =
+            let low = stands.on.cone.within k d lt in
+            let sum = ap length gains.paths ∙ length-append graph.manifest.paths gains.added in
+            omega (arith, low, sum)
+
+        coned : HasCone later.asked later.store grown after.cone
+        coned = record {
+          listed = is_cone;
+          within = subst (λ (l : List ℕ). All (λ p. p < length grown.manifest.paths) l) (sym {A = List ℕ} gone.cone_of.numbers) within_then;
+          numbers = ap (texts_at grown.manifest.paths) gone.cone_of.numbers ∙ targets_are;
+        }
 
         acyclic : HasNoCycle (asked_with course.asked next) course.store
         acyclic = subst (λ (l : List (List ℕ)). (i : ℕ) → IsInCone next (recorded_inputs course.store next) l i → IsCycle next (recorded_inputs course.store next) i → ⊥) targets_are gone.cone_of.acyclic
@@ -437,10 +449,10 @@ module _ (tells : Bool) (tick : List ℕ) (course : Course) (edges : List Edge) 
 
         module _ (was : HasAsked tells course edges phases now) (room : HasRoomIn grown state after) (known : StayKnown graph grown state.records after.records) (logs : after.records.logs ≡ state.records.logs) where
           has_room : HasRoomFor graph grown state after
-          has_room = record { fits = room.fits; looks = room.looks; logs = logs; known = known; changed = room.changed; starts = room.starts; failed = room.failed }
+          has_room = record { fits = room.fits; looks = room.looks; logs = logs; known = known; changed = room.changed; tick = room.tick; starts = room.starts; failed = room.failed }
 
           abbrev on_then : IsOn tells later grown None after new
-          on_then = on_loaded tells here tick graph grown path additions gains stands.suits stands.goes state after new on_new has_room stand stand_grown content next_load.next reads order holds held_here grown_cone gone.planned stated is_cone
+          on_then = on_loaded tells here graph grown path additions gains stands.suits stands.goes state after new on_new has_room stand stand_grown content next_load.next reads order holds held_here gone.planned stated coned
 
           unstarted_then : started_in steps ≡ [] → IsUnstarted tells course grown after new
           unstarted_then none = record { looks = so.looks; seen = λ tell free edits p asked bound. seen_there free p asked bound (so.seen tell free edits) }
@@ -460,32 +472,23 @@ module _ (tells : Bool) (tick : List ℕ) (course : Course) (edges : List Edge) 
                       ∙ text_front graph.manifest.paths gains.added p (let lt = asked_below state.looks.seen.items p asked_before in let size = stands.on.room.looks in omega (arith, lt, size))
 
           -- a phase begins
-          pub begun : BeginsAt tells tick course next (phases ++ ended ∷ []) grown grown_cone after new
+          pub begun : BeginsAt tells course next (phases ++ ended ∷ []) grown after new
           begun = record {
             stands = record {
               goes = stands.goes;
               dyndeps = stands.dyndeps;
               others = stands.others;
-              suits = suits_loaded tells here tick graph grown path additions gains stands.suits stands.goes state after new on_new has_room stand stand_grown joined.recorded;
+              suits = suits_loaded tells here graph grown path additions gains stands.suits stands.goes state after new on_new has_room stand stand_grown joined.recorded;
               on = on_then;
-              listed = is_cone;
               acyclic = acyclic;
-              within = subst (λ (l : List ℕ). All (λ p. p < length grown.manifest.paths) l) (sym {A = List ℕ} gone.cone_of.numbers) within_then;
-              numbers = ap (texts_at grown.manifest.paths) gone.cone_of.numbers ∙ targets_are;
               unstarted = unstarted_then;
             };
             fresh = fresh_of tells later steps new phases edges last on_then.carried.phased split;
             asked = asked_then was;
           }
-            where
-              within_then : All (λ p. p < length grown.manifest.paths) cone.targets.items
-              within_then k d lt =
-                  let low = stands.within k d lt in
-                  let sum = ap length gains.paths ∙ length-append graph.manifest.paths gains.added in
-                  omega (arith, low, sum)
 
           -- the file was loaded
-          pub has_begun : HasBegun tells tick course phases grown grown_cone after new
+          pub has_begun : HasBegun tells course phases grown after new
           has_begun = (next, ended, begun)
 
     -- ---- a fault

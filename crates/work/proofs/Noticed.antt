@@ -27,7 +27,7 @@ module _ (tells : Bool) (course : Course) (graph : Graph) where
   -- the state with other looks
   abbrev pub with_looks : State → Looks → State
   with_looks state looks =
-      record { plan = state.plan; looks = looks; records = state.records; display = state.display; due = state.due; starts = state.starts; failed = state.failed }
+      record { alloc = state.alloc; cone = state.cone; plan = state.plan; looks = looks; records = state.records; display = state.display; tick = state.tick; due = state.due; starts = state.starts; failed = state.failed }
 
   -- what was seen of outputs before is still known where nothing is forgotten
   pub before_kept : (steps : List Done) (state : State) (now : World) (after : Looks) → ((p : ℕ) → is_asked (look_at state.looks.seen.items p) ≡ true → look_at after.seen.items p ≡ look_at state.looks.seen.items p)
@@ -36,9 +36,9 @@ module _ (tells : Bool) (course : Course) (graph : Graph) where
       let was = before tell kept e stale unended restat p made in
       stays p (ap is_asked was ∙ asked_stamp (stamp_of (file_at course.entry.history (text_at graph.manifest.paths p)))) ∙ was
 
-  abbrev pub on_looked : (stays : LogStays) (tick : List ℕ) → Suits course tick graph → (state : State) (now new : World) (after : Looks) → HasLooked tells graph now new state.looks after → IsOn tells course graph None state now
+  abbrev pub on_looked : (stays : LogStays) → Suits course graph → (state : State) (now new : World) (after : Looks) → HasLooked tells graph now new state.looks after → IsOn tells course graph None state now
       → IsOn tells course graph None (with_looks state after) new
-  on_looked stays tick suits state now new after looked on =
+  on_looked stays suits state now new after looked on =
       let quiet = looks_quiet tells course graph stays None state now new on looked.looks in
       let carried = looks_carried tells course graph stays None state now new on looked.looks in
       let told = told_over tells course graph on.steps state now new quiet on.told in
@@ -58,5 +58,7 @@ module _ (tells : Bool) (course : Course) (graph : Graph) where
         started = started_over tells course graph on.steps state now new looked.looks.events on.started;
         removed = looks_removed tells course graph stays None state now new on looked.looks;
         room = record { looks = looked.fits ∙ on.room.looks; starts = on.room.starts };
+        cone = on.cone;
+        ticking = on.ticking;
         noted = on.noted;
       }

@@ -48,7 +48,7 @@ use Rattle.work.proofs.Running.{cone_within}
 
 abbrev pub with_display : State → Showing → State
 with_display state display =
-    record { plan = state.plan; looks = state.looks; records = state.records; display = display; due = state.due; starts = state.starts; failed = state.failed }
+    record { alloc = state.alloc; cone = state.cone; plan = state.plan; looks = state.looks; records = state.records; display = display; tick = state.tick; due = state.due; starts = state.starts; failed = state.failed }
 
 abbrev pub on_shown : (tells : Bool) (course : Course) (graph : Graph) (hand : Option ℕ) (state : State) (display : Showing) (now : World) → IsOn tells course graph hand state now → IsOn tells course graph hand (with_display state display) now
 on_shown tells course graph hand state display now on = record {
@@ -65,6 +65,8 @@ on_shown tells course graph hand state display now on = record {
   started = on.started;
   removed = on.removed;
   room = record { looks = on.room.looks; starts = on.room.starts };
+  cone = on.cone;
+  ticking = on.ticking;
   noted = on.noted;
 }
 
@@ -75,7 +77,7 @@ ended_more : (i : ℕ) (old now new more at : List Moment) → new ≡ now ++ mo
 ended_more i old now new more at grows ended =
     record { before = ended.before; after = ended.after ++ more; is = ended.is; splits = longer old ended.before (Happened (Finish i true)) ended.after more now new grows ended.splits }
 
-module _ (tells : Bool) (course : Course) (tick : List ℕ) (graph : Graph) (suits : Suits course tick graph) (state : State) (now : World) (e : ℕ) (on : IsOn tells course graph (Some (suc e)) state now) (before : List Done) (last : on.steps ≡ before ++ Ended (suc e) true ∷ []) where
+module _ (tells : Bool) (course : Course) (graph : Graph) (suits : Suits course graph) (state : State) (now : World) (e : ℕ) (on : IsOn tells course graph (Some (suc e)) state now) (before : List Done) (last : on.steps ≡ before ++ Ended (suc e) true ∷ []) where
   abbrev task : Task
   task = task_of course.asked course.store
 
@@ -116,7 +118,7 @@ module _ (tells : Bool) (course : Course) (tick : List ℕ) (graph : Graph) (sui
 
 -- ---- a command that was taken in, and ended well
 
-module _ (tells : Bool) (course : Course) (tick : List ℕ) (graph : Graph) (suits : Suits course tick graph) (state : State) (now : World) (e stamp : ℕ) (ok : Bool) (went : ok ≡ true) (told : Told) (any : IsTakenIn tells course graph (suc e) stamp ok told state now) where
+module _ (tells : Bool) (course : Course) (graph : Graph) (suits : Suits course graph) (state : State) (now : World) (e stamp : ℕ) (ok : Bool) (went : ok ≡ true) (told : Told) (any : IsTakenIn tells course graph (suc e) stamp ok told state now) where
   abbrev pub taken : IsTakenIn tells course graph (suc e) stamp true told state now
   taken = subst (λ (b : Bool). IsTakenIn tells course graph (suc e) stamp b told state now) went any
 
@@ -125,7 +127,7 @@ module _ (tells : Bool) (course : Course) (tick : List ℕ) (graph : Graph) (sui
   taken_under start is = subst (λ (n : ℕ). IsTakenIn tells course graph (suc e) n true told state now) (sym is) taken
 
   command_taken : IsCommand (edges_of course) (suc e)
-  command_taken = command_here tells course tick graph suits state now e taken.on taken.before taken.last
+  command_taken = command_here tells course graph suits state now e taken.on taken.before taken.last
 
   -- ---- what may be asked of the log
 
@@ -139,14 +141,14 @@ module _ (tells : Bool) (course : Course) (tick : List ℕ) (graph : Graph) (sui
   taken_once = subst (λ (g : BuildGraph). IsMadeOnce g.edges) suits.same suits.once
 
   pub taken_within : e < length graph.manifest.lines
-  taken_within = within_here tells course tick graph suits state now e taken.on taken.before taken.last
+  taken_within = within_here tells course graph suits state now e taken.on taken.before taken.last
 
   pub taken_stamped : e < length state.starts.items
   taken_stamped = let lt = taken_within in let fits = taken.on.room.starts in omega (arith, lt, fits)
 
 -- ---- what it told is reported
 
-module _ (tells : Bool) (course : Course) (tick : List ℕ) (graph : Graph) (suits : Suits course tick graph) (state : State) (now : World) (e stamp : ℕ) (told : Told) (taken : IsTakenIn tells course graph (suc e) stamp true told state now) where
+module _ (tells : Bool) (course : Course) (graph : Graph) (suits : Suits course graph) (state : State) (now : World) (e stamp : ℕ) (told : Told) (taken : IsTakenIn tells course graph (suc e) stamp true told state now) where
   abbrev i : ℕ
   i = suc e
 
@@ -155,7 +157,7 @@ module _ (tells : Bool) (course : Course) (tick : List ℕ) (graph : Graph) (sui
 
   -- before it was
   pub cut_telling : IsCut tells course graph state.plan now
-  cut_telling = cut_in_hand tells course tick graph suits state now e taken.on taken.before taken.last
+  cut_telling = cut_in_hand tells course graph suits state now e taken.on taken.before taken.last
 
   -- a command without a depfile told nothing
   pub tells_nothing : ((paths : List (List ℕ)) → told ≡ Inputs paths → ⊥) → MayBeDone tells course graph i stamp state now
@@ -177,7 +179,7 @@ module _ (tells : Bool) (course : Course) (tick : List ℕ) (graph : Graph) (sui
 
     pub may_report : MayReport tells course.format course.own (declared_by graph).edges taken.on.steps i stamp course.entry now
     may_report = subst (λ (g : BuildGraph). MayReport tells course.format course.own g.edges taken.on.steps i stamp course.entry now) suits.same
-        (record { depfile = has_paths.0; started = started_here tells course tick graph suits state now e taken.on taken.before taken.last; under = went.started; none = went.none })
+        (record { depfile = has_paths.0; started = started_here tells course graph suits state now e taken.on taken.before taken.last; under = went.started; none = went.none })
 
     module _ (new : World) (writes : WritesAt tells state.records.logs.deps_log.path now new) where
       log_writes : WritesAt tells course.own.deps_log now new
@@ -186,8 +188,8 @@ module _ (tells : Bool) (course : Course) (tick : List ℕ) (graph : Graph) (sui
       pub cut_reporting : ((B : Behaviour) (format : LogFormat) (own : OwnFiles) (steps : List Done) (entry : Store) (first : World) → MayReport tells format own (declared_by graph).edges steps i stamp first now
           → IsLogging tells B format own (declared_by graph).edges steps (Some i) entry first now state.records.logs → IsLoggedStill tells B format own (declared_by graph).edges steps (Some i) entry first new)
           → IsCut tells course graph state.plan new
-      cut_reporting err = cut_logging tells course tick graph suits state now e taken.on taken.before taken.last course.own.deps_log suits.deps_owned new log_writes
-          (err course.behaviour course.format course.own taken.on.steps course.store course.entry may_report (logging_declared tells course tick graph suits state now e taken.on taken.before taken.last))
+      cut_reporting err = cut_logging tells course graph suits state now e taken.on taken.before taken.last course.own.deps_log suits.deps_owned new log_writes
+          (err course.behaviour course.format course.own taken.on.steps course.store course.entry may_report (logging_declared tells course graph suits state now e taken.on taken.before taken.last))
 
       pub reported : (records : Records) → AreSameLogs state.records.logs records.logs → records.places.items ≡ state.records.places.items → records.deps_places.items ≡ state.records.deps_places.items
           → (texts : List (List ℕ)) → texts ≡ paths
@@ -196,7 +198,7 @@ module _ (tells : Bool) (course : Course) (tick : List ℕ) (graph : Graph) (sui
           → IsLogging tells B format own (declared_by graph).edges steps (Some i) entry first new records.logs × IsReported tells format own (declared_by graph).edges i stamp texts first new)
           → MayBeDone tells course graph i stamp (with_records tells course graph state records) new
       reported records same places deps_places texts texts_are ok =
-          let both = ok course.behaviour course.format course.own taken.on.steps course.store course.entry may_report (logging_declared tells course tick graph suits state now e taken.on taken.before taken.last) in
+          let both = ok course.behaviour course.format course.own taken.on.steps course.store course.entry may_report (logging_declared tells course graph suits state now e taken.on taken.before taken.last) in
           let there = subst (λ (g : BuildGraph). IsReported tells course.format course.own g.edges i stamp texts course.entry new) (sym suits.same) both.1 in
           record {
             on = on_log tells course graph (Some i) (Some i) state now new taken.on course.own.deps_log suits.deps_owned log_writes suits.once records same places deps_places
@@ -220,7 +222,7 @@ module _ (tells : Bool) (course : Course) (tick : List ℕ) (graph : Graph) (sui
 
 -- ---- that it is done is recorded
 
-module _ (tells : Bool) (course : Course) (tick : List ℕ) (graph : Graph) (suits : Suits course tick graph) (state : State) (now : World) (e stamp : ℕ) (done : MayBeDone tells course graph (suc e) stamp state now)
+module _ (tells : Bool) (course : Course) (graph : Graph) (suits : Suits course graph) (state : State) (now : World) (e stamp : ℕ) (done : MayBeDone tells course graph (suc e) stamp state now)
     (mid : World) (writes : WritesAt tells state.records.logs.build_log.path now mid) (start : ℕ) (start_is : start ≡ stamp) where
   abbrev job : ℕ
   job = suc e
@@ -236,16 +238,16 @@ module _ (tells : Bool) (course : Course) (tick : List ℕ) (graph : Graph) (sui
       (subst (λ (n : ℕ). EndedWell tells course.behaviour course.format course.own (edges_of course) steps job n course.entry now) (sym start_is) done.well)
 
   logging_told : IsLogging tells course.behaviour course.format course.own (declared_by graph).edges steps (Some job) course.store course.entry now state.records.logs
-  logging_told = logging_declared tells course tick graph suits state now e done.on done.before done.last
+  logging_told = logging_declared tells course graph suits state now e done.on done.before done.last
 
   pub stale_here : has_number (out_of_date_in steps) job ≡ true
-  stale_here = stale tells course tick graph suits state now e done.on done.before done.last
+  stale_here = stale tells course graph suits state now e done.on done.before done.last
 
   -- it may stand there or not
   pub cut_recording : ((B : Behaviour) (format : LogFormat) (own : OwnFiles) (steps : List Done) (entry : Store) (first : World) → EndedWell tells B format own (declared_by graph).edges steps job start first now
       → IsLogging tells B format own (declared_by graph).edges steps (Some job) entry first now state.records.logs → IsLoggedStill tells B format own (declared_by graph).edges steps (Some job) entry first mid)
       → IsCut tells course graph state.plan mid
-  cut_recording err = cut_logging tells course tick graph suits state now e done.on done.before done.last course.own.build_log suits.log_owned mid done_writes
+  cut_recording err = cut_logging tells course graph suits state now e done.on done.before done.last course.own.build_log suits.log_owned mid done_writes
       (err course.behaviour course.format course.own steps course.store course.entry ended_well logging_told)
 
   -- it stands there
@@ -282,7 +284,7 @@ module _ (tells : Bool) (course : Course) (tick : List ℕ) (graph : Graph) (sui
 
     -- its command has ended
     pub rests : has_number (running_in steps) job ≡ false
-    rests = rests_ended steps job (ended tells course tick graph suits state now e done.on done.before done.last)
+    rests = rests_ended steps job (ended tells course graph suits state now e done.on done.before done.last)
 
     -- it is in hand until its response file is removed
     abbrev recorded : IsOn tells course graph (Some job) After mid
@@ -336,9 +338,11 @@ module _ (tells : Bool) (course : Course) (tick : List ℕ) (graph : Graph) (sui
         before = held.before;
         started = held.started;
         removed = removed_last tells course.own (edges_of course) steps course.entry gone new (grown tells course graph steps None gone carried_gone) (well_rest tells course graph steps None gone carried_gone)
-            (Some job) cleared.removed job refl (command_here tells course tick graph suits state now e done.on done.before done.last) (depfile_gone removes_depfile)
+            (Some job) cleared.removed job refl (command_here tells course graph suits state now e done.on done.before done.last) (depfile_gone removes_depfile)
             (subst (λ (a : Act). a.response_path ≢ [] → Writes tells a.response_path None gone new) act_here writes_it) removes_it.history;
         room = held.room;
+        cone = held.cone;
+        ticking = held.ticking;
         noted = held.noted;
       }
 

@@ -50,6 +50,8 @@ on_refused tells course graph state now on cause = record {
   started = on.started;
   removed = on.removed;
   room = on.room;
+  cone = on.cone;
+  ticking = on.ticking;
   noted = on.noted;
 }
 

@@ -82,8 +82,8 @@ missing_after : (course : Course) (edges : List Edge) (done : List Done) (now : 
 missing_after course edges done now path None at point missing = (at, point, missing)
 missing_after course edges done now path (Some output) at point missing = (missing.0, missing.1, (at, point, missing.2))
 
-module _ (tells : Bool) (tick : List ℕ) (course : Course) (edges : List Edge) (phases : List Phase) (graph : Graph) (cone : Cone) (state : State) (now : World) (begins : BeginsAt tells tick course edges phases graph cone state now) where
-  abbrev stands : StandsAt tells tick course edges phases graph cone state now
+module _ (tells : Bool) (course : Course) (edges : List Edge) (phases : List Phase) (graph : Graph) (state : State) (now : World) (begins : BeginsAt tells course edges phases graph state now) where
+  abbrev stands : StandsAt tells course edges phases graph state now
   stands = begins.stands
 
   abbrev task : Task
@@ -96,7 +96,7 @@ module _ (tells : Bool) (tick : List ℕ) (course : Course) (edges : List Edge) 
   none_taken_in = stands.on.carried.goes stands.goes
 
   -- a file that no edge makes is loaded next: of sources nothing is asked
-  pub source_next : (file : ℕ) → IsNext state.plan (Load file) → (links_of graph).maker file ≡ None → IsAtNextLoad tells tick course edges phases graph cone state file now
+  pub source_next : (file : ℕ) → IsNext state.plan (Load file) → (links_of graph).maker file ≡ None → IsAtNextLoad tells course edges phases graph state file now
   source_next file said none = record {
     stands = stands;
     next = record { next = next; wanted = said.offered; known = known };
@@ -120,26 +120,26 @@ module _ (tells : Bool) (tick : List ℕ) (course : Course) (edges : List Edge) 
     had_last = subst (λ (l : List Done). HadAsked tells course edges phases l new) (sym begins.fresh) had_now
 
     -- no source is missing
-    pub sources_at : (display : Showing) (due : Vec Bool Global) → HasSources tells graph state.records cone state.plan now new state.looks
-        → HasSourcesAt tells tick course edges phases graph cone (with_sources tells tick course edges phases graph cone state now stands stays new after looked display due) new
+    pub sources_at : (display : Showing) (due : Vec Bool Global) → HasSources tells graph state.records state.cone state.plan now new state.looks
+        → HasSourcesAt tells course edges phases graph (with_sources tells course edges phases graph state now stands stays new after looked display due) new
     sources_at display due found = record {
-      stands = stands_looked tells tick course edges phases graph cone state now stands stays new after looked display due;
+      stands = stands_looked tells course edges phases graph state now stands stays new after looked display due;
       asked = asked_also tells course edges phases stands.on.steps now stands.on.carried.run stands.on.carried.phased new begins.fresh none_taken_in had_now
-          (λ tell files needed. nothing_missing_now tells tick course edges phases graph cone state now stands stays new looked.looks tell files
-          (found course.store task.targets stands.on.steps (under tells tick course edges phases graph cone state now stands)) needed);
+          (λ tell files needed. nothing_missing_now tells course edges phases graph state now stands stays new looked.looks tell files
+          (found course.store task.targets stands.on.steps (under tells course edges phases graph state now stands)) needed);
     }
 
     -- one is missing, or a fault was met
-    pub lacking_there : NoSourceIsDue graph state.plan → (stopped : Stop) → LacksSource tells graph state.records cone state.plan now new state.looks stopped
-        → StoppedThere tells tick course edges graph cone (with_looks tells here graph state after) new stopped
+    pub lacking_there : NoSourceIsDue graph state.plan → (stopped : Stop) → LacksSource tells graph state.records state.cone state.plan now new state.looks stopped
+        → StoppedThere tells course edges graph (with_looks tells here graph state after) new stopped
     lacking_there made stopped (inl fault) =
-        subst (λ (s : Stop). StoppedThere tells tick course edges graph cone (with_looks tells here graph state after) new s) (sym {A = Stop} fault.says)
-        (cut_looked tells tick course edges phases graph cone state now stands stays new after looked (with_looks tells here graph state after) refl had_last)
+        subst (λ (s : Stop). StoppedThere tells course edges graph (with_looks tells here graph state after) new s) (sym {A = Stop} fault.says)
+        (cut_looked tells course edges phases graph state now stands stays new after looked (with_looks tells here graph state after) refl had_last)
     lacking_there made stopped (inr lack) =
-        subst (λ (s : Stop). StoppedThere tells tick course edges graph cone (with_looks tells here graph state after) new s) (sym {A = Stop} lack.says)
+        subst (λ (s : Stop). StoppedThere tells course edges graph (with_looks tells here graph state after) new s) (sym {A = Stop} lack.says)
         (record {
           phases = phases;
-          stopped = record { stands = stands_looked tells tick course edges phases graph cone state now stands stays new after looked state.display state.due; cause = cause };
+          stopped = record { stands = stands_looked tells course edges phases graph state now stands stays new after looked state.display state.due; cause = cause };
           asked = had_last;
         })
       where
@@ -149,27 +149,27 @@ module _ (tells : Bool) (tick : List ℕ) (course : Course) (edges : List Edge) 
             at_once = fresh_steps tells course edges phases stands.on.steps now stands.on.carried.run stands.on.carried.phased begins.fresh none_taken_in;
             loaded = λ file due source. made task stands.on.steps stands.on.planned stands.on.taken file due source;
           };
-          named = subst (λ (es : List Edge). NamesSource es lack.missing.path lack.missing.needed_by) (sym (same_edges tells tick course edges phases graph cone state now stands)) lack.named;
-          needed = subst (λ (es : List Edge). IsNamedMissing es course.store task.targets lack.missing.path lack.missing.needed_by) (sym (same_edges tells tick course edges phases graph cone state now stands))
-              (lack.needed course.store task.targets stands.on.steps (under tells tick course edges phases graph cone state now stands));
+          named = subst (λ (es : List Edge). NamesSource es lack.missing.path lack.missing.needed_by) (sym (same_edges tells course edges phases graph state now stands)) lack.named;
+          needed = subst (λ (es : List Edge). IsNamedMissing es course.store task.targets lack.missing.path lack.missing.needed_by) (sym (same_edges tells course edges phases graph state now stands))
+              (lack.needed course.store task.targets stands.on.steps (under tells course edges phases graph state now stands));
           at_entry = λ tell none free edits needed apart.
-              subst (λ (es : List Edge). IsMissingFor es course.store stands.on.steps task.targets course.entry.history lack.missing.path lack.missing.needed_by) (sym (same_edges tells tick course edges phases graph cone state now stands))
-              (found_at_entry tells tick course edges phases graph cone state now stands new looked.looks tell none free edits
+              subst (λ (es : List Edge). IsMissingFor es course.store stands.on.steps task.targets course.entry.history lack.missing.path lack.missing.needed_by) (sym (same_edges tells course edges phases graph state now stands))
+              (found_at_entry tells course edges phases graph state now stands new looked.looks tell none free edits
               (λ at. IsMissingFor (declared_by graph).edges course.store stands.on.steps task.targets at lack.missing.path lack.missing.needed_by)
-              (lack.is course.store task.targets stands.on.steps (under tells tick course edges phases graph cone state now stands)) needed apart);
+              (lack.is course.store task.targets stands.on.steps (under tells course edges phases graph state now stands)) needed apart);
           is = λ tell files needed apart.
-              let last = point_now tells course.own task stands.on.steps course.entry new (run_new tells tick course edges phases graph cone state now stands stays new looked.looks tell files) tell in
+              let last = point_now tells course.own task stands.on.steps course.entry new (run_new tells course edges phases graph state now stands stays new looked.looks tell files) tell in
               missing_after course edges stands.on.steps new lack.missing.path lack.missing.needed_by last.0 last.1
-              (subst (λ (es : List Edge). IsMissingFor es course.store stands.on.steps task.targets last.0 lack.missing.path lack.missing.needed_by) (sym (same_edges tells tick course edges phases graph cone state now stands))
-              (found_at tells tick course edges phases graph cone state now stands stays new looked.looks tell files
+              (subst (λ (es : List Edge). IsMissingFor es course.store stands.on.steps task.targets last.0 lack.missing.path lack.missing.needed_by) (sym (same_edges tells course edges phases graph state now stands))
+              (found_at tells course edges phases graph state now stands stays new looked.looks tell files
               (λ at. IsMissingFor (declared_by graph).edges course.store stands.on.steps task.targets at lack.missing.path lack.missing.needed_by)
-              (lack.is course.store task.targets stands.on.steps (under tells tick course edges phases graph cone state now stands)) needed apart last.0 last.1));
+              (lack.is course.store task.targets stands.on.steps (under tells course edges phases graph state now stands)) needed apart last.0 last.1));
         }
 
-    pub lacking_met : NoSourceIsDue graph state.plan → (stopped : Stop) → LacksSource tells graph state.records cone state.plan now new state.looks stopped → IfFault stopped (λ fault. (of : Course) × (at : Graph) × IsCut tells of at state.plan new)
+    pub lacking_met : NoSourceIsDue graph state.plan → (stopped : Stop) → LacksSource tells graph state.records state.cone state.plan now new state.looks stopped → IfFault stopped (λ fault. (of : Course) × (at : Graph) × IsCut tells of at state.plan new)
     lacking_met made stopped lacks = met stopped (lacking_there made stopped lacks)
       where
-        met : (s : Stop) → StoppedThere tells tick course edges graph cone (with_looks tells here graph state after) new s → IfFault s (λ fault. (of : Course) × (at : Graph) × IsCut tells of at state.plan new)
+        met : (s : Stop) → StoppedThere tells course edges graph (with_looks tells here graph state after) new s → IfFault s (λ fault. (of : Course) × (at : Graph) × IsCut tells of at state.plan new)
         met (stop.Refused refusal) there = tt
         met (stop.Fault fault) there = (grown_course course edges there.phases, there.graph, there.cut)
 
@@ -181,9 +181,9 @@ lacking_stop tells graph records cone plan now new seen stopped looks (inr lack)
 -- ---- a load that is not made
 
 -- the load is refused where the build stands
-pub load_refused : (tells : Bool) (tick : List ℕ) (course : Course) (edges : List Edge) (phases : List Phase) (graph grown : Graph) (cone next : Cone) (state after : State) (file : ℕ) (now new : World) (refusal : Refusal)
-    → IsAtNextLoad tells tick course edges phases graph cone state file now → OnlyLooks tells now new → IsStopped tells tick course edges phases grown next after new refusal → IsRefusedAt tells tick course edges grown next after new refusal
-load_refused tells tick course edges phases graph grown cone next state after file now new refusal at looks stopped = record {
+pub load_refused : (tells : Bool) (course : Course) (edges : List Edge) (phases : List Phase) (graph grown : Graph) (state after : State) (file : ℕ) (now new : World) (refusal : Refusal)
+    → IsAtNextLoad tells course edges phases graph state file now → OnlyLooks tells now new → IsStopped tells course edges phases grown after new refusal → IsRefusedAt tells course edges grown after new refusal
+load_refused tells course edges phases graph grown state after file now new refusal at looks stopped = record {
   phases = phases;
   stopped = stopped;
   asked = asked_in tells course edges phases at.stands.on.steps now at.stands.on.carried.run at.stands.on.carried.phased stopped.stands.on.carried.phased.build.last new

@@ -1,5 +1,5 @@
 -- What a run is of, and where a run that goes on stands.
-use Rattle.std.specs.Prelude.{◌≡◌, ◌≢◌, ◌<◌, ℕ, suc, ◌&&◌, not, Bool, true, false, IsTrue, List, [], ◌∷◌, ◌++◌, map, length, Option, Some, None, is_some, get_or}
+use Rattle.std.specs.Prelude.{◌≡◌, ◌≢◌, ◌<◌, ℕ, suc, ◌&&◌, not, Bool, true, false, IsTrue, List, [], ◌∷◌, ◌++◌, All, map, length, Option, Some, None, is_some, get_or}
 use Rattle.std.specs.List.{list_any}
 use Rattle.model.specs.declared.graph.Edge.{Edge}
 use Rattle.model.specs.declared.record.Record.{Record}
@@ -14,8 +14,10 @@ use Rattle.model.specs.Phases.{Phase, AreTakenIn}
 use Rattle.model.specs.Premises.{FilesAreKept}
 use Rattle.model.specs.Kept.{StartedUnder}
 use Rattle.model.specs.SingleBuild.{Asked, task_of}
-use Rattle.paths.specs.Told.{text_at}
+use Rattle.paths.specs.Told.{text_at, texts_at}
+use Rattle.graph.specs.declared.cone.Cone.{Cone}
 use Rattle.graph.specs.declared.graph.Graph.{Graph}
+use Rattle.graph.specs.Linked.{IsConeOf}
 use Rattle.graph.specs.Links.{links_of}
 use Rattle.graph.specs.Told.{declared_by, recorded_by, AreSameInputs}
 use Rattle.depfile.specs.Depfile.{IsReading}
@@ -54,9 +56,8 @@ IsSince None steps = Unit {0}
 IsSince (Some done) steps = (ended : List Done) × (steps ≡ done ++ ended) × AreTakenIn done ended
 
 -- The graph declares what was asked, with the recorded inputs that are in use; each path is made once; a command has outputs;
--- depfiles are read as their grammar says; both logs are files of the program's own; ticks touch another such file, that is no log;
--- no command ran at the entry.
-pub record Suits (course : Course) (tick : List ℕ) (graph : Graph) : Type 0 where
+-- depfiles are read as their grammar says; both logs are files of the program's own; no command ran at the entry.
+pub record Suits (course : Course) (graph : Graph) : Type 0 where
   pub same : course.asked.graph ≡ declared_by graph
   pub recorded : AreSameInputs (recorded_inputs course.store (edges_of course)) (recorded_by graph)
   pub once : IsMadeOnce (edges_of course)
@@ -64,9 +65,6 @@ pub record Suits (course : Course) (tick : List ℕ) (graph : Graph) : Type 0 wh
   pub depfiles : IsReading course.behaviour.depfile
   pub log_owned : course.own.files course.own.build_log ≡ true
   pub deps_owned : course.own.files course.own.deps_log ≡ true
-  pub owned : course.own.files tick ≡ true
-  pub no_build_log : tick ≢ course.own.build_log
-  pub no_deps_log : tick ≢ course.own.deps_log
   pub idle : IsIdle course.entry.events
 
 -- ---- what was seen
@@ -122,6 +120,18 @@ pub record AreTold (tells : Bool) (course : Course) (graph : Graph) (state : Sta
 abbrev pub AreStarted : Course → List Done → State → World → Type 0
 AreStarted course steps state now = (e : ℕ) → has_number (running_in steps) (suc e) ≡ true → StartedUnder (suc e) (get_or state.starts.items e 0) course.entry now
 
+-- ticks touch a file of the program's own that is no log
+pub record IsOwnTick (own : OwnFiles) (tick : List ℕ) : Type 0 where
+  pub owned : own.files tick ≡ true
+  pub no_build_log : tick ≢ own.build_log
+  pub no_deps_log : tick ≢ own.deps_log
+
+-- the cone is that of what was asked, over the graph
+pub record HasCone (asked : Asked) (store : Store) (graph : Graph) (cone : Cone) : Type 0 where
+  pub listed : IsConeOf asked.graph.edges (recorded_inputs store asked.graph.edges) (task_of asked store).targets cone.order.items cone.marks.items
+  pub within : All (λ p. p < length graph.manifest.paths) cone.targets.items
+  pub numbers : texts_at graph.manifest.paths cone.targets.items ≡ (task_of asked store).targets
+
 -- the state has room for each path and each edge of the graph
 pub record HasRoom (graph : Graph) (state : State) : Type 0 where
   pub looks : length state.looks.seen.items ≡ length graph.manifest.paths
@@ -143,4 +153,6 @@ pub record IsOn (tells : Bool) (course : Course) (graph : Graph) (hand : Option 
   pub started : AreStarted course steps state now
   pub removed : AreRemoved tells course.own (edges_of course) steps hand course.entry now
   pub room : HasRoom graph state
+  pub cone : HasCone course.asked course.store graph state.cone
+  pub ticking : IsOwnTick course.own state.tick
   pub noted : map suc state.failed.items ≡ failed_in steps

@@ -27,13 +27,12 @@ use Rattle.work.specs.Course.{Course, goes_on, IsSince, Suits, IsOn}
 use Rattle.work.specs.Restat.{IsFlagged, IsForgotten}
 use Rattle.work.specs.declared.turn.Halt.{Halt}
 use Rattle.work.specs.declared.turn.Halt.TheVariants as halt
-use Rattle.work.specs.declared.setting.Setting.{Setting}
 use Rattle.work.specs.declared.state.State.{State}
 
 -- such a run is under way, of some course: it goes on, or its next load was refused
-pub record IsGoing (tells goes : Bool) (tick : List ℕ) (graph : Graph) (state : State) (now : World) : Type 0 where
+pub record IsGoing (tells goes : Bool) (graph : Graph) (state : State) (now : World) : Type 0 where
   pub course : Course
-  pub suits : Suits course tick graph
+  pub suits : Suits course graph
   pub is : goes_on course ≡ goes
   pub on : IsOn tells course graph None state now
 
@@ -58,10 +57,10 @@ pub record MayWait (goes : Bool) (plan : Plan) : Type 0 where
   pub waits : goes ≡ true → IsNext plan Wait
 
 -- a run is under way of which a command may be taken in
-pub record IsAwaiting (tells : Bool) (tick : List ℕ) (graph : Graph) (state : State) (now : World) : Type 0 where
+pub record IsAwaiting (tells : Bool) (graph : Graph) (state : State) (now : World) : Type 0 where
   pub goes : Bool
   pub may : MayWait goes state.plan
-  pub going : IsGoing tells goes tick graph state now
+  pub going : IsGoing tells goes graph state now
 
 -- nothing is left to do
 pub record IsOver (tells : Bool) (course : Course) (graph : Graph) (state : State) (end : End) (now : World) : Type 0 where
@@ -106,54 +105,56 @@ pub record IsCut (tells : Bool) (course : Course) (graph : Graph) (plan : Plan) 
 -- ---- what a call leaves
 
 -- of each course on which the run stood there, and went on or not, it is so
-abbrev pub From : Bool → Bool → Setting → State → World → (Course → Type 0) → Type 0
-From tells goes setting before old Is = (course : Course) → Suits course setting.tick.now setting.graph.now → goes_on course ≡ goes → IsOn tells course setting.graph.now None before old → Is course
+abbrev pub From : Bool → Bool → Graph → State → World → (Course → Type 0) → Type 0
+From tells goes graph before old Is = (course : Course) → Suits course graph → goes_on course ≡ goes → IsOn tells course graph None before old → Is course
 
 -- it stands there still, in a run that goes on or not
-abbrev pub StandsOn : Bool → Bool → Setting → World → World → State → State → Type 0
-StandsOn tells goes setting old new before after = From tells goes setting before old (λ course. IsOn tells course setting.graph.now None after new)
+abbrev pub StandsOn : Bool → Bool → Graph → World → World → State → State → Type 0
+StandsOn tells goes graph old new before after = From tells goes graph before old (λ course. IsOn tells course graph None after new)
 
 -- a fault has cut it off
-abbrev pub IsCutFrom : Bool → Bool → Setting → World → World → State → State → Type 0
-IsCutFrom tells goes setting old new before after = From tells goes setting before old (λ course. IsCut tells course setting.graph.now after.plan new)
+abbrev pub IsCutFrom : Bool → Bool → Graph → World → World → State → State → Type 0
+IsCutFrom tells goes graph old new before after = From tells goes graph before old (λ course. IsCut tells course graph after.plan new)
 
 -- a run that goes on stands there still,
-abbrev pub GoesOn : Bool → Setting → World → World → State → State → Type 0
-GoesOn tells setting old new before after = StandsOn tells true setting old new before after
+abbrev pub GoesOn : Bool → Graph → World → World → State → State → Type 0
+GoesOn tells graph old new before after = StandsOn tells true graph old new before after
 
 -- or a fault has cut it off,
-abbrev pub CutsOff : Bool → Setting → World → World → State → State → Type 0
-CutsOff tells setting old new before after = IsCutFrom tells true setting old new before after
+abbrev pub CutsOff : Bool → Graph → World → World → State → State → Type 0
+CutsOff tells graph old new before after = IsCutFrom tells true graph old new before after
 
 -- or it stands where no step is taken now
-abbrev pub Halts : Bool → Setting → World → World → State → State → Halt → Type 0
-Halts tells setting old new before after halt = From tells true setting before old (λ course. IsHalted tells course setting.graph.now after new halt)
+abbrev pub Halts : Bool → Graph → World → World → State → State → Halt → Type 0
+Halts tells graph old new before after halt = From tells true graph before old (λ course. IsHalted tells course graph after new halt)
 
 -- a turn was made, or there is none to make
-abbrev pub TurnsTo : Bool → Setting → World → World → State → State → Option Halt → Type 0
-TurnsTo tells setting old new before after halt = MatchOption halt (GoesOn tells setting old new before after) (λ halt. Halts tells setting old new before after halt)
+abbrev pub TurnsTo : Bool → Graph → World → World → State → State → Option Halt → Type 0
+TurnsTo tells graph old new before after halt = MatchOption halt (GoesOn tells graph old new before after) (λ halt. Halts tells graph old new before after halt)
 
 -- where a command may be taken in, it stands there still,
-abbrev pub WaitsOn : Bool → Setting → World → World → State → State → Type 0
-WaitsOn tells setting old new before after = (goes : Bool) → MayWait goes before.plan → StandsOn tells goes setting old new before after
+abbrev pub WaitsOn : Bool → Graph → World → World → State → State → Type 0
+WaitsOn tells graph old new before after = (goes : Bool) → MayWait goes before.plan → StandsOn tells goes graph old new before after
 
 -- or a fault has cut it off
-abbrev pub WaitsCut : Bool → Setting → World → World → State → State → Type 0
-WaitsCut tells setting old new before after = (goes : Bool) → MayWait goes before.plan → IsCutFrom tells goes setting old new before after
+abbrev pub WaitsCut : Bool → Graph → World → World → State → State → Type 0
+WaitsCut tells graph old new before after = (goes : Bool) → MayWait goes before.plan → IsCutFrom tells goes graph old new before after
 
 -- of a run whose next load was refused all that ran was taken in,
-abbrev pub TakesAllIn : Bool → Setting → World → World → State → State → Type 0
-TakesAllIn tells setting old new before after = From tells false setting before old (λ course. IsFinished tells course setting.graph.now after new)
+abbrev pub TakesAllIn : Bool → Graph → World → World → State → State → Type 0
+TakesAllIn tells graph old new before after = From tells false graph before old (λ course. IsFinished tells course graph after new)
 
 -- or a fault has cut it off
-abbrev pub CutsTaking : Bool → Setting → World → World → State → State → Type 0
-CutsTaking tells setting old new before after = IsCutFrom tells false setting old new before after
+abbrev pub CutsTaking : Bool → Graph → World → World → State → State → Type 0
+CutsTaking tells graph old new before after = IsCutFrom tells false graph old new before after
 
 -- ---- the end of a command
 
 -- the end of a command changes nothing of these
 pub record IsSameBeside (old new : State) : Type 0 where
   pub records : new.records ≡ old.records
+  pub cone : new.cone ≡ old.cone
+  pub tick : new.tick ≡ old.tick
   pub starts : new.starts.items ≡ old.starts.items
 
 -- What the end of the command of an edge changes beside its plan's steps: what was seen of its outputs is forgotten, and where it

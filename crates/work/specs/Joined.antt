@@ -116,7 +116,7 @@ IsUnjoined asked store file additions refusal = IsUnfitBy asked.graph.edges file
 
 -- What was asked is done over this graph, with the recorded inputs that are in use; this is its cone, and the plan and what was seen
 -- have room for its paths; this file is to be loaded.
-pub record MayJoin (asked : Asked) (store : Store) (graph : Graph) (cone : Cone) (state : State) (file : ℕ) : Type 0 where
+pub record MayJoin (asked : Asked) (store : Store) (graph : Graph) (state : State) (file : ℕ) : Type 0 where
   pub same : asked.graph ≡ declared_by graph
   pub recorded : AreSameInputs (recorded_inputs store asked.graph.edges) (recorded_by graph)
   pub known : AreKnown graph store.records store.deps state.records
@@ -124,8 +124,8 @@ pub record MayJoin (asked : Asked) (store : Store) (graph : Graph) (cone : Cone)
   pub some : 0 < length state.plan.loads.items
   pub within : file < length graph.manifest.paths
   pub seen : length state.looks.seen.items ≡ length graph.manifest.paths
-  pub targets : All (λ p. p < length graph.manifest.paths) cone.targets.items
-  pub numbers : texts_at graph.manifest.paths cone.targets.items ≡ targets_of (declared_graph asked) asked.targets
+  pub targets : All (λ p. p < length graph.manifest.paths) state.cone.targets.items
+  pub numbers : texts_at graph.manifest.paths state.cone.targets.items ≡ targets_of (declared_graph asked) asked.targets
 
 -- the graph got what the file says, and the recorded inputs that are in use then
 pub record HasJoinedFile (store : Store) (graph grown : Graph) (file : List ℕ) (additions : List Addition) : Type 0 where
@@ -145,6 +145,7 @@ pub record HasRoomIn (graph : Graph) (old new : State) : Type 0 where
   pub fits : length new.looks.seen.items ≡ length graph.manifest.paths
   pub looks : (p : ℕ) → look_at new.looks.seen.items p ≡ look_at old.looks.seen.items p
   pub changed : (p : ℕ) → has new.plan.changed.items p ≡ has old.plan.changed.items p
+  pub tick : new.tick ≡ old.tick
   pub starts : new.starts.items ≡ old.starts.items
   pub failed : new.failed.items ≡ old.failed.items
 
@@ -154,54 +155,55 @@ StayKnown graph grown old new = (rs : List Record) (ds : List DepsRecord) → Ar
 
 -- of the state nothing is changed but how the records are kept
 pub record IsAsBefore (old new : State) : Type 0 where
+  pub cone : new.cone ≡ old.cone
   pub plan : new.plan ≡ old.plan
   pub looks : new.looks.seen.items ≡ old.looks.seen.items
   pub logs : new.records.logs ≡ old.records.logs
+  pub tick : new.tick ≡ old.tick
   pub starts : new.starts.items ≡ old.starts.items
   pub failed : new.failed.items ≡ old.failed.items
 
 -- nothing is changed but that
-pub record IsUndone (graph grown : Graph) (cone next : Cone) (old new : State) : Type 0 where
+pub record IsUndone (graph grown : Graph) (old new : State) : Type 0 where
   pub graph_is : grown ≡ graph
-  pub cone_is : next ≡ cone
   pub state : IsAsBefore old new
   pub known : StayKnown graph graph old.records new.records
 
 -- ---- on the way
 
 -- what was asked is done over this graph, to which what the file says has joined so far, so that it became the one that was loaded
-pub record IsJoining (asked : Asked) (store : Store) (graph loaded : Graph) (cone : Cone) (state : State) (before : Before) : Type 0 where
+pub record IsJoining (asked : Asked) (store : Store) (graph loaded : Graph) (state : State) (before : Before) : Type 0 where
   pub file : ℕ
   pub additions : List Addition
-  pub may : MayJoin asked store graph cone state file
+  pub may : MayJoin asked store graph state file
   pub undoes : Undoes graph loaded file before
   pub has : HasLoaded graph loaded (text_at graph.manifest.paths file) additions
 
 -- so it is of some graph
-abbrev pub IsLoaded : Graph → Cone → State → Before → Type 0
-IsLoaded loaded cone state before = (asked : Asked) × (store : Store) × (graph : Graph) × IsJoining asked store graph loaded cone state before
+abbrev pub IsLoaded : Graph → State → Before → Type 0
+IsLoaded loaded state before = (asked : Asked) × (store : Store) × (graph : Graph) × IsJoining asked store graph loaded state before
 
 -- each plan goes on, over the graph as it was before the file joined,
-abbrev pub GoesOnBy : ℕ → List Addition → Graph → Cone → State → Graph → Cone → State → Type 0
-GoesOnBy file additions graph cone state grown next after =
-    (asked : Asked) (store : Store) → MayJoin asked store graph cone state file
-    → GoesOnWith store graph grown cone.targets.items next state.plan after.plan (text_at graph.manifest.paths file) additions
+abbrev pub GoesOnBy : ℕ → List Addition → Graph → State → Graph → State → Type 0
+GoesOnBy file additions graph state grown after =
+    (asked : Asked) (store : Store) → MayJoin asked store graph state file
+    → GoesOnWith store graph grown state.cone.targets.items after.cone state.plan after.plan (text_at graph.manifest.paths file) additions
 
 -- or behind that
-abbrev pub GoesOnOver : Before → Graph → Cone → State → Graph → Cone → State → Type 0
-GoesOnOver before loaded cone state grown next after =
-    (asked : Asked) (store : Store) (graph : Graph) → (joining : IsJoining asked store graph loaded cone state before)
-    → GoesOnWith store graph grown cone.targets.items next state.plan after.plan (text_at graph.manifest.paths joining.file) joining.additions
+abbrev pub GoesOnOver : Before → Graph → State → Graph → State → Type 0
+GoesOnOver before loaded state grown after =
+    (asked : Asked) (store : Store) (graph : Graph) → (joining : IsJoining asked store graph loaded state before)
+    → GoesOnWith store graph grown state.cone.targets.items after.cone state.plan after.plan (text_at graph.manifest.paths joining.file) joining.additions
 
 -- a refusal has its cause in what the file says, over the graph as it was before the file joined,
-abbrev pub UnjoinedBy : ℕ → List Addition → Graph → Cone → State → Refusal → Type 0
-UnjoinedBy file additions graph cone state refusal =
-    (asked : Asked) (store : Store) → MayJoin asked store graph cone state file → IsUnjoined asked store (text_at graph.manifest.paths file) additions refusal
+abbrev pub UnjoinedBy : ℕ → List Addition → Graph → State → Refusal → Type 0
+UnjoinedBy file additions graph state refusal =
+    (asked : Asked) (store : Store) → MayJoin asked store graph state file → IsUnjoined asked store (text_at graph.manifest.paths file) additions refusal
 
 -- or behind that
-abbrev pub UnjoinedOver : Before → Graph → Cone → State → Refusal → Type 0
-UnjoinedOver before loaded cone state refusal =
-    (asked : Asked) (store : Store) (graph : Graph) → (joining : IsJoining asked store graph loaded cone state before)
+abbrev pub UnjoinedOver : Before → Graph → State → Refusal → Type 0
+UnjoinedOver before loaded state refusal =
+    (asked : Asked) (store : Store) (graph : Graph) → (joining : IsJoining asked store graph loaded state before)
     → IsUnjoined asked store (text_at graph.manifest.paths joining.file) joining.additions refusal
 
 -- of each graph that had its paths in front it is so
@@ -229,9 +231,10 @@ MayShrink graph old new =
     AreSamePlaces old new
     ⊎ OfShorter graph (λ was. (rs : List Record) (ds : List DepsRecord) → AreKnown was rs ds old → IsOf rs graph.manifest.paths new × IsOfDeps ds graph.manifest.paths new)
 
--- the logs, the stamps of starts and the failed edges are as before
+-- the logs, the file of ticks, the stamps of starts and the failed edges are as before
 pub record KeepsRest (old new : State) : Type 0 where
   pub logs : new.records.logs ≡ old.records.logs
+  pub tick : new.tick ≡ old.tick
   pub starts : new.starts.items ≡ old.starts.items
   pub failed : new.failed.items ≡ old.failed.items
 

@@ -5,7 +5,6 @@ use Rattle.model.specs.World.{World}
 use Rattle.model.specs.Graph.{edge_at}
 use Rattle.model.specs.Phases.{Phase}
 use Rattle.model.specs.Records.{Store}
-use Rattle.graph.specs.declared.cone.Cone.{Cone}
 use Rattle.graph.specs.declared.graph.Graph.{Graph}
 use Rattle.graph.specs.Links.{links_of}
 use Rattle.graph.specs.Told.{declared_by, recorded_by}
@@ -19,15 +18,15 @@ use Rattle.work.specs.Standing.{StandsAt, BeginsAt, IsAtNextLoad}
 -- the order of the cone names edges of the graph
 abbrev pub OrdersStand : Graph → Type 0
 OrdersStand graph =
-    (tells : Bool) (tick : List ℕ) (course : Course) (edges : List Edge) (phases : List Phase) (cone : Cone) (state : State) (now : World)
-    → StandsAt tells tick course edges phases graph cone state now → All (λ e. e < length graph.manifest.lines) cone.order.items
+    (tells : Bool) (course : Course) (edges : List Edge) (phases : List Phase) (state : State) (now : World)
+    → StandsAt tells course edges phases graph state now → All (λ e. e < length graph.manifest.lines) state.cone.order.items
 
 -- where a phase begins, and the plan says a file that no edge makes, the build stands at that load
 abbrev pub SourcesLoad : Type 0
 SourcesLoad =
-    (tells : Bool) (tick : List ℕ) (course : Course) (edges : List Edge) (phases : List Phase) (graph : Graph) (cone : Cone) (state : State) (now : World)
-    → BeginsAt tells tick course edges phases graph cone state now → (file : ℕ) → IsNext state.plan (Load file) → (links_of graph).maker file ≡ None
-    → IsAtNextLoad tells tick course edges phases graph cone state file now
+    (tells : Bool) (course : Course) (edges : List Edge) (phases : List Phase) (graph : Graph) (state : State) (now : World)
+    → BeginsAt tells course edges phases graph state now → (file : ℕ) → IsNext state.plan (Load file) → (links_of graph).maker file ≡ None
+    → IsAtNextLoad tells course edges phases graph state file now
 
 -- where they are those in use, a phony edge has none
 abbrev pub PhoniesRecordNone : Type 0

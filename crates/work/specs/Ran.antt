@@ -12,14 +12,13 @@ use Rattle.plan.specs.declared.step.End.TheVariants as ending
 use Rattle.plan.specs.declared.step.Step.TheVariants.{Ended as Over}
 use Rattle.plan.specs.Planned.{IsNextOf}
 use Rattle.work.specs.declared.cut.Cut.{Cut}
-use Rattle.work.specs.declared.setting.Setting.{Setting}
 use Rattle.work.specs.declared.state.State.{State}
 use Rattle.work.specs.declared.summary.Pause.{Pause}
 use Rattle.work.specs.declared.summary.Pause.TheVariants.{Load, Ended}
 use Rattle.work.specs.declared.summary.Summary.{Summary}
 use Rattle.work.specs.declared.summary.Summary.TheVariants.{Well, Failed}
 use Rattle.work.specs.declared.turn.Halt.{Halt}
-use Rattle.work.specs.Course.{Course, edges_of, IsSince}
+use Rattle.work.specs.Course.{Course, HasCone, edges_of, IsSince}
 use Rattle.work.specs.Going.{IsInHand, IsAtLoad, IsFinished, IsHalted, IsCut, From}
 use Rattle.work.specs.Removing.{AreRemoved}
 
@@ -51,10 +50,10 @@ abbrev pub AreEdgesOf : Graph → Summary → Type 0
 AreEdgesOf graph (Well started) = Unit {0}
 AreEdgesOf graph (Failed edges) = All (λ e. e < length graph.manifest.lines) edges.items
 
--- What a run leaves that went on: it stands before the next load, or has ended, or a fault has cut it off.
+-- What a run leaves that went on: it stands before the next load, or has ended, over the cone that the state has, or a fault has cut it off.
 abbrev pub HasPaused : Bool → Course → Graph → State → World → Result Pause Cut → Type 0
 HasPaused tells course graph state new (Ok (Load file)) = IsAtLoad tells course graph state file new
-HasPaused tells course graph state new (Ok (Ended summary)) = HasRun tells course new (Ok summary)
+HasPaused tells course graph state new (Ok (Ended summary)) = HasRun tells course new (Ok summary) × HasCone course.asked course.store graph state.cone
 HasPaused tells course graph state new (Err cut) = HasRun tells course new (Err cut)
 
 -- What a run leaves that a refused load has ended: all that ran was taken in, or a fault has cut it off.
@@ -63,12 +62,12 @@ HasFinished tells course graph state new (Ok done) = IsFinished tells course gra
 HasFinished tells course graph state new (Err cut) = HasRun tells course new (Err cut)
 
 -- of each course on which the run stood there, and went on, it has paused so,
-abbrev pub PausesSo : Bool → Setting → World → World → State → State → Result Pause Cut → Type 0
-PausesSo tells setting old new before after result = From tells true setting before old (λ course. HasPaused tells course setting.graph.now after new result)
+abbrev pub PausesSo : Bool → Graph → World → World → State → State → Result Pause Cut → Type 0
+PausesSo tells graph old new before after result = From tells true graph before old (λ course. HasPaused tells course graph after new result)
 
 -- or ended so after a refused load
-abbrev pub EndsSo : Bool → Setting → World → World → State → State → Result (Unit {0}) Cut → Type 0
-EndsSo tells setting old new before after result = From tells false setting before old (λ course. HasFinished tells course setting.graph.now after new result)
+abbrev pub EndsSo : Bool → Graph → World → World → State → State → Result (Unit {0}) Cut → Type 0
+EndsSo tells graph old new before after result = From tells false graph before old (λ course. HasFinished tells course graph after new result)
 
 -- what had cut a run off, whatever its course, its steps and the edge that met it, has cut it off still
 abbrev pub CutsStay : Bool → World → World → Type 0

@@ -1,5 +1,5 @@
 -- How a build stands that loads dyndep files on its way, and how it ends.
-use Rattle.std.specs.Prelude.{◌≡◌, ◌<◌, ◌++◌, ◌∷◌, ℕ, not, Bool, true, false, IsTrue, List, [], All, length, Option, Some, None, is_some, if◌then◌else◌, Result, Ok, Err}
+use Rattle.std.specs.Prelude.{◌≡◌, ◌<◌, ◌++◌, ◌∷◌, ℕ, not, Bool, true, false, IsTrue, List, [], length, Option, Some, None, is_some, if◌then◌else◌, Result, Ok, Err}
 use Rattle.std.specs.List.{sum_by}
 use Rattle.model.specs.declared.event.Moment.{Moment}
 use Rattle.model.specs.declared.fault.SiteFault.{SiteFault}
@@ -16,7 +16,7 @@ use Rattle.model.specs.SingleBuild as answer
 use Rattle.model.specs.SingleBuild.{Answer, HeldAt, IsAsked, IsNamedMissing, IsShownCycle, HasNoCycle, NamesOther, PassesNoFault, asked_with, declared_graph, task_of}
 use Rattle.theory.specs.Run.{IsRun}
 use Rattle.theory.specs.Seen.{IsSeen, Unrefused, StartsUnrefused}
-use Rattle.paths.specs.Told.{text_at, texts_at}
+use Rattle.paths.specs.Told.{text_at}
 use Rattle.graph.specs.declared.cone.Cone.{Cone}
 use Rattle.graph.specs.declared.graph.Graph.{Graph}
 use Rattle.graph.specs.Linked.{IsConeOf}
@@ -88,17 +88,14 @@ pub record IsUnstarted (tells : Bool) (course : Course) (graph : Graph) (state :
       → AreSeenOf (is_bound free) graph.manifest.paths now.history state.looks.seen.items
 
 -- A build of the course stands between two steps of its run: these are the edges now, and these phases ended with a load. The graph
--- has them, and the cone is that of what was asked for. Before the first start it has only looked.
-pub record StandsAt (tells : Bool) (tick : List ℕ) (course : Course) (edges : List Edge) (phases : List Phase) (graph : Graph) (cone : Cone) (state : State) (now : World) : Type 0 where
+-- has them. Before the first start it has only looked.
+pub record StandsAt (tells : Bool) (course : Course) (edges : List Edge) (phases : List Phase) (graph : Graph) (state : State) (now : World) : Type 0 where
   pub goes : goes_on course ≡ true
   pub dyndeps : ReadsDyndeps course.behaviour.dyndep
   pub others : (file : List ℕ) → NamesOther course.asked.declared file → ⊥
-  pub suits : Suits (grown_course course edges phases) tick graph
+  pub suits : Suits (grown_course course edges phases) graph
   pub on : IsOn tells (grown_course course edges phases) graph None state now
-  pub listed : IsConeOf edges (recorded_inputs course.store edges) (task_over course edges).targets cone.order.items cone.marks.items
   pub acyclic : HasNoCycle (asked_with course.asked edges) course.store
-  pub within : All (λ p. p < length graph.manifest.paths) cone.targets.items
-  pub numbers : texts_at graph.manifest.paths cone.targets.items ≡ (task_over course edges).targets
   pub unstarted : started_in on.steps ≡ [] → IsUnstarted tells course graph state now
 
 -- nothing was missing when each of these phases, and the present one, began, where nothing that is needed is free
@@ -115,8 +112,8 @@ HadAsked tells course edges phases last now =
     → WasNothingMissingIn course.own (task_over course edges) course.store course.entry.history now.history [] phases last
 
 -- a phase begins
-pub record BeginsAt (tells : Bool) (tick : List ℕ) (course : Course) (edges : List Edge) (phases : List Phase) (graph : Graph) (cone : Cone) (state : State) (now : World) : Type 0 where
-  pub stands : StandsAt tells tick course edges phases graph cone state now
+pub record BeginsAt (tells : Bool) (course : Course) (edges : List Edge) (phases : List Phase) (graph : Graph) (state : State) (now : World) : Type 0 where
+  pub stands : StandsAt tells course edges phases graph state now
   pub fresh : stands.on.carried.phased.build.last ≡ []
   pub asked : HadAsked tells course edges phases [] now
 
@@ -190,13 +187,13 @@ files_left edges = sum_by (λ e. if is_some e.dyndep then 1 else 0) edges
 -- ---- how a load ends
 
 -- The file was loaded: a phase begins behind it.
-abbrev pub HasBegun : Bool → List ℕ → Course → List Phase → Graph → Cone → State → World → Type 0
-HasBegun tells tick course phases graph cone state now =
-    (next : List Edge) × (last : Phase) × BeginsAt tells tick course next (phases ++ last ∷ []) graph cone state now
+abbrev pub HasBegun : Bool → Course → List Phase → Graph → State → World → Type 0
+HasBegun tells course phases graph state now =
+    (next : List Edge) × (last : Phase) × BeginsAt tells course next (phases ++ last ∷ []) graph state now
 
 -- The load was refused: the build stands where it stood, and the refusal has its cause.
-pub record IsStopped (tells : Bool) (tick : List ℕ) (course : Course) (edges : List Edge) (phases : List Phase) (graph : Graph) (cone : Cone) (state : State) (now : World) (refusal : Refusal) : Type 0 where
-  pub stands : StandsAt tells tick course edges phases graph cone state now
+pub record IsStopped (tells : Bool) (course : Course) (edges : List Edge) (phases : List Phase) (graph : Graph) (state : State) (now : World) (refusal : Refusal) : Type 0 where
+  pub stands : StandsAt tells course edges phases graph state now
   pub cause : IsRefusedBy tells course edges phases stands.on.steps now refusal
 
 -- A fault has cut it off where it stood, over these edges.
@@ -211,20 +208,20 @@ pub record IsCutThere (tells : Bool) (course : Course) (edges : List Edge) (stat
 -- ---- where a run halts
 
 -- This file is loaded next, and nothing was missing when each phase began.
-pub record IsAtNextLoad (tells : Bool) (tick : List ℕ) (course : Course) (edges : List Edge) (phases : List Phase) (graph : Graph) (cone : Cone) (state : State) (file : ℕ) (now : World) : Type 0 where
-  pub stands : StandsAt tells tick course edges phases graph cone state now
+pub record IsAtNextLoad (tells : Bool) (course : Course) (edges : List Edge) (phases : List Phase) (graph : Graph) (state : State) (file : ℕ) (now : World) : Type 0 where
+  pub stands : StandsAt tells course edges phases graph state now
   pub next : IsLoadNext course edges graph state stands.on.steps file
   pub asked : HasAsked tells course edges phases now
 
 -- The sources were asked for, and none is missing.
-pub record HasSourcesAt (tells : Bool) (tick : List ℕ) (course : Course) (edges : List Edge) (phases : List Phase) (graph : Graph) (cone : Cone) (state : State) (now : World) : Type 0 where
-  pub stands : StandsAt tells tick course edges phases graph cone state now
+pub record HasSourcesAt (tells : Bool) (course : Course) (edges : List Edge) (phases : List Phase) (graph : Graph) (state : State) (now : World) : Type 0 where
+  pub stands : StandsAt tells course edges phases graph state now
   pub asked : HasAsked tells course edges phases now
 
 -- The build is refused where it stands; nothing was missing when the phases began that have steps.
-pub record IsRefusedAt (tells : Bool) (tick : List ℕ) (course : Course) (grown : List Edge) (graph : Graph) (cone : Cone) (state : State) (now : World) (refusal : Refusal) : Type 0 where
+pub record IsRefusedAt (tells : Bool) (course : Course) (grown : List Edge) (graph : Graph) (state : State) (now : World) (refusal : Refusal) : Type 0 where
   pub phases : List Phase
-  pub stopped : IsStopped tells tick course grown phases graph cone state now refusal
+  pub stopped : IsStopped tells course grown phases graph state now refusal
   pub asked : HadAsked tells course grown phases stopped.stands.on.carried.phased.build.last now
 
 -- whatever steps were done by a plan, no file that no edge makes is to be loaded
@@ -305,117 +302,108 @@ HasEndedSo tells course grown graph cone now (Err (stop.Refused refusal)) = HasS
 HasEndedSo tells course grown graph cone now (Err (stop.Fault fault)) = WasCut tells course grown now fault
 
 -- Where a stop comes about: it is refused where it stands, or a fault cuts it off, before what runs is taken in,
-abbrev pub StoppedThere : Bool → List ℕ → Course → List Edge → Graph → Cone → State → World → Stop → Type 0
-StoppedThere tells tick course grown graph cone state now (stop.Refused refusal) = IsRefusedAt tells tick course grown graph cone state now refusal
-StoppedThere tells tick course grown graph cone state now (stop.Fault fault) = IsCutThere tells course grown state now
+abbrev pub StoppedThere : Bool → Course → List Edge → Graph → State → World → Stop → Type 0
+StoppedThere tells course grown graph state now (stop.Refused refusal) = IsRefusedAt tells course grown graph state now refusal
+StoppedThere tells course grown graph state now (stop.Fault fault) = IsCutThere tells course grown state now
 
 -- and behind that.
-abbrev pub HasHalted : Bool → List ℕ → Course → List Edge → Graph → Cone → State → World → Stop → Type 0
-HasHalted tells tick course grown graph cone state now (stop.Refused refusal) = IsRefusedAt tells tick course grown graph cone state now refusal
-HasHalted tells tick course grown graph cone state now (stop.Fault fault) = WasCut tells course grown now fault
+abbrev pub HasHalted : Bool → Course → List Edge → Graph → State → World → Stop → Type 0
+HasHalted tells course grown graph state now (stop.Refused refusal) = IsRefusedAt tells course grown graph state now refusal
+HasHalted tells course grown graph state now (stop.Fault fault) = WasCut tells course grown now fault
 
 -- ---- what a load leaves
 
 -- this file is to be loaded next by some build, whatever was asked for
-abbrev pub IsToLoad : Bool → Graph → Cone → State → ℕ → World → Type 0
-IsToLoad tells graph cone state file now =
-    (tick : List ℕ) × (course : Course) × (edges : List Edge) × (phases : List Phase)
-    × (stands : StandsAt tells tick course edges phases graph cone state now) × IsLoadNext course edges graph state stands.on.steps file
+abbrev pub IsToLoad : Bool → Graph → State → ℕ → World → Type 0
+IsToLoad tells graph state file now =
+    (course : Course) × (edges : List Edge) × (phases : List Phase)
+    × (stands : StandsAt tells course edges phases graph state now) × IsLoadNext course edges graph state stands.on.steps file
 
 -- this file is loaded next by some build
-abbrev pub IsLoading : Bool → Graph → Cone → State → ℕ → World → Type 0
-IsLoading tells graph cone state file now =
-    (tick : List ℕ) × (course : Course) × (edges : List Edge) × (phases : List Phase) × IsAtNextLoad tells tick course edges phases graph cone state file now
+abbrev pub IsLoading : Bool → Graph → State → ℕ → World → Type 0
+IsLoading tells graph state file now =
+    (course : Course) × (edges : List Edge) × (phases : List Phase) × IsAtNextLoad tells course edges phases graph state file now
 
 -- of each such build a phase begins,
-abbrev pub Loads : Bool → ℕ → Graph → Cone → State → World → Graph → Cone → State → World → Type 0
-Loads tells file graph cone state old grown next after new =
-    (tick : List ℕ) (course : Course) (edges : List Edge) (phases : List Phase) → IsAtNextLoad tells tick course edges phases graph cone state file old
-    → HasBegun tells tick course phases grown next after new
+abbrev pub Loads : Bool → ℕ → Graph → State → World → Graph → State → World → Type 0
+Loads tells file graph state old grown after new =
+    (course : Course) (edges : List Edge) (phases : List Phase) → IsAtNextLoad tells course edges phases graph state file old
+    → HasBegun tells course phases grown after new
 
 -- or each that is to load it stands where it stood, and the refusal has its cause,
-abbrev pub RefusesAt : Bool → ℕ → Graph → Cone → State → World → Graph → Cone → State → World → Refusal → Type 0
-RefusesAt tells file graph cone state old grown next after new refusal =
-    (tick : List ℕ) (course : Course) (edges : List Edge) (phases : List Phase) → (stands : StandsAt tells tick course edges phases graph cone state old)
-    → IsLoadNext course edges graph state stands.on.steps file → IsStopped tells tick course edges phases grown next after new refusal
+abbrev pub RefusesAt : Bool → ℕ → Graph → State → World → Graph → State → World → Refusal → Type 0
+RefusesAt tells file graph state old grown after new refusal =
+    (course : Course) (edges : List Edge) (phases : List Phase) → (stands : StandsAt tells course edges phases graph state old)
+    → IsLoadNext course edges graph state stands.on.steps file → IsStopped tells course edges phases grown after new refusal
 
 -- or it is stopped, before what runs is taken in,
-abbrev pub StopsAt : Bool → ℕ → Graph → Cone → State → World → Graph → Cone → State → World → Stop → Type 0
-StopsAt tells file graph cone state old grown next after new stop =
-    (tick : List ℕ) (course : Course) (edges : List Edge) (phases : List Phase) → IsAtNextLoad tells tick course edges phases graph cone state file old
-    → StoppedThere tells tick course (declared_by grown).edges grown next after new stop
+abbrev pub StopsAt : Bool → ℕ → Graph → State → World → Graph → State → World → Stop → Type 0
+StopsAt tells file graph state old grown after new stop =
+    (course : Course) (edges : List Edge) (phases : List Phase) → IsAtNextLoad tells course edges phases graph state file old
+    → StoppedThere tells course (declared_by grown).edges grown after new stop
 
 -- and behind that
-abbrev pub HaltsAt : Bool → ℕ → Graph → Cone → State → World → Graph → Cone → State → World → Stop → Type 0
-HaltsAt tells file graph cone state old grown next after new stop =
-    (tick : List ℕ) (course : Course) (edges : List Edge) (phases : List Phase) → IsAtNextLoad tells tick course edges phases graph cone state file old
-    → HasHalted tells tick course (declared_by grown).edges grown next after new stop
+abbrev pub HaltsAt : Bool → ℕ → Graph → State → World → Graph → State → World → Stop → Type 0
+HaltsAt tells file graph state old grown after new stop =
+    (course : Course) (edges : List Edge) (phases : List Phase) → IsAtNextLoad tells course edges phases graph state file old
+    → HasHalted tells course (declared_by grown).edges grown after new stop
 
 -- a run waits for a load, or has ended
-abbrev pub HasPausedSo : Bool → List ℕ → Course → List Edge → List Phase → Graph → Cone → State → World → Pause → Type 0
-HasPausedSo tells tick course edges phases graph cone state now (pause.Load file) = IsAtNextLoad tells tick course edges phases graph cone state file now
-HasPausedSo tells tick course edges phases graph cone state now (pause.Ended summary) = HasDone tells course edges graph cone now summary
+abbrev pub HasPausedSo : Bool → Course → List Edge → List Phase → Graph → State → World → Pause → Type 0
+HasPausedSo tells course edges phases graph state now (pause.Load file) = IsAtNextLoad tells course edges phases graph state file now
+HasPausedSo tells course edges phases graph state now (pause.Ended summary) = HasDone tells course edges graph state.cone now summary
 
 -- ---- what a run leaves that begins with a phase
 
 -- a phase begins of some build
-abbrev pub IsBeginning : Bool → List ℕ → Graph → Cone → State → World → Type 0
-IsBeginning tells tick graph cone state now = (course : Course) × (edges : List Edge) × (phases : List Phase) × BeginsAt tells tick course edges phases graph cone state now
+abbrev pub IsBeginning : Bool → Graph → State → World → Type 0
+IsBeginning tells graph state now = (course : Course) × (edges : List Edge) × (phases : List Phase) × BeginsAt tells course edges phases graph state now
 
 -- each such build has ended so, over the edges that the graph has then,
-abbrev pub EndsFrom : Bool → List ℕ → Graph → Cone → State → World → Graph → Cone → World → Result Summary Stop → Type 0
-EndsFrom tells tick graph cone state old grown next new result =
-    (course : Course) (edges : List Edge) (phases : List Phase) → BeginsAt tells tick course edges phases graph cone state old → HasEndedSo tells course (declared_by grown).edges grown next new result
+abbrev pub EndsFrom : Bool → Graph → State → World → Graph → State → World → Result Summary Stop → Type 0
+EndsFrom tells graph state old grown after new result =
+    (course : Course) (edges : List Edge) (phases : List Phase) → BeginsAt tells course edges phases graph state old → HasEndedSo tells course (declared_by grown).edges grown after.cone new result
 
 -- or nothing is left to do,
-abbrev pub DoneFrom : Bool → List ℕ → Graph → Cone → State → World → Graph → Cone → World → Summary → Type 0
-DoneFrom tells tick graph cone state old grown next new summary =
-    (course : Course) (edges : List Edge) (phases : List Phase) → BeginsAt tells tick course edges phases graph cone state old → HasDone tells course (declared_by grown).edges grown next new summary
+abbrev pub DoneFrom : Bool → Graph → State → World → Graph → State → World → Summary → Type 0
+DoneFrom tells graph state old grown after new summary =
+    (course : Course) (edges : List Edge) (phases : List Phase) → BeginsAt tells course edges phases graph state old → HasDone tells course (declared_by grown).edges grown after.cone new summary
 
 -- or it has halted
-abbrev pub HaltsFrom : Bool → List ℕ → Graph → Cone → State → World → Graph → Cone → State → World → Stop → Type 0
-HaltsFrom tells tick graph cone state old grown next after new stop =
-    (course : Course) (edges : List Edge) (phases : List Phase) → BeginsAt tells tick course edges phases graph cone state old → HasHalted tells tick course (declared_by grown).edges grown next after new stop
+abbrev pub HaltsFrom : Bool → Graph → State → World → Graph → State → World → Stop → Type 0
+HaltsFrom tells graph state old grown after new stop =
+    (course : Course) (edges : List Edge) (phases : List Phase) → BeginsAt tells course edges phases graph state old → HasHalted tells course (declared_by grown).edges grown after new stop
 
 -- it pauses so,
-abbrev pub PausesFrom : Bool → List ℕ → Graph → Cone → State → World → State → World → Pause → Type 0
-PausesFrom tells tick graph cone state old after new pause =
-    (course : Course) (edges : List Edge) (phases : List Phase) → BeginsAt tells tick course edges phases graph cone state old → HasPausedSo tells tick course edges phases graph cone after new pause
+abbrev pub PausesFrom : Bool → Graph → State → World → State → World → Pause → Type 0
+PausesFrom tells graph state old after new pause =
+    (course : Course) (edges : List Edge) (phases : List Phase) → BeginsAt tells course edges phases graph state old → HasPausedSo tells course edges phases graph after new pause
 
 -- or has halted, over the same edges
-abbrev pub HaltsOver : Bool → List ℕ → Graph → Cone → State → World → State → World → Stop → Type 0
-HaltsOver tells tick graph cone state old after new stop =
-    (course : Course) (edges : List Edge) (phases : List Phase) → BeginsAt tells tick course edges phases graph cone state old → HasHalted tells tick course edges graph cone after new stop
+abbrev pub HaltsOver : Bool → Graph → State → World → State → World → Stop → Type 0
+HaltsOver tells graph state old after new stop =
+    (course : Course) (edges : List Edge) (phases : List Phase) → BeginsAt tells course edges phases graph state old → HasHalted tells course edges graph after new stop
 
--- a phase begins of some build, whatever its ticks,
-abbrev pub IsBeginningBy : Bool → Graph → Cone → State → World → Type 0
-IsBeginningBy tells graph cone state now = (tick : List ℕ) × (course : Course) × (edges : List Edge) × (phases : List Phase) × BeginsAt tells tick course edges phases graph cone state now
-
--- and of each such build the sources were asked for,
-abbrev pub AsksFrom : Bool → Graph → Cone → State → World → State → World → Type 0
-AsksFrom tells graph cone state old after new =
-    (tick : List ℕ) (course : Course) (edges : List Edge) (phases : List Phase) → BeginsAt tells tick course edges phases graph cone state old → HasSourcesAt tells tick course edges phases graph cone after new
-
--- or it has halted
-abbrev pub HaltsAsking : Bool → Graph → Cone → State → World → State → World → Stop → Type 0
-HaltsAsking tells graph cone state old after new stop =
-    (tick : List ℕ) (course : Course) (edges : List Edge) (phases : List Phase) → BeginsAt tells tick course edges phases graph cone state old → HasHalted tells tick course edges graph cone after new stop
+-- and of each such build the sources were asked for
+abbrev pub AsksFrom : Bool → Graph → State → World → State → World → Type 0
+AsksFrom tells graph state old after new =
+    (course : Course) (edges : List Edge) (phases : List Phase) → BeginsAt tells course edges phases graph state old → HasSourcesAt tells course edges phases graph after new
 
 -- ---- behind a stop
 
 -- wherever a build with this plan was stopped, it has halted so
 abbrev pub HaltsBehind : Bool → Plan → World → World → Stop → Stop → Type 0
 HaltsBehind tells plan old new first last =
-    (tick : List ℕ) (course : Course) (grown : List Edge) (graph : Graph) (cone : Cone) (state : State) → state.plan ≡ plan → StoppedThere tells tick course grown graph cone state old first → HasHalted tells tick course grown graph cone state new last
+    (course : Course) (grown : List Edge) (graph : Graph) (state : State) → state.plan ≡ plan → StoppedThere tells course grown graph state old first → HasHalted tells course grown graph state new last
 
 -- it is refused where some build stands
-abbrev pub IsRefusedOf : Bool → List ℕ → Graph → State → World → Refusal → Type 0
-IsRefusedOf tells tick graph state now refusal = (course : Course) × (grown : List Edge) × (cone : Cone) × IsRefusedAt tells tick course grown graph cone state now refusal
+abbrev pub IsRefusedOf : Bool → Graph → State → World → Refusal → Type 0
+IsRefusedOf tells graph state now refusal = (course : Course) × (grown : List Edge) × IsRefusedAt tells course grown graph state now refusal
 
 -- each build that has halted there has ended so
-abbrev pub EndsHalted : Bool → List ℕ → Graph → State → World → World → Stop → Stop → Type 0
-EndsHalted tells tick graph state old new first last =
-    (course : Course) (grown : List Edge) (cone : Cone) → HasHalted tells tick course grown graph cone state old first → HasEndedSo tells course grown graph cone new (Err last)
+abbrev pub EndsHalted : Bool → Graph → State → World → World → Stop → Stop → Type 0
+EndsHalted tells graph state old new first last =
+    (course : Course) (grown : List Edge) (cone : Cone) → HasHalted tells course grown graph state old first → HasEndedSo tells course grown graph cone new (Err last)
 
 -- what it answers, as far as faults go
 abbrev pub stop_answer : Result Summary Stop → Answer

@@ -11,7 +11,6 @@ use Rattle.work.specs.Course.{Course, edges_of, goes_on, Suits, IsOn}
 use Rattle.work.specs.Going.{IsCut}
 use Rattle.work.specs.Telling.{WentWell}
 use Rattle.work.specs.declared.reported.Told.{Told}
-use Rattle.work.specs.declared.setting.Setting.{Setting}
 use Rattle.work.specs.declared.state.State.{State}
 
 -- the run goes on, the edge may be started, and none of its outputs has a record in force any more
@@ -23,20 +22,20 @@ pub record IsBegun (tells : Bool) (course : Course) (graph : Graph) (i : ℕ) (s
   pub begun : HasNoRecord tells course.format course.own (edges_of course) i course.entry now
 
 -- so it is of some course, of the edge at this place
-pub record IsBegunOf (tells : Bool) (tick : List ℕ) (graph : Graph) (edge : ℕ) (state : State) (now : World) : Type 0 where
+pub record IsBegunOf (tells : Bool) (graph : Graph) (edge : ℕ) (state : State) (now : World) : Type 0 where
   pub course : Course
-  pub suits : Suits course tick graph
+  pub suits : Suits course graph
   pub begun : IsBegun tells course graph (suc edge) state now
 
 -- of each such course the run goes on once the command is started,
-abbrev pub LaunchesOn : Bool → Setting → ℕ → World → World → State → State → Type 0
-LaunchesOn tells setting edge old new before after =
-    (course : Course) → Suits course setting.tick.now setting.graph.now → IsBegun tells course setting.graph.now (suc edge) before old → IsOn tells course setting.graph.now None after new
+abbrev pub LaunchesOn : Bool → Graph → ℕ → World → World → State → State → Type 0
+LaunchesOn tells graph edge old new before after =
+    (course : Course) → Suits course graph → IsBegun tells course graph (suc edge) before old → IsOn tells course graph None after new
 
 -- or a fault has cut it off
-abbrev pub CutsLaunch : Bool → Setting → ℕ → World → World → State → State → Type 0
-CutsLaunch tells setting edge old new before after =
-    (course : Course) → Suits course setting.tick.now setting.graph.now → IsBegun tells course setting.graph.now (suc edge) before old → IsCut tells course setting.graph.now after.plan new
+abbrev pub CutsLaunch : Bool → Graph → ℕ → World → World → State → State → Type 0
+CutsLaunch tells graph edge old new before after =
+    (course : Course) → Suits course graph → IsBegun tells course graph (suc edge) before old → IsCut tells course graph after.plan new
 
 -- an edge whose command ended well is in hand until that is recorded
 abbrev pub in_hand_after : ℕ → Bool → Option ℕ
@@ -59,27 +58,27 @@ pub record MayBeDone (tells : Bool) (course : Course) (graph : Graph) (i stamp :
 -- ---- what is left of it
 
 -- its command was taken in, of some course
-abbrev pub IsTakenInOf : Bool → List ℕ → Graph → ℕ → ℕ → Bool → Told → State → World → Type 0
-IsTakenInOf tells tick graph edge stamp ok told state now = (course : Course) × Suits course tick graph × IsTakenIn tells course graph (suc edge) stamp ok told state now
+abbrev pub IsTakenInOf : Bool → Graph → ℕ → ℕ → Bool → Told → State → World → Type 0
+IsTakenInOf tells graph edge stamp ok told state now = (course : Course) × Suits course graph × IsTakenIn tells course graph (suc edge) stamp ok told state now
 
 -- of each such course, by the stamp that is noted for the edge, the run goes on once that is recorded,
-abbrev pub RecordsOn : Bool → Setting → ℕ → Bool → Told → World → World → State → State → Type 0
-RecordsOn tells setting edge ok told old new before after =
-    (course : Course) → Suits course setting.tick.now setting.graph.now → IsTakenIn tells course setting.graph.now (suc edge) (get_or before.starts.items edge 0) ok told before old
-    → IsOn tells course setting.graph.now None after new
+abbrev pub RecordsOn : Bool → Graph → ℕ → Bool → Told → World → World → State → State → Type 0
+RecordsOn tells graph edge ok told old new before after =
+    (course : Course) → Suits course graph → IsTakenIn tells course graph (suc edge) (get_or before.starts.items edge 0) ok told before old
+    → IsOn tells course graph None after new
 
 -- or a fault has cut it off
-abbrev pub CutsRecord : Bool → Setting → ℕ → Bool → Told → World → World → State → State → Type 0
-CutsRecord tells setting edge ok told old new before after =
-    (course : Course) → Suits course setting.tick.now setting.graph.now → IsTakenIn tells course setting.graph.now (suc edge) (get_or before.starts.items edge 0) ok told before old
-    → IsCut tells course setting.graph.now after.plan new
+abbrev pub CutsRecord : Bool → Graph → ℕ → Bool → Told → World → World → State → State → Type 0
+CutsRecord tells graph edge ok told old new before after =
+    (course : Course) → Suits course graph → IsTakenIn tells course graph (suc edge) (get_or before.starts.items edge 0) ok told before old
+    → IsCut tells course graph after.plan new
 
 -- where it ended well, it may be recorded that it is done once what it told is,
-abbrev pub MayBeDoneThen : Bool → Setting → ℕ → ℕ → Told → World → World → State → State → Type 0
-MayBeDoneThen tells setting edge stamp told old new before after =
-    (course : Course) → Suits course setting.tick.now setting.graph.now → IsTakenIn tells course setting.graph.now (suc edge) stamp true told before old → MayBeDone tells course setting.graph.now (suc edge) stamp after new
+abbrev pub MayBeDoneThen : Bool → Graph → ℕ → ℕ → Told → World → World → State → State → Type 0
+MayBeDoneThen tells graph edge stamp told old new before after =
+    (course : Course) → Suits course graph → IsTakenIn tells course graph (suc edge) stamp true told before old → MayBeDone tells course graph (suc edge) stamp after new
 
 -- or a fault has cut the run off
-abbrev pub CutsTelling : Bool → Setting → ℕ → ℕ → Told → World → World → State → State → Type 0
-CutsTelling tells setting edge stamp told old new before after =
-    (course : Course) → Suits course setting.tick.now setting.graph.now → IsTakenIn tells course setting.graph.now (suc edge) stamp true told before old → IsCut tells course setting.graph.now after.plan new
+abbrev pub CutsTelling : Bool → Graph → ℕ → ℕ → Told → World → World → State → State → Type 0
+CutsTelling tells graph edge stamp told old new before after =
+    (course : Course) → Suits course graph → IsTakenIn tells course graph (suc edge) stamp true told before old → IsCut tells course graph after.plan new

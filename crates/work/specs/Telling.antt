@@ -21,7 +21,6 @@ use Rattle.work.specs.Going.{MayTakeIn, IsCut}
 use Rattle.work.specs.Removing.{EndsByRemoving}
 use Rattle.work.specs.declared.reported.Told.{Told}
 use Rattle.work.specs.declared.reported.Told.TheVariants.{Nothing, Inputs, Refused}
-use Rattle.work.specs.declared.setting.Setting.{Setting}
 use Rattle.work.specs.declared.state.State.{State}
 
 -- ---- what is read
@@ -67,18 +66,18 @@ pub record IsEnding (tells : Bool) (course : Course) (graph : Graph) (i : ℕ) (
   pub read : WasRead tells (edge_at (edges_of course) i).act ok mid now told
 
 -- so it is of some course, of the edge at this place
-abbrev pub IsEndingOf : Bool → List ℕ → Graph → ℕ → Bool → Told → State → World → Type 0
-IsEndingOf tells tick graph edge ok told state now = (course : Course) × Suits course tick graph × IsEnding tells course graph (suc edge) ok told state now
+abbrev pub IsEndingOf : Bool → Graph → ℕ → Bool → Told → State → World → Type 0
+IsEndingOf tells graph edge ok told state now = (course : Course) × Suits course graph × IsEnding tells course graph (suc edge) ok told state now
 
 -- of each such course the run goes on,
-abbrev pub EndsOn : Bool → Setting → ℕ → Bool → Told → World → World → State → State → Type 0
-EndsOn tells setting edge ok told old new before after =
-    (course : Course) → Suits course setting.tick.now setting.graph.now → IsEnding tells course setting.graph.now (suc edge) ok told before old → IsOn tells course setting.graph.now None after new
+abbrev pub EndsOn : Bool → Graph → ℕ → Bool → Told → World → World → State → State → Type 0
+EndsOn tells graph edge ok told old new before after =
+    (course : Course) → Suits course graph → IsEnding tells course graph (suc edge) ok told before old → IsOn tells course graph None after new
 
 -- or a fault has cut it off
-abbrev pub CutsEnd : Bool → Setting → ℕ → Bool → Told → World → World → State → State → Type 0
-CutsEnd tells setting edge ok told old new before after =
-    (course : Course) → Suits course setting.tick.now setting.graph.now → IsEnding tells course setting.graph.now (suc edge) ok told before old → IsCut tells course setting.graph.now after.plan new
+abbrev pub CutsEnd : Bool → Graph → ℕ → Bool → Told → World → World → State → State → Type 0
+CutsEnd tells graph edge ok told old new before after =
+    (course : Course) → Suits course graph → IsEnding tells course graph (suc edge) ok told before old → IsCut tells course graph after.plan new
 
 -- ---- what is to be recorded
 

@@ -12,47 +12,43 @@ ghost use Rattle.work.specs.Ran.{EndsSo};
 
 use crate::cut::Cut;
 use crate::rest::take_in_rest;
-use crate::setting::Setting;
 use crate::state::State;
 use crate::taken::take_in;
+use graph::Graph;
 use site::Site;
 
 /// Ends a run whose next load was refused, or behind whose last load a source is missing: what runs is taken in, and each command is
 /// recorded and shown as in a run that goes on; nothing is judged or started. A fault is answered as by `run_plan`.
-pub fn finish<S: Site>(site: &mut S, setting: Setting<'_>, state: &mut State<'_>) -> Result<(), Cut>
+pub fn finish<S: Site>(site: &mut S, graph: &Graph, state: &mut State<'_>) -> Result<(), Cut>
     requires running { (S.world site.old).stopped ≡ false }
-    requires going { IsGoing S.tells false setting.tick.now setting.graph.now state.old (S.world site.old) }
-    ensures ran { EndsSo S.tells setting.entry (S.world site.old) (S.world site.new) state.old state.new result }
+    requires going { IsGoing S.tells false graph.now state.old (S.world site.old) }
+    ensures ran { EndsSo S.tells graph.now (S.world site.old) (S.world site.new) state.old state.new result }
     ensures grows { ComesAfter S.tells (S.world site.old) (S.world site.new) }
-    ensures looked { OnOk result (LooksUnlessMore S.tells setting.entry.graph.now (S.world site.old) (S.world site.new) state.old.looks state.new.looks) }
+    ensures looked { OnOk result (LooksUnlessMore S.tells graph.now (S.world site.old) (S.world site.new) state.old.looks state.new.looks) }
     ensures calm { IfOk result (λ done. Unrefused (S.world site.old) (S.world site.new)) }
     ensures starts { StartsUnrefused (S.world site.old) (S.world site.new) }
     ensures seen { IfErr result (λ cut. IsSeen (S.world site.old) (S.world site.new) (fault_of cut)) }
     ensures faults { IfErr result (λ cut. PassesNoFault (S.world site.old) (S.world site.new) (answer.Fault (fault_of cut))) }
     ensures left { IfErr result (IsLeft (S.world site.new)) }
 {
-    match take_in_running(site, setting, state) {
+    match take_in_running(site, graph, state) {
         Ok(()) => Ok(()),
         Err(cut) => Err(take_in_rest(site, state.plan.running(), cut)),
     }
 }
 
 /// Takes in commands, records and shows them, until none runs.
-fn take_in_running<S: Site>(
-    site: &mut S,
-    setting: Setting<'_>,
-    state: &mut State<'_>,
-) -> Result<(), Cut>
+fn take_in_running<S: Site>(site: &mut S, graph: &Graph, state: &mut State<'_>) -> Result<(), Cut>
     requires running { (S.world site.old).stopped ≡ false }
-    requires going { IsGoing S.tells false setting.tick.now setting.graph.now state.old (S.world site.old) }
+    requires going { IsGoing S.tells false graph.now state.old (S.world site.old) }
     ensures cuts { Cuts (S.world site.old) (S.world site.new) result }
     ensures grows { ComesAfter S.tells (S.world site.old) (S.world site.new) }
-    ensures looked { OnOk result (LooksUnlessMore S.tells setting.entry.graph.now (S.world site.old) (S.world site.new) state.old.looks state.new.looks) }
-    ensures finished { OnOk result (TakesAllIn S.tells setting.entry (S.world site.old) (S.world site.new) state.old state.new) }
-    ensures cut { OnErr result (CutsTaking S.tells setting.entry (S.world site.old) (S.world site.new) state.old state.new) }
+    ensures looked { OnOk result (LooksUnlessMore S.tells graph.now (S.world site.old) (S.world site.new) state.old.looks state.new.looks) }
+    ensures finished { OnOk result (TakesAllIn S.tells graph.now (S.world site.old) (S.world site.new) state.old state.new) }
+    ensures cut { OnErr result (CutsTaking S.tells graph.now (S.world site.old) (S.world site.new) state.old state.new) }
 {
     'run: while state.plan.running() > 0 {
-        take_in(site, setting, state)?;
+        take_in(site, graph, state)?;
     }
     Ok(())
 }

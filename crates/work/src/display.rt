@@ -91,6 +91,11 @@ impl<'a> Display<'a> {
         }
     }
 
+    /// With what its texts are made.
+    pub fn alloc(&self) -> Global {
+        self.alloc
+    }
+
     /// So many commands are still to be started now, since a dyndep file was loaded.
     pub fn recount(&mut self, unstarted: usize)
         ensures { self.new ≡ with_unstarted self.old unstarted }

@@ -10,9 +10,8 @@ ghost use Rattle.judge.specs.Summed.{AreSums};
 ghost use Rattle.work.specs.Going.{IsGoing, GoesOn, work_left};
 
 use crate::outputs::ask_before;
-use crate::setting::Setting;
 use crate::state::State;
-use graph::lists_stand;
+use graph::{Graph, lists_stand};
 use judge::{Sums, looks_follow, reason, sums_follow};
 use model::{Reason, SiteFault};
 use paths::EdgeId;
@@ -23,34 +22,34 @@ use site::Site;
 /// Judges an edge by the files as they are now and by the records of the entry.
 pub fn judge<S: Site>(
     site: &mut S,
-    setting: Setting<'_>,
+    graph: &Graph,
     state: &mut State<'_>,
     sums: &mut Sums,
     edge: EdgeId,
 ) -> Result<(), SiteFault>
     requires running { (S.world site.old).stopped ≡ false }
-    requires going { IsGoing S.tells true setting.tick.now setting.graph.now state.old (S.world site.old) }
+    requires going { IsGoing S.tells true graph.now state.old (S.world site.old) }
     requires next { IsNext state.old.plan (step.Judge edge) }
-    requires summed { AreSums setting.graph.now state.old.plan.changed.items state.old.looks.seen.items sums.old }
-    requires marked { AreMarked setting.graph.now state.old.plan.changed.items state.old.looks.seen.items sums.old }
-    ensures looked { HasLooked S.tells setting.entry.graph.now (S.world site.old) (S.world site.new) state.old.looks state.new.looks }
+    requires summed { AreSums graph.now state.old.plan.changed.items state.old.looks.seen.items sums.old }
+    requires marked { AreMarked graph.now state.old.plan.changed.items state.old.looks.seen.items sums.old }
+    ensures looked { HasLooked S.tells graph.now (S.world site.old) (S.world site.new) state.old.looks state.new.looks }
     ensures cause { HasCause (S.world site.old) (S.world site.new) result }
     ensures nearer { OnOk result (work_left state.new.plan.standings.items < work_left state.old.plan.standings.items) }
-    ensures on { OnOk result (GoesOn S.tells setting.entry (S.world site.old) (S.world site.new) state.old state.new) }
-    ensures summed { AreSums setting.entry.graph.now state.new.plan.changed.items state.new.looks.seen.items sums.new }
-    ensures marked { AreMarked setting.entry.graph.now state.new.plan.changed.items state.new.looks.seen.items sums.new }
+    ensures on { OnOk result (GoesOn S.tells graph.now (S.world site.old) (S.world site.new) state.old state.new) }
+    ensures summed { AreSums graph.now state.new.plan.changed.items state.new.looks.seen.items sums.new }
+    ensures marked { AreMarked graph.now state.new.plan.changed.items state.new.looks.seen.items sums.new }
     ensures plan { OnErr result (state.new.plan ≡ state.old.plan) }
 {
-    lists_stand(setting.graph);
+    lists_stand(graph);
     log_stays();
     looks_follow();
     sums_follow();
-    ask_before(site, setting, &mut state.looks, edge)?;
+    ask_before(site, graph, &mut state.looks, edge)?;
     let plan = &state.plan;
     let reason = reason(
-        setting.alloc,
+        state.alloc,
         site,
-        setting.graph,
+        graph,
         &mut state.looks,
         sums,
         &state.records,
@@ -58,7 +57,7 @@ pub fn judge<S: Site>(
         edge,
     )?;
     let verdict = verdict_of(reason);
-    state.plan.judged(setting.graph, edge, verdict);
+    state.plan.judged(graph, edge, verdict);
     state
         .display
         .judged(was_due(&state.due, edge), reason.is_some());

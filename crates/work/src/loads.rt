@@ -34,33 +34,31 @@ use std::alloc::{AllocError, Global};
 use text::{Items, Path};
 
 /// Loads the dyndep file, which is to be loaded next: what it says joins the graph, with the recorded inputs of the edges that name
-/// it, and the run goes on over that. `cone` becomes the cone of the same targets over it. Commands may run meanwhile.
+/// it, and the run goes on over that. The cone becomes that of the same targets over it. Commands may run meanwhile.
 ///
 /// Where it is refused, or what it adds is, and after a fault, all is as before, but for how the records are kept.
 pub fn load<S: Site>(
-    alloc: Global,
     site: &mut S,
     graph: &mut Graph,
-    cone: &mut Cone,
     state: &mut State<'_>,
     file: PathId,
 ) -> Result<(), Stop>
     requires running { (S.world site.old).stopped ≡ false }
-    requires at { IsToLoad S.tells graph.old cone.old state.old file (S.world site.old) }
+    requires at { IsToLoad S.tells graph.old state.old file (S.world site.old) }
     ensures looks { OnlyLooks S.tells (S.world site.old) (S.world site.new) }
     ensures well { OnOk result (Unrefused (S.world site.old) (S.world site.new)) }
-    ensures begun { OnOk result (Loads S.tells file graph.old cone.old state.old (S.world site.old) graph.new cone.new state.new (S.world site.new)) }
+    ensures begun { OnOk result (Loads S.tells file graph.old state.old (S.world site.old) graph.new state.new (S.world site.new)) }
     ensures fewer { OnOk result (files_left (declared_by graph.new).edges < files_left (declared_by graph.old).edges) }
     ensures stop { IfErr result (IsStopThere (S.world site.old) (S.world site.new)) }
-    ensures undone { OnErr result (IsUndone graph.old graph.new cone.old cone.new state.old state.new) }
-    ensures refused { IfErr result (λ stop. IfRefused stop (RefusesAt S.tells file graph.old cone.old state.old (S.world site.old) graph.new cone.new state.new (S.world site.new))) }
-    ensures halted { IfErr result (StopsAt S.tells file graph.old cone.old state.old (S.world site.old) graph.new cone.new state.new (S.world site.new)) }
+    ensures undone { OnErr result (IsUndone graph.old graph.new state.old state.new) }
+    ensures refused { IfErr result (λ stop. IfRefused stop (RefusesAt S.tells file graph.old state.old (S.world site.old) graph.new state.new (S.world site.new))) }
+    ensures halted { IfErr result (StopsAt S.tells file graph.old state.old (S.world site.old) graph.new state.new (S.world site.new)) }
 {
     log_stays();
     one_answer();
     lists_stand(graph);
-    let additions = additions_in(alloc, site, graph, file)?;
-    let joined = join(alloc, graph, cone, state, file, additions.as_slice());
+    let additions = additions_in(state.alloc, site, graph, file)?;
+    let joined = join(graph, state, file, additions.as_slice());
     lists_stand(graph);
     task_of(graph);
     match joined {
@@ -73,24 +71,23 @@ pub fn load<S: Site>(
 ///
 /// Where it does not, all is as before, but for how the records are kept.
 fn join(
-    alloc: Global,
     graph: &mut Graph,
-    cone: &mut Cone,
     state: &mut State<'_>,
     file: PathId,
     additions: &[Addition],
 ) -> Result<(), Stop>
-    requires may { (asked : Asked) × (store : Store) × MayJoin asked store graph.old cone.old state.old file }
-    ensures goes { OnOk result (GoesOnBy file (map addition_of additions.now) graph.old cone.old state.old graph.new cone.new state.new) }
+    requires may { (asked : Asked) × (store : Store) × MayJoin asked store graph.old state.old file }
+    ensures goes { OnOk result (GoesOnBy file (map addition_of additions.now) graph.old state.old graph.new state.new) }
     ensures room { OnOk result (HasRoomIn graph.new state.old state.new) }
     ensures known { OnOk result (StayKnown graph.old graph.new state.old.records state.new.records) }
     ensures logs { OnOk result (state.new.records.logs ≡ state.old.records.logs) }
-    ensures undone { OnErr result (IsUndone graph.old graph.new cone.old cone.new state.old state.new) }
-    ensures cause { IfErr result (λ stop. IfRefused stop (UnjoinedBy file (map addition_of additions.now) graph.old cone.old state.old)) }
+    ensures undone { OnErr result (IsUndone graph.old graph.new state.old state.new) }
+    ensures cause { IfErr result (λ stop. IfRefused stop (UnjoinedBy file (map addition_of additions.now) graph.old state.old)) }
     ensures memory { IfErr result IsMemory }
 {
+    let alloc = state.alloc;
     let before = extend(alloc, graph, file, additions)?;
-    match join_parts(alloc, graph, cone, state, &before) {
+    match join_parts(graph, state, &before) {
         Ok(()) => Ok(()),
         Err(stop) => {
             graph.take_back(alloc, before);
@@ -105,32 +102,27 @@ fn join(
 /// targets.
 ///
 /// Where that fails, the cone and the plan are as before, and what else was done can be undone.
-fn join_parts(
-    alloc: Global,
-    graph: &mut Graph,
-    cone: &mut Cone,
-    state: &mut State<'_>,
-    before: &Before,
-) -> Result<(), Stop>
-    requires loaded { IsLoaded graph.old cone.old state.old before.now }
-    ensures goes { OnOk result (GoesOnOver before.now graph.old cone.old state.old graph.new cone.new state.new) }
+fn join_parts(graph: &mut Graph, state: &mut State<'_>, before: &Before) -> Result<(), Stop>
+    requires loaded { IsLoaded graph.old state.old before.now }
+    ensures goes { OnOk result (GoesOnOver before.now graph.old state.old graph.new state.new) }
     ensures room { OnOk result (HasRoomIn graph.new state.old state.new) }
     ensures known { OnOk result (OfShorter graph.old (λ was. StayKnown was graph.new state.old.records state.new.records)) }
     ensures beside { KeepsRest state.old state.new }
     ensures grown { OnErr result (HasGrownAt (numbers_in before.now.edges.items) graph.old graph.new) }
-    ensures cone { OnErr result (cone.new ≡ cone.old) }
+    ensures cone { OnErr result (state.new.cone ≡ state.old.cone) }
     ensures plan { OnErr result (state.new.plan ≡ state.old.plan) }
     ensures looks { OnErr result (take (length state.old.looks.seen.items) state.new.looks.seen.items ≡ state.old.looks.seen.items) }
     ensures kept { OnErr result (MayShrink graph.old state.old.records state.new.records) }
-    ensures cause { IfErr result (λ stop. IfRefused stop (UnjoinedOver before.now graph.old cone.old state.old)) }
+    ensures cause { IfErr result (λ stop. IfRefused stop (UnjoinedOver before.now graph.old state.old)) }
     ensures memory { IfErr result IsMemory }
 {
     loads_go_on();
     files_stand();
+    let alloc = state.alloc;
     join_inputs(alloc, graph, &mut state.records, before)?;
-    let grown = cone_again(alloc, graph, cone)?;
-    grow(alloc, graph, &grown, state)?;
-    *cone = grown;
+    let grown = cone_again(graph, state)?;
+    grow(graph, &grown, state)?;
+    state.cone = grown;
     Ok(())
 }
 
@@ -176,15 +168,16 @@ fn join_inputs(
 }
 
 /// The cone of the same targets over the graph as it is now.
-fn cone_again(alloc: Global, graph: &Graph, cone: &Cone) -> Result<Cone, Stop>
-    requires targets { All (λ p. p < length graph.now.manifest.paths) cone.now.targets.items }
-    requires asked { IsAskedOver graph.now cone.now.targets.items }
+fn cone_again(graph: &Graph, state: &State<'_>) -> Result<Cone, Stop>
+    requires targets { All (λ p. p < length graph.now.manifest.paths) state.now.cone.targets.items }
+    requires asked { IsAskedOver graph.now state.now.cone.targets.items }
     ensures marks { IfOk result (λ grown. vec_len grown.marks ≡ length graph.now.manifest.lines) }
-    ensures cone { IfOk result (IsConeAgain graph.now cone.now.targets.items) }
-    ensures refused { IfErr result (λ stop. IfRefused stop (IsCircleOver graph.now cone.now.targets.items)) }
+    ensures cone { IfOk result (IsConeAgain graph.now state.now.cone.targets.items) }
+    ensures refused { IfErr result (λ stop. IfRefused stop (IsCircleOver graph.now state.now.cone.targets.items)) }
     ensures memory { IfErr result IsMemory }
 {
-    let targets = cone.targets.as_slice().to_vec(alloc)?;
+    let alloc = state.alloc;
+    let targets = state.cone.targets.as_slice().to_vec(alloc)?;
     match graph.cone_again(alloc, targets) {
         Ok(grown) => Ok(grown),
         Err(fault) => Err(circle(alloc, graph, fault)?),
@@ -192,19 +185,20 @@ fn cone_again(alloc: Global, graph: &Graph, cone: &Cone) -> Result<Cone, Stop>
 }
 
 /// The run goes on over the graph as it is now, of whose targets this is the cone.
-fn grow(alloc: Global, graph: &Graph, cone: &Cone, state: &mut State<'_>) -> Result<(), AllocError>
+fn grow(graph: &Graph, cone: &Cone, state: &mut State<'_>) -> Result<(), AllocError>
     requires marks { vec_len cone.now.marks ≡ length graph.now.manifest.lines }
     requires may { MayGoOn graph.now state.old.plan }
     requires fits { length state.old.looks.seen.items ≤ length graph.now.manifest.paths }
     ensures planned { OnOk result (GoesOn graph.now cone.now state.old.plan state.new.plan) }
     ensures room { OnOk result (HasRoomIn graph.now state.old state.new) }
     ensures records { state.new.records ≡ state.old.records }
+    ensures cone { state.new.cone ≡ state.old.cone }
     ensures beside { KeepsRest state.old state.new }
     ensures plan { OnErr result (state.new.plan ≡ state.old.plan) }
     ensures looks { take (length state.old.looks.seen.items) state.new.looks.seen.items ≡ state.old.looks.seen.items }
 {
     state.looks.grow(graph)?;
-    state.plan.extend(alloc, graph, cone)?;
+    state.plan.extend(state.alloc, graph, cone)?;
     Ok(())
 }
 

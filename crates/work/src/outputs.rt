@@ -9,7 +9,6 @@ ghost use Rattle.judge.specs.Looking.{HasLooked};
 ghost use Rattle.work.specs.EdgeIn.{edge_in};
 ghost use Rattle.work.specs.Restat.{is_same_look, AreChangesOf, AreLooksOf, AreFlagsOf, AreAskedBefore, LooksAnew};
 
-use crate::setting::Setting;
 use graph::{Graph, lists_stand};
 use judge::{Look, Looks};
 use model::SiteFault;
@@ -31,47 +30,48 @@ pub fn has_restat(graph: &Graph, edge: EdgeId) -> bool
 /// Asks for the outputs of an edge with `restat`: with what is seen now their stamps are compared when its command has ended.
 pub fn ask_before<S: Site>(
     site: &mut S,
-    setting: Setting<'_>,
+    graph: &Graph,
     looks: &mut Looks,
     edge: EdgeId,
 ) -> Result<(), SiteFault>
     requires running { (S.world site.old).stopped ≡ false }
-    requires fits { length looks.old.seen.items ≡ length setting.graph.now.manifest.paths }
-    requires within { edge < length setting.graph.now.manifest.lines }
-    requires command { IsCommand (declared_by setting.graph.now).edges (suc edge) }
-    ensures looked { HasLooked S.tells setting.entry.graph.now (S.world site.old) (S.world site.new) looks.old looks.new }
+    requires fits { length looks.old.seen.items ≡ length graph.now.manifest.paths }
+    requires within { edge < length graph.now.manifest.lines }
+    requires command { IsCommand (declared_by graph.now).edges (suc edge) }
+    ensures looked { HasLooked S.tells graph.now (S.world site.old) (S.world site.new) looks.old looks.new }
     ensures cause { HasCause (S.world site.old) (S.world site.new) result }
-    ensures asked { OnOk result (AreAskedBefore setting.entry.graph.now edge looks.new) }
+    ensures asked { OnOk result (AreAskedBefore graph.now edge looks.new) }
 {
-    if !has_restat(setting.graph, edge) {
+    if !has_restat(graph, edge) {
         return Ok(());
     }
-    lists_stand(setting.graph);
-    looks.ask(site, setting.graph, setting.graph.outputs(edge))
+    lists_stand(graph);
+    looks.ask(site, graph, graph.outputs(edge))
 }
 
 /// Looks anew at the outputs of the edge, and says of each whether its stamp differs from what was seen before. One that was
 /// absent, or is, counts as changed.
 pub fn changes<S: Site>(
+    alloc: Global,
     site: &mut S,
-    setting: Setting<'_>,
+    graph: &Graph,
     looks: &mut Looks,
     edge: EdgeId,
 ) -> Result<Vec<bool>, SiteFault>
     requires running { (S.world site.old).stopped ≡ false }
-    requires fits { length looks.old.seen.items ≡ length setting.graph.now.manifest.paths }
-    requires within { edge < length setting.graph.now.manifest.lines }
+    requires fits { length looks.old.seen.items ≡ length graph.now.manifest.paths }
+    requires within { edge < length graph.now.manifest.lines }
     ensures looks { OnlyLooks S.tells (S.world site.old) (S.world site.new) }
     ensures cause { HasCause (S.world site.old) (S.world site.new) result }
-    ensures anew { OnOk result (LooksAnew S.tells setting.entry.graph.now edge (S.world site.old) (S.world site.new) looks.old looks.new) }
-    ensures changes { IfOk result (λ flags. AreChangesOf looks.old.seen.items looks.new.seen.items ((links_of setting.entry.graph.now).outputs edge) flags.items) }
+    ensures anew { OnOk result (LooksAnew S.tells graph.now edge (S.world site.old) (S.world site.new) looks.old looks.new) }
+    ensures changes { IfOk result (λ flags. AreChangesOf looks.old.seen.items looks.new.seen.items ((links_of graph.now).outputs edge) flags.items) }
 {
-    lists_stand(setting.graph);
-    let outputs = setting.graph.outputs(edge);
-    let before = looks_of(setting.alloc, looks, outputs)?;
+    lists_stand(graph);
+    let outputs = graph.outputs(edge);
+    let before = looks_of(alloc, looks, outputs)?;
     looks.forget(outputs);
-    looks.ask(site, setting.graph, outputs)?;
-    Ok(flags_of(setting.alloc, looks, outputs, before.as_slice())?)
+    looks.ask(site, graph, outputs)?;
+    Ok(flags_of(alloc, looks, outputs, before.as_slice())?)
 }
 
 /// What was seen of these paths.

@@ -8,9 +8,9 @@ ghost use Rattle.theory.specs.Writes.{WritesAt};
 ghost use Rattle.work.specs.Starting.{IsTakenInOf, MayBeDoneThen, CutsTelling};
 ghost use Rattle.work.specs.Telling.{Says, WasRead, fault_in, ended_well};
 
-use crate::setting::Setting;
 use crate::state::State;
 use depfile::{DepFault, Listed, ReadError, borrowed_inputs};
+use graph::Graph;
 use model::{Act, Deps, Finished, SiteFault};
 use paths::{Command, EdgeId};
 use site::Site;
@@ -94,30 +94,30 @@ pub fn ended(finished: Finished, told: &Told<'_>) -> Finished
 /// Puts behind the deps log what the command of the edge told, which was started under this stamp.
 pub fn report<S: Site>(
     site: &mut S,
-    setting: Setting<'_>,
+    graph: &Graph,
     state: &mut State<'_>,
     edge: EdgeId,
     start: u64,
     told: &Told<'_>,
 ) -> Result<(), SiteFault>
     requires running { (S.world site.old).stopped ≡ false }
-    requires taken_in { IsTakenInOf S.tells setting.tick.now setting.graph.now edge start true told.now state.old (S.world site.old) }
+    requires taken_in { IsTakenInOf S.tells graph.now edge start true told.now state.old (S.world site.old) }
     ensures cause { HasCause (S.world site.old) (S.world site.new) result }
     ensures writes { WritesAt S.tells state.old.records.logs.deps_log.path (S.world site.old) (S.world site.new) }
     ensures plan { state.new.plan ≡ state.old.plan }
     ensures starts { state.new.starts ≡ state.old.starts }
     ensures looks { state.new.looks ≡ state.old.looks }
     ensures failed { state.new.failed ≡ state.old.failed }
-    ensures on { OnOk result (MayBeDoneThen S.tells setting.entry edge start told.now (S.world site.old) (S.world site.new) state.old state.new) }
-    ensures cut { OnErr result (CutsTelling S.tells setting.entry edge start told.now (S.world site.old) (S.world site.new) state.old state.new) }
+    ensures on { OnOk result (MayBeDoneThen S.tells graph.now edge start told.now (S.world site.old) (S.world site.new) state.old state.new) }
+    ensures cut { OnErr result (CutsTelling S.tells graph.now edge start told.now (S.world site.old) (S.world site.new) state.old state.new) }
 {
     let Told::Inputs(paths) = told else {
         return Ok(());
     };
-    let texts = paths.texts(setting.alloc)?;
+    let texts = paths.texts(state.alloc)?;
     state
         .records
-        .report(setting.alloc, site, setting.graph, edge, start, &texts)
+        .report(state.alloc, site, graph, edge, start, &texts)
 }
 
 /// Removes the depfile that the act names, if it names one, before the command starts. Where it fails, it is as it was, or gone.

@@ -6,9 +6,9 @@ ghost use Rattle.model.specs.Graph.{IsCommand};
 ghost use Rattle.graph.specs.Told.{declared_by};
 
 use crate::display::{Display, Progress};
-use crate::setting::Setting;
 use crate::start::act;
 use depfile::DepFault;
+use graph::Graph;
 use model::{Finished, SiteFault};
 use paths::EdgeId;
 use site::Site;
@@ -18,7 +18,7 @@ use status::DepfileFault;
 /// as ended.
 pub fn show_end<S: Site>(
     site: &mut S,
-    setting: Setting<'_>,
+    graph: &Graph,
     display: &mut Display<'_>,
     progress: Progress,
     edge: EdgeId,
@@ -26,18 +26,19 @@ pub fn show_end<S: Site>(
     refused: Option<DepFault>,
 ) -> Result<(), SiteFault>
     requires running { (S.world site.old).stopped ≡ false }
-    requires within { edge < length setting.graph.now.manifest.lines }
-    requires command { IsCommand (declared_by setting.graph.now).edges (suc edge) }
+    requires within { edge < length graph.now.manifest.lines }
+    requires command { IsCommand (declared_by graph.now).edges (suc edge) }
     ensures looks { OnlyLooks S.tells (S.world site.old) (S.world site.new) }
     ensures cause { HasCause (S.world site.old) (S.world site.new) result }
 {
     let Some(fault) = refused else {
-        return display.end(site, setting.graph, edge, finished, None, progress);
+        return display.end(site, graph, edge, finished, None, progress);
     };
-    let text = format!(in setting.alloc; "{fault}")?;
-    let path = act(setting.graph, edge).depfile.as_str();
+    let alloc = display.alloc();
+    let text = format!(in alloc; "{fault}")?;
+    let path = act(graph, edge).depfile.as_str();
     let depfile = fault_at(path, u32::from(fault.number()), text.as_str());
-    display.end(site, setting.graph, edge, finished, Some(depfile), progress)
+    display.end(site, graph, edge, finished, Some(depfile), progress)
 }
 
 /// The fault of this number and text, of the depfile at the path.

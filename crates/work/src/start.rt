@@ -18,7 +18,6 @@ use crate::counts::progress;
 use crate::folders::{make_folder, make_output_folders};
 use crate::reported::remove_old_depfile;
 use crate::response::write_response;
-use crate::setting::Setting;
 use crate::state::State;
 use crate::terminal::has_terminal;
 use graph::Graph;
@@ -34,12 +33,12 @@ use site::Site;
 /// Where that fails, the plan has the edge as running if its command was started all the same.
 pub fn start_edge<S: Site>(
     site: &mut S,
-    setting: Setting<'_>,
+    graph: &Graph,
     state: &mut State<'_>,
     edge: EdgeId,
 ) -> Result<(), SiteFault>
     requires running { (S.world site.old).stopped ≡ false }
-    requires going { IsGoing S.tells true setting.tick.now setting.graph.now state.old (S.world site.old) }
+    requires going { IsGoing S.tells true graph.now state.old (S.world site.old) }
     requires next { IsNext state.old.plan (step.Start edge) }
     ensures cause { HasCause (S.world site.old) (S.world site.new) result }
     ensures starts { StartsUnrefused (S.world site.old) (S.world site.new) }
@@ -48,31 +47,34 @@ pub fn start_edge<S: Site>(
     ensures nearer { OnOk result (work_left state.new.plan.standings.items < work_left state.old.plan.standings.items) }
     ensures looks { state.new.looks ≡ state.old.looks }
     ensures changed { state.new.plan.changed ≡ state.old.plan.changed }
-    ensures on { OnOk result (GoesOn S.tells setting.entry (S.world site.old) (S.world site.new) state.old state.new) }
-    ensures cut { OnErr result (CutsOff S.tells setting.entry (S.world site.old) (S.world site.new) state.old state.new) }
+    ensures on { OnOk result (GoesOn S.tells graph.now (S.world site.old) (S.world site.new) state.old state.new) }
+    ensures cut { OnErr result (CutsOff S.tells graph.now (S.world site.old) (S.world site.new) state.old state.new) }
 {
     log_stays();
-    make_folders(site, setting, edge)?;
+    make_folders(site, graph, state, edge)?;
     state
         .display
-        .start(site, setting.graph, edge, progress(&state.plan))?;
-    state
-        .records
-        .begin(setting.alloc, site, setting.graph, edge)?;
-    launch(site, setting, state, edge)
+        .start(site, graph, edge, progress(&state.plan))?;
+    state.records.begin(state.alloc, site, graph, edge)?;
+    launch(site, graph, state, edge)
 }
 
 /// Makes the folder of the logs, and those of what the edge makes, of its depfile and of its response file.
-fn make_folders<S: Site>(site: &mut S, setting: Setting<'_>, edge: EdgeId) -> Result<(), SiteFault>
+fn make_folders<S: Site>(
+    site: &mut S,
+    graph: &Graph,
+    state: &State<'_>,
+    edge: EdgeId,
+) -> Result<(), SiteFault>
     requires running { (S.world site.old).stopped ≡ false }
-    requires within { edge < length setting.graph.now.manifest.lines }
-    requires command { IsCommand (declared_by setting.graph.now).edges (suc edge) }
+    requires within { edge < length graph.now.manifest.lines }
+    requires command { IsCommand (declared_by graph.now).edges (suc edge) }
     ensures looks { OnlyLooks S.tells (S.world site.old) (S.world site.new) }
     ensures cause { HasCause (S.world site.old) (S.world site.new) result }
 {
-    make_folder(site, setting.tick)?;
-    make_output_folders(site, setting.graph, edge)?;
-    let act = act(setting.graph, edge);
+    make_folder(site, state.tick.as_str())?;
+    make_output_folders(site, graph, edge)?;
+    let act = act(graph, edge);
     make_folder(site, act.depfile.as_str())?;
     make_folder(site, act.response_path.as_str())
 }
@@ -80,12 +82,12 @@ fn make_folders<S: Site>(site: &mut S, setting: Setting<'_>, edge: EdgeId) -> Re
 /// Starts the command of an edge that is begun.
 fn launch<S: Site>(
     site: &mut S,
-    setting: Setting<'_>,
+    graph: &Graph,
     state: &mut State<'_>,
     edge: EdgeId,
 ) -> Result<(), SiteFault>
     requires running { (S.world site.old).stopped ≡ false }
-    requires begun { IsBegunOf S.tells setting.tick.now setting.graph.now edge state.old (S.world site.old) }
+    requires begun { IsBegunOf S.tells graph.now edge state.old (S.world site.old) }
     requires offered { IsOffered state.old.plan (step.Start edge) }
     ensures cause { HasCause (S.world site.old) (S.world site.new) result }
     ensures starts { StartsUnrefused (S.world site.old) (S.world site.new) }
@@ -94,17 +96,17 @@ fn launch<S: Site>(
     ensures nearer { OnOk result (work_left state.new.plan.standings.items < work_left state.old.plan.standings.items) }
     ensures looks { state.new.looks ≡ state.old.looks }
     ensures changed { state.new.plan.changed ≡ state.old.plan.changed }
-    ensures on { OnOk result (LaunchesOn S.tells setting.entry edge (S.world site.old) (S.world site.new) state.old state.new) }
-    ensures cut { OnErr result (CutsLaunch S.tells setting.entry edge (S.world site.old) (S.world site.new) state.old state.new) }
+    ensures on { OnOk result (LaunchesOn S.tells graph.now edge (S.world site.old) (S.world site.new) state.old state.new) }
+    ensures cut { OnErr result (CutsLaunch S.tells graph.now edge (S.world site.old) (S.world site.new) state.old state.new) }
 {
     log_stays();
-    let act = act(setting.graph, edge);
+    let act = act(graph, edge);
     remove_old_depfile(site, act)?;
     write_response(site, act)?;
-    let stamp = site.tick(setting.tick)?;
+    let stamp = site.tick(state.tick.as_str())?;
     note_stamp(&mut state.starts, edge, stamp);
     let known = site.events().len();
-    let result = site.start(edge.job(), act, has_terminal(setting.graph, edge));
+    let result = site.start(edge.job(), act, has_terminal(graph, edge));
     let is_started = site.events().len() > known;
     note_start(&mut state.plan, edge, is_started);
     result

@@ -25,12 +25,11 @@ use crate::cut::Cut;
 use crate::outputs::{changes, has_restat};
 use crate::reported::{Told, ended, read_told, remove_read_depfile, report};
 use crate::response::remove_response;
-use crate::setting::Setting;
 use crate::shown::show_end;
 use crate::start::{act, command};
 use crate::state::State;
 use depfile::one_answer;
-use graph::lists_stand;
+use graph::{Graph, lists_stand};
 use model::{Finished, SiteFault};
 use paths::EdgeId;
 use plan::Changed;
@@ -39,37 +38,33 @@ use site::Site;
 use std::alloc::AllocError;
 
 /// Takes in a command that has ended, records it where it ended well, and shows it.
-pub fn take_in<S: Site>(
-    site: &mut S,
-    setting: Setting<'_>,
-    state: &mut State<'_>,
-) -> Result<(), Cut>
+pub fn take_in<S: Site>(site: &mut S, graph: &Graph, state: &mut State<'_>) -> Result<(), Cut>
     requires running { (S.world site.old).stopped ≡ false }
-    requires going { IsAwaiting S.tells setting.tick.now setting.graph.now state.old (S.world site.old) }
+    requires going { IsAwaiting S.tells graph.now state.old (S.world site.old) }
     ensures cuts { Cuts (S.world site.old) (S.world site.new) result }
     ensures grows { ComesAfter S.tells (S.world site.old) (S.world site.new) }
     ensures some { OnOk result ((S.world site.new).events ≡ (S.world site.old).events → ⊥) }
     ensures of_wait { IfErr result (IsOfWait (S.world site.old) (S.world site.new)) }
     ensures nearer { OnOk result (work_left state.new.plan.standings.items < work_left state.old.plan.standings.items) }
-    ensures kept { OnOk result (KnowsUnmade setting.entry.graph.now state.old state.new) }
-    ensures removed { OnOk result (RemovesWhatEnded S.tells setting.entry.graph.now (S.world site.old) (S.world site.new) state.old state.new) }
-    ensures on { OnOk result (WaitsOn S.tells setting.entry (S.world site.old) (S.world site.new) state.old state.new) }
-    ensures cut { OnErr result (WaitsCut S.tells setting.entry (S.world site.old) (S.world site.new) state.old state.new) }
+    ensures kept { OnOk result (KnowsUnmade graph.now state.old state.new) }
+    ensures removed { OnOk result (RemovesWhatEnded S.tells graph.now (S.world site.old) (S.world site.new) state.old state.new) }
+    ensures on { OnOk result (WaitsOn S.tells graph.now (S.world site.old) (S.world site.new) state.old state.new) }
+    ensures cut { OnErr result (WaitsCut S.tells graph.now (S.world site.old) (S.world site.new) state.old state.new) }
 {
     match site.wait_any() {
         Ok(finished) => {
-            let edge = setting.graph.manifest.edge(finished.job - 1);
+            let edge = graph.manifest.edge(finished.job - 1);
             let mut content = None;
             match read_told(
-                setting.alloc,
+                state.alloc,
                 site,
-                act(setting.graph, edge),
+                act(graph, edge),
                 finished.ok,
                 &mut content,
             ) {
-                Ok(told) => take_in_told(site, setting, state, edge, finished, &told),
+                Ok(told) => take_in_told(site, graph, state, edge, finished, &told),
                 Err(fault) => {
-                    note_unread(setting, state, edge);
+                    note_unread(graph, state, edge);
                     Err(Cut::Other(fault))
                 }
             }
@@ -81,36 +76,36 @@ pub fn take_in<S: Site>(
 /// Takes in a command that has ended so and whose depfile says this: a refused one makes it a failed one.
 fn take_in_told<S: Site>(
     site: &mut S,
-    setting: Setting<'_>,
+    graph: &Graph,
     state: &mut State<'_>,
     edge: EdgeId,
     finished: Finished,
     told: &Told<'_>,
 ) -> Result<(), Cut>
     requires running { (S.world site.old).stopped ≡ false }
-    requires ending { IsEndingOf S.tells setting.tick.now setting.graph.now edge finished.ok told.now state.old (S.world site.old) }
+    requires ending { IsEndingOf S.tells graph.now edge finished.ok told.now state.old (S.world site.old) }
     ensures cuts { Cuts (S.world site.old) (S.world site.new) result }
     ensures grows { ComesAfter S.tells (S.world site.old) (S.world site.new) }
     ensures events { (S.world site.new).events ≡ (S.world site.old).events }
     ensures of_wait { IfErr result (λ cut. IfWaiting cut ⊥) }
     ensures nearer { OnOk result (work_left state.new.plan.standings.items < work_left state.old.plan.standings.items) }
-    ensures kept { OnOk result (KnowsUnmade setting.entry.graph.now state.old state.new) }
+    ensures kept { OnOk result (KnowsUnmade graph.now state.old state.new) }
     ensures noted { OnOk result (state.new.failed.items ≡ failed_after state.old.failed.items edge (ended_well finished.ok told.now)) }
-    ensures removed { OnOk result (ended_well finished.ok told.now ≡ true → EndsByRemoving S.tells (edge_in setting.entry.graph.now edge).act (S.world site.old) (S.world site.new)) }
-    ensures on { OnOk result (EndsOn S.tells setting.entry edge finished.ok told.now (S.world site.old) (S.world site.new) state.old state.new) }
-    ensures cut { OnErr result (CutsEnd S.tells setting.entry edge finished.ok told.now (S.world site.old) (S.world site.new) state.old state.new) }
+    ensures removed { OnOk result (ended_well finished.ok told.now ≡ true → EndsByRemoving S.tells (edge_in graph.now edge).act (S.world site.old) (S.world site.new)) }
+    ensures on { OnOk result (EndsOn S.tells graph.now edge finished.ok told.now (S.world site.old) (S.world site.new) state.old state.new) }
+    ensures cut { OnErr result (CutsEnd S.tells graph.now edge finished.ok told.now (S.world site.old) (S.world site.new) state.old state.new) }
 {
-    lists_stand(setting.graph);
+    lists_stand(graph);
     log_stays();
     none_while_running();
     one_answer();
     let finished = ended(finished, told);
-    note_end(site, setting, state, edge, finished.ok).map_err(Cut::Other)?;
-    record_end(site, setting, state, edge, finished.ok, told).map_err(Cut::Other)?;
+    note_end(site, graph, state, edge, finished.ok).map_err(Cut::Other)?;
+    record_end(site, graph, state, edge, finished.ok, told).map_err(Cut::Other)?;
     let progress = progress(&state.plan);
     show_end(
         site,
-        setting,
+        graph,
         &mut state.display,
         progress,
         edge,
@@ -121,62 +116,55 @@ fn take_in_told<S: Site>(
 }
 
 /// Notes in the plan that the command of a running edge has ended, of which a fault keeps what it told: it counts as failed.
-fn note_unread(setting: Setting<'_>, state: &mut State<'_>, edge: EdgeId)
-    requires over { IsPlanOver setting.graph.now state.old.plan }
+fn note_unread(graph: &Graph, state: &mut State<'_>, edge: EdgeId)
+    requires over { IsPlanOver graph.now state.old.plan }
     requires running { standing_at state.old.plan.standings.items edge ≡ Standing.Running }
-    ensures planned { TakesStep setting.entry.graph.now state.old.plan state.new.plan (Ended (suc edge) false) }
+    ensures planned { TakesStep graph.now state.old.plan state.new.plan (Ended (suc edge) false) }
 {
-    state
-        .plan
-        .finished(setting.graph, edge, false, Changed::All);
+    state.plan.finished(graph, edge, false, Changed::All);
 }
 
 /// Notes how the command of a running edge ended: in the plan, which of its outputs are new, and that it failed where it did. Of
 /// an edge with `restat` that ended well, those are new whose stamp is another than before; of any other, all.
 fn note_end<S: Site>(
     site: &mut S,
-    setting: Setting<'_>,
+    graph: &Graph,
     state: &mut State<'_>,
     edge: EdgeId,
     ok: bool,
 ) -> Result<(), SiteFault>
     requires going_on { (S.world site.old).stopped ≡ false }
-    requires over { IsPlanOver setting.graph.now state.old.plan }
+    requires over { IsPlanOver graph.now state.old.plan }
     requires running { standing_at state.old.plan.standings.items edge ≡ Standing.Running }
-    requires command { IsCommand (declared_by setting.graph.now).edges (suc edge) }
-    requires fits { length state.old.looks.seen.items ≡ length setting.graph.now.manifest.paths }
+    requires command { IsCommand (declared_by graph.now).edges (suc edge) }
+    requires fits { length state.old.looks.seen.items ≡ length graph.now.manifest.paths }
     ensures looks { OnlyLooks S.tells (S.world site.old) (S.world site.new) }
     ensures cause { HasCause (S.world site.old) (S.world site.new) result }
     ensures nearer { work_left state.new.plan.standings.items < work_left state.old.plan.standings.items }
-    ensures ended { OnOk result (HasEnded S.tells setting.entry.graph.now edge ok (S.world site.old) (S.world site.new) state.old state.new) }
-    ensures planned { TakesStep setting.entry.graph.now state.old.plan state.new.plan (Ended (suc edge) ok) }
+    ensures ended { OnOk result (HasEnded S.tells graph.now edge ok (S.world site.old) (S.world site.new) state.old state.new) }
+    ensures planned { TakesStep graph.now state.old.plan state.new.plan (Ended (suc edge) ok) }
     ensures noted { OnOk result (state.new.failed.items ≡ failed_after state.old.failed.items edge ok) }
 {
-    if ok && has_restat(setting.graph, edge) {
-        note_compared(site, setting, state, edge)
+    if ok && has_restat(graph, edge) {
+        note_compared(site, graph, state, edge)
     } else {
-        Ok(note_all(setting, state, edge, ok)?)
+        Ok(note_all(graph, state, edge, ok)?)
     }
 }
 
 /// Notes the end of a command all of whose outputs count as changed.
-fn note_all(
-    setting: Setting<'_>,
-    state: &mut State<'_>,
-    edge: EdgeId,
-    ok: bool,
-) -> Result<(), AllocError>
-    requires over { IsPlanOver setting.graph.now state.old.plan }
+fn note_all(graph: &Graph, state: &mut State<'_>, edge: EdgeId, ok: bool) -> Result<(), AllocError>
+    requires over { IsPlanOver graph.now state.old.plan }
     requires running { standing_at state.old.plan.standings.items edge ≡ Standing.Running }
     ensures nearer { work_left state.new.plan.standings.items < work_left state.old.plan.standings.items }
-    ensures flags { AreSetAt state.old.plan.changed.items state.new.plan.changed.items (outputs_in setting.entry.graph.now edge) }
-    ensures forgets { IsForgotten setting.entry.graph.now edge state.old.looks state.new.looks }
+    ensures flags { AreSetAt state.old.plan.changed.items state.new.plan.changed.items (outputs_in graph.now edge) }
+    ensures forgets { IsForgotten graph.now edge state.old.looks state.new.looks }
     ensures beside { IsSameBeside state.old state.new }
-    ensures planned { TakesStep setting.entry.graph.now state.old.plan state.new.plan (Ended (suc edge) ok) }
+    ensures planned { TakesStep graph.now state.old.plan state.new.plan (Ended (suc edge) ok) }
     ensures noted { OnOk result (state.new.failed.items ≡ failed_after state.old.failed.items edge ok) }
 {
-    let outputs = setting.graph.outputs(edge);
-    state.plan.finished(setting.graph, edge, ok, Changed::All);
+    let outputs = graph.outputs(edge);
+    state.plan.finished(graph, edge, ok, Changed::All);
     state.looks.forget(outputs);
     if !ok {
         state.failed.push(edge)?;
@@ -187,32 +175,32 @@ fn note_all(
 /// Notes the good end of a command that may have left outputs as they were.
 fn note_compared<S: Site>(
     site: &mut S,
-    setting: Setting<'_>,
+    graph: &Graph,
     state: &mut State<'_>,
     edge: EdgeId,
 ) -> Result<(), SiteFault>
     requires going_on { (S.world site.old).stopped ≡ false }
-    requires over { IsPlanOver setting.graph.now state.old.plan }
+    requires over { IsPlanOver graph.now state.old.plan }
     requires running { standing_at state.old.plan.standings.items edge ≡ Standing.Running }
-    requires fits { length state.old.looks.seen.items ≡ length setting.graph.now.manifest.paths }
+    requires fits { length state.old.looks.seen.items ≡ length graph.now.manifest.paths }
     ensures looks { OnlyLooks S.tells (S.world site.old) (S.world site.new) }
     ensures cause { HasCause (S.world site.old) (S.world site.new) result }
     ensures nearer { work_left state.new.plan.standings.items < work_left state.old.plan.standings.items }
-    ensures changed { OnOk result (FlagsDiffer setting.entry.graph.now edge state.old state.new) }
-    ensures unchanged { OnOk result (FlagsStay setting.entry.graph.now edge state.old state.new) }
-    ensures anew { OnOk result (LooksAnew S.tells setting.entry.graph.now edge (S.world site.old) (S.world site.new) state.old.looks state.new.looks) }
+    ensures changed { OnOk result (FlagsDiffer graph.now edge state.old state.new) }
+    ensures unchanged { OnOk result (FlagsStay graph.now edge state.old state.new) }
+    ensures anew { OnOk result (LooksAnew S.tells graph.now edge (S.world site.old) (S.world site.new) state.old.looks state.new.looks) }
     ensures beside { IsSameBeside state.old state.new }
-    ensures planned { TakesStep setting.entry.graph.now state.old.plan state.new.plan (Ended (suc edge) true) }
+    ensures planned { TakesStep graph.now state.old.plan state.new.plan (Ended (suc edge) true) }
     ensures failed { state.new.failed ≡ state.old.failed }
 {
-    match changes(site, setting, &mut state.looks, edge) {
+    match changes(state.alloc, site, graph, &mut state.looks, edge) {
         Ok(changed) => {
             let changed = Changed::Each(changed.as_slice());
-            state.plan.finished(setting.graph, edge, true, changed);
+            state.plan.finished(graph, edge, true, changed);
             Ok(())
         }
         Err(fault) => {
-            state.plan.finished(setting.graph, edge, true, Changed::All);
+            state.plan.finished(graph, edge, true, Changed::All);
             Err(fault)
         }
     }
@@ -222,14 +210,14 @@ fn note_compared<S: Site>(
 /// stay, and its response file. One that failed is not recorded, and its files stay.
 fn record_end<S: Site>(
     site: &mut S,
-    setting: Setting<'_>,
+    graph: &Graph,
     state: &mut State<'_>,
     edge: EdgeId,
     ok: bool,
     told: &Told<'_>,
 ) -> Result<(), SiteFault>
     requires running { (S.world site.old).stopped ≡ false }
-    requires taken_in { IsTakenInOf S.tells setting.tick.now setting.graph.now edge (get_or state.old.starts.items edge 0) ok told.now state.old (S.world site.old) }
+    requires taken_in { IsTakenInOf S.tells graph.now edge (get_or state.old.starts.items edge 0) ok told.now state.old (S.world site.old) }
     ensures cause { HasCause (S.world site.old) (S.world site.new) result }
     ensures grows { ComesAfter S.tells (S.world site.old) (S.world site.new) }
     ensures events { (S.world site.new).events ≡ (S.world site.old).events }
@@ -237,19 +225,17 @@ fn record_end<S: Site>(
     ensures plan { state.new.plan ≡ state.old.plan }
     ensures looks { state.new.looks ≡ state.old.looks }
     ensures failed { state.new.failed ≡ state.old.failed }
-    ensures removed { OnOk result (ok ≡ true → EndsByRemoving S.tells (edge_in setting.entry.graph.now edge).act (S.world site.old) (S.world site.new)) }
-    ensures on { OnOk result (RecordsOn S.tells setting.entry edge ok told.now (S.world site.old) (S.world site.new) state.old state.new) }
-    ensures cut { OnErr result (CutsRecord S.tells setting.entry edge ok told.now (S.world site.old) (S.world site.new) state.old state.new) }
+    ensures removed { OnOk result (ok ≡ true → EndsByRemoving S.tells (edge_in graph.now edge).act (S.world site.old) (S.world site.new)) }
+    ensures on { OnOk result (RecordsOn S.tells graph.now edge ok told.now (S.world site.old) (S.world site.new) state.old state.new) }
+    ensures cut { OnErr result (CutsRecord S.tells graph.now edge ok told.now (S.world site.old) (S.world site.new) state.old state.new) }
 {
     if !ok {
         return Ok(());
     }
     log_stays();
     let start = state.starts[edge.index()];
-    report(site, setting, state, edge, start, told)?;
-    state
-        .records
-        .done(setting.alloc, site, setting.graph, edge, start)?;
-    remove_read_depfile(site, command(setting.graph, edge))?;
-    remove_response(site, act(setting.graph, edge))
+    report(site, graph, state, edge, start, told)?;
+    state.records.done(state.alloc, site, graph, edge, start)?;
+    remove_read_depfile(site, command(graph, edge))?;
+    remove_response(site, act(graph, edge))
 }

@@ -9,10 +9,10 @@ ghost use Rattle.work.specs.Cutting.{Cuts};
 
 use crate::cut::Cut;
 use crate::judged::judge;
-use crate::setting::Setting;
 use crate::start::start_edge;
 use crate::state::State;
 use crate::taken::take_in;
+use graph::Graph;
 use judge::{Sums, looks_follow, sums_follow};
 use paths::PathId;
 use plan::{End, Step};
@@ -31,36 +31,36 @@ pub enum Halt {
 /// its outputs is forgotten, so are the sums of what commands make.
 pub fn go_on<S: Site>(
     site: &mut S,
-    setting: Setting<'_>,
+    graph: &Graph,
     state: &mut State<'_>,
     sums: &mut Sums,
 ) -> Result<Option<Halt>, Cut>
     requires running { (S.world site.old).stopped ≡ false }
-    requires going { IsGoing S.tells true setting.tick.now setting.graph.now state.old (S.world site.old) }
-    requires summed { AreSums setting.graph.now state.old.plan.changed.items state.old.looks.seen.items sums.old }
-    requires marked { AreMarked setting.graph.now state.old.plan.changed.items state.old.looks.seen.items sums.old }
+    requires going { IsGoing S.tells true graph.now state.old (S.world site.old) }
+    requires summed { AreSums graph.now state.old.plan.changed.items state.old.looks.seen.items sums.old }
+    requires marked { AreMarked graph.now state.old.plan.changed.items state.old.looks.seen.items sums.old }
     ensures cuts { Cuts (S.world site.old) (S.world site.new) result }
     ensures grows { ComesAfter S.tells (S.world site.old) (S.world site.new) }
-    ensures looked { OnOk result (LooksUnlessMore S.tells setting.entry.graph.now (S.world site.old) (S.world site.new) state.old.looks state.new.looks) }
+    ensures looked { OnOk result (LooksUnlessMore S.tells graph.now (S.world site.old) (S.world site.new) state.old.looks state.new.looks) }
     ensures nearer { IfOk result (λ halt. IsNearer state.old state.new halt) }
-    ensures summed { OnOk result (AreSums setting.entry.graph.now state.new.plan.changed.items state.new.looks.seen.items sums.new) }
-    ensures marked { OnOk result (AreMarked setting.entry.graph.now state.new.plan.changed.items state.new.looks.seen.items sums.new) }
-    ensures on { IfOk result (TurnsTo S.tells setting.entry (S.world site.old) (S.world site.new) state.old state.new) }
-    ensures cut { OnErr result (CutsOff S.tells setting.entry (S.world site.old) (S.world site.new) state.old state.new) }
+    ensures summed { OnOk result (AreSums graph.now state.new.plan.changed.items state.new.looks.seen.items sums.new) }
+    ensures marked { OnOk result (AreMarked graph.now state.new.plan.changed.items state.new.looks.seen.items sums.new) }
+    ensures on { IfOk result (TurnsTo S.tells graph.now (S.world site.old) (S.world site.new) state.old state.new) }
+    ensures cut { OnErr result (CutsOff S.tells graph.now (S.world site.old) (S.world site.new) state.old state.new) }
 {
     looks_follow();
     sums_follow();
     match state.plan.next() {
         Step::Judge(edge) => {
-            judge(site, setting, state, sums, edge).map_err(Cut::Other)?;
+            judge(site, graph, state, sums, edge).map_err(Cut::Other)?;
             Ok(None)
         }
         Step::Start(edge) => {
-            start_edge(site, setting, state, edge).map_err(Cut::Other)?;
+            start_edge(site, graph, state, edge).map_err(Cut::Other)?;
             Ok(None)
         }
         Step::Wait => {
-            take_in(site, setting, state)?;
+            take_in(site, graph, state)?;
             sums.forget_made();
             Ok(None)
         }

@@ -1,5 +1,4 @@
 use Rattle.std.proofs.Common.{[], refl}
-use Rattle.model.specs.Records.{file_in, tick_name}
 use Rattle.theory.proofs.Looks.{looks_nothing}
 use Rattle.graph.specs.Told.{declared_by}
 use Rattle.builder.specs.Build.{asked_of}
@@ -23,12 +22,11 @@ explain_state-requires-clause-begins g c =
     let course = c.requires.read.0 in
     let state = c.in_ok-state.state in
     let fresh = c.in_ok-state.ensures.fresh in (
-      file_in asked.folder tick_name,
       course_of course.behaviour course.format course.own (asked_of (declared_by graph) asked.folder asked.limits asked.targets) course.store course.entry,
       (declared_by graph).edges,
       [],
       begins_this tells graph asked c.args.records course old c.requires.read.1 c.requires.formed c.requires.once c.requires.inputs c.in_ok-cone.cone c.in_ok-cone.ensures.cone state.plan fresh.plan state.looks
-          fresh.looks state refl refl fresh.kept fresh.failed fresh.starts _ refl,
+          fresh.looks state refl refl fresh.kept fresh.failed fresh.starts fresh.tick fresh.coned,
     )
 
 pub returns-clause-explains : goal.returns-clause-explains
@@ -40,10 +38,9 @@ returns-clause-explains g c =
     let course = c.requires.read.0 in
     let state = c.in_ok-state.state in
     let fresh = c.in_ok-state.ensures.fresh in
-    let tick = file_in asked.folder tick_name in
     let this = course_of course.behaviour course.format course.own (asked_of (declared_by graph) asked.folder asked.limits asked.targets) course.store course.entry in
     let begins =
     begins_this tells graph asked c.args.records course old c.requires.read.1 c.requires.formed c.requires.once c.requires.inputs c.in_ok-cone.cone c.in_ok-cone.ensures.cone state.plan fresh.plan state.looks
-    fresh.looks state refl refl fresh.kept fresh.failed fresh.starts tick refl in
+    fresh.looks state refl refl fresh.kept fresh.failed fresh.starts fresh.tick fresh.coned in
     if_ok_then c.explain_state.result c.explain_state.ensures.explains
-    (λ explained so. record { tick = tick; course = this; asked = refl; entry = old; looks = looks_nothing tells old; explains = so tick this (declared_by graph).edges [] begins })
+    (λ explained so. record { course = this; asked = refl; entry = old; looks = looks_nothing tells old; explains = so this (declared_by graph).edges [] begins })

@@ -4,15 +4,15 @@ use Rattle.builder.specs.Explained.{SaysDue}
 use Rattle.builder.proofs.explaining.explain_run.Goals as goal
 
 pub check_sources-requires-clause-fits : goal.check_sources-requires-clause-fits
-check_sources-requires-clause-fits g c = c.requires.begins.4.stands.on.room.looks
+check_sources-requires-clause-fits g c = c.requires.begins.3.stands.on.room.looks
 
 pub check_sources-requires-clause-order : goal.check_sources-requires-clause-order
 check_sources-requires-clause-order g c =
     let begins = c.requires.begins in
-    c.orders_stand.ensures g.S.Texts.tells begins.0 begins.1 begins.2 begins.3 c.args.cone.now c.args.state.now (g.S.Texts.world c.args.site.now) begins.4.stands
+    c.orders_stand.ensures g.S.Texts.tells begins.0 begins.1 begins.2 c.args.state.now (g.S.Texts.world c.args.site.now) begins.3.stands
 
 pub check_sources-requires-clause-targets : goal.check_sources-requires-clause-targets
-check_sources-requires-clause-targets g c = c.requires.begins.4.stands.within
+check_sources-requires-clause-targets g c = c.requires.begins.3.stands.on.cone.within
 
 pub returns-in_err-due-clause-looks : goal.returns-in_err-due-clause-looks
 returns-in_err-due-clause-looks g c = c.check_sources.ensures.looked.looks
@@ -21,12 +21,12 @@ pub explain_due-requires-clause-running : goal.explain_due-requires-clause-runni
 explain_due-requires-clause-running g c = c.in_ok-due.ensures.passed.goes_on
 
 pub explain_due-requires-clause-fits : goal.explain_due-requires-clause-fits
-explain_due-requires-clause-fits g c = c.check_sources.ensures.looked.fits ∙ c.requires.begins.4.stands.on.room.looks
+explain_due-requires-clause-fits g c = c.check_sources.ensures.looked.fits ∙ c.requires.begins.3.stands.on.room.looks
 
 pub explain_due-requires-clause-order : goal.explain_due-requires-clause-order
 explain_due-requires-clause-order g c =
     let begins = c.requires.begins in
-    c.orders_stand.ensures g.S.Texts.tells begins.0 begins.1 begins.2 begins.3 c.args.cone.now c.args.state.now (g.S.Texts.world c.args.site.now) begins.4.stands
+    c.orders_stand.ensures g.S.Texts.tells begins.0 begins.1 begins.2 c.args.state.now (g.S.Texts.world c.args.site.now) begins.3.stands
 
 pub explain_due-requires-clause-due : goal.explain_due-requires-clause-due
 explain_due-requires-clause-due g c = ap length c.deref.ensures.value ∙ c.in_ok-due.ensures.due.fits
@@ -45,5 +45,5 @@ returns-clause-tells g c = record {
   mid = g.S.Texts.world c.check_sources.new.site;
   seen = c.check_sources.new.looks;
   has = c.in_ok-due.ensures.due;
-  says = subst (λ (l : List Bool). SaysDue g.S.Texts.tells c.args.graph.now c.args.cone.now c.args.state.now.records l (g.S.Texts.world c.check_sources.new.site) (g.S.Texts.world c.explain_due.new.site) c.check_sources.new.looks c.explain_due.new.looks c.in_ok-explained.explained.commands.items) c.deref.ensures.value c.in_ok-explained.ensures.says;
+  says = subst (λ (l : List Bool). SaysDue g.S.Texts.tells c.args.graph.now c.args.state.now.cone c.args.state.now.records l (g.S.Texts.world c.check_sources.new.site) (g.S.Texts.world c.explain_due.new.site) c.check_sources.new.looks c.explain_due.new.looks c.in_ok-explained.explained.commands.items) c.deref.ensures.value c.in_ok-explained.ensures.says;
 }

@@ -4,8 +4,8 @@ use Rattle.builder.proofs.explaining.explain_state.Goals as goal
 pub explain_run-requires-clause-begins : goal.explain_run-requires-clause-begins
 explain_run-requires-clause-begins g c =
     let begins = c.requires.begins in
-    let at = c.in_ok-load_sources.ensures.begun begins.0 begins.1 begins.2 begins.3 begins.4 in
-    (begins.0, begins.1, at.0, at.1, at.2)
+    let at = c.in_ok-load_sources.ensures.begun begins.0 begins.1 begins.2 begins.3 in
+    (begins.0, at.0, at.1, at.2)
 
 pub returns-in_err-explain_run-clause-looks : goal.returns-in_err-explain_run-clause-looks
 returns-in_err-explain_run-clause-looks g c =
@@ -16,13 +16,12 @@ returns-clause-looks g c =
     looks_then g.S.Texts.tells (g.S.Texts.world c.args.site.now) (g.S.Texts.world c.load_sources.new.site) (g.S.Texts.world c.explain_run.new.site) c.load_sources.ensures.looks c.explain_run.ensures.looks
 
 pub returns-clause-explains : goal.returns-clause-explains
-returns-clause-explains g c tick course edges phases begins =
-    let at = c.in_ok-load_sources.ensures.begun tick course edges phases begins in
+returns-clause-explains g c course edges phases begins =
+    let at = c.in_ok-load_sources.ensures.begun course edges phases begins in
     record {
       edges = at.0;
       phases = at.1;
       graph = c.load_sources.new.graph;
-      cone = c.load_sources.new.cone;
       state = c.load_sources.new.state;
       begun = g.S.Texts.world c.load_sources.new.site;
       looks = c.load_sources.ensures.looks;

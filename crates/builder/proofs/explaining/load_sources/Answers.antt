@@ -6,16 +6,16 @@ pub sources-init : goal.sources-init
 sources-init g c = record {
   looks = looks_nothing g.S.Texts.tells (g.S.Texts.world c.args.site.now);
   running = c.requires.running;
-  begins = λ tick course edges phases begins. (edges, phases, begins);
+  begins = λ course edges phases begins. (edges, phases, begins);
 }
 
 pub load-requires-clause-at : goal.load-requires-clause-at
 load-requires-clause-at g c =
     let begins = c.requires.begins in
-    let at = c.sources.invariant.begins begins.0 begins.1 begins.2 begins.3 begins.4 in
+    let at = c.sources.invariant.begins begins.0 begins.1 begins.2 begins.3 in
     let next =
-    c.sources_load.ensures g.S.Texts.tells begins.0 begins.1 at.0 at.1 c.sources.graph c.sources.cone c.sources.state (g.S.Texts.world c.sources.site) at.2 c.in-Some.file c.in-Some.ensures.0 c.in-Some.ensures.1 in
-    (begins.0, begins.1, at.0, at.1, next.stands, next.next)
+    c.sources_load.ensures g.S.Texts.tells begins.0 at.0 at.1 c.sources.graph c.sources.state (g.S.Texts.world c.sources.site) at.2 c.in-Some.file c.in-Some.ensures.0 c.in-Some.ensures.1 in
+    (begins.0, at.0, at.1, next.stands, next.next)
 
 pub returns-in_err-load-in-Some-clause-looks : goal.returns-in_err-load-in-Some-clause-looks
 returns-in_err-load-in-Some-clause-looks g c =
@@ -25,10 +25,10 @@ pub sources-preserved : goal.sources-preserved
 sources-preserved g c = record {
   looks = looks_then g.S.Texts.tells (g.S.Texts.world c.args.site.now) (g.S.Texts.world c.sources.site) (g.S.Texts.world c.load.new.site) c.sources.invariant.looks c.load.ensures.looks;
   running = c.in_ok-load-in-Some.ensures.well.goes_on;
-  begins = λ tick course edges phases begins.
-      let at = c.sources.invariant.begins tick course edges phases begins in
+  begins = λ course edges phases begins.
+      let at = c.sources.invariant.begins course edges phases begins in
       let next =
-      c.sources_load.ensures g.S.Texts.tells tick course at.0 at.1 c.sources.graph c.sources.cone c.sources.state (g.S.Texts.world c.sources.site) at.2 c.in-Some.file c.in-Some.ensures.0 c.in-Some.ensures.1 in
-      let begun = c.in_ok-load-in-Some.ensures.begun tick course at.0 at.1 next in
+      c.sources_load.ensures g.S.Texts.tells course at.0 at.1 c.sources.graph c.sources.state (g.S.Texts.world c.sources.site) at.2 c.in-Some.file c.in-Some.ensures.0 c.in-Some.ensures.1 in
+      let begun = c.in_ok-load-in-Some.ensures.begun course at.0 at.1 next in
       (begun.0, at.1 ++ begun.1 ∷ [], begun.2);
 }

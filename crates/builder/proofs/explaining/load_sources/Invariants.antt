@@ -1,4 +1,4 @@
-use Rattle.std.proofs.Common.{◌≡◌, false, ℕ, List}
+use Rattle.std.proofs.Common.{◌≡◌, false, List}
 use Rattle.model.specs.declared.graph.Edge.{Edge}
 use Rattle.model.specs.Calls.{OnlyLooks}
 use Rattle.model.specs.Phases.{Phase}
@@ -11,8 +11,8 @@ abbrev pub invariant-sources : goal.invariant-sources
 invariant-sources g l = record {
   looks : OnlyLooks g.S.Texts.tells (g.S.Texts.world l.fn.site) (g.S.Texts.world l.site);
   running : (g.S.Texts.world l.site).stopped ≡ false;
-  begins : (tick : List ℕ) (course : Course) (edges : List Edge) (phases : List Phase) → BeginsAt g.S.Texts.tells tick course edges phases l.fn.graph l.fn.cone l.fn.state (g.S.Texts.world l.fn.site)
-      → (many : List Edge) × (more : List Phase) × BeginsAt g.S.Texts.tells tick course many more l.graph l.cone l.state (g.S.Texts.world l.site);
+  begins : (course : Course) (edges : List Edge) (phases : List Phase) → BeginsAt g.S.Texts.tells course edges phases l.fn.graph l.fn.state (g.S.Texts.world l.fn.site)
+      → (many : List Edge) × (more : List Phase) × BeginsAt g.S.Texts.tells course many more l.graph l.state (g.S.Texts.world l.site);
 }
 
 abbrev pub decreases-sources : goal.decreases-sources

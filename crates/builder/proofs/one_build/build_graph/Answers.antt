@@ -1,5 +1,4 @@
-use Rattle.std.proofs.Common.{[], refl, sym, ◌∙◌, ap, subst}
-use Rattle.model.specs.Records.{file_in, tick_name}
+use Rattle.std.proofs.Common.{[], refl, sym, subst}
 use Rattle.graph.specs.Told.{declared_by}
 use Rattle.work.specs.declared.report.Report.{Report}
 use Rattle.builder.specs.Build.{Builds, asked_of}
@@ -23,20 +22,7 @@ returns-in_err-cone g c = (
       (subst (λ (r : Report). SaysNoCone graph asked.given.now asked.targets r) (sym {A = Report} (told_by _ c.from_residual.result c.from_residual.ensures.1)) c.in_err-cone.ensures.refused),
 )
 
--- there was no memory for a path
-pub returns-in_err-tick : goal.returns-in_err-tick
-returns-in_err-tick g c = (
-  (declared_by c.args.graph.now).edges,
-  λ course has.
-      let graph = c.args.graph.now in
-      let asked = c.args.asked.now in
-      let old = g.S.Texts.world c.args.site.now in
-      subst (λ (r : Report). Builds g.S.Texts.tells course.behaviour course.format course.own (declared_by graph) asked.folder asked.limits asked.given.now asked.targets (declared_by graph).edges course.entry old r)
-      (sym {A = Report} (told_by _ c.from_residual-in_err-tick.result c.from_residual-in_err-tick.ensures.1))
-      (builds_memory g.S.Texts.tells course.behaviour course.format course.own (declared_by graph) asked.folder asked.limits asked.given.now asked.targets course.store course.entry old has.found has.idle has.looked),
-)
-
--- nor for what a run changes
+-- there was no memory for what a run changes
 pub returns-in_err-state : goal.returns-in_err-state
 returns-in_err-state g c = (
   (declared_by c.args.graph.now).edges,
@@ -55,7 +41,6 @@ run_state-told-requires-clause-begins g c =
     let graph = c.args.graph.now in
     let asked = c.args.asked.now in
     let old = g.S.Texts.world c.args.site.now in
-    let is_tick = c.as_str-2.ensures.value ∙ (c.in_ok-tick.ensures ∙ ap (λ folder. file_in folder tick_name) c.as_str.ensures) in
     let course = c.requires.read.0 in
     let state = c.in_ok-state.state in
     let fresh = c.in_ok-state.ensures.fresh in (
@@ -63,7 +48,7 @@ run_state-told-requires-clause-begins g c =
       (declared_by graph).edges,
       [],
       begins_this tells graph asked c.args.records course old c.requires.read.1 c.requires.formed c.requires.once c.requires.inputs c.in_ok-cone.cone c.in_ok-cone.ensures.cone state.plan fresh.plan state.looks
-          fresh.looks state refl refl fresh.kept fresh.failed fresh.starts _ is_tick,
+          fresh.looks state refl refl fresh.kept fresh.failed fresh.starts fresh.tick fresh.coned,
     )
 
 pub returns : goal.returns
@@ -74,13 +59,12 @@ returns g c = (
       let graph = c.args.graph.now in
       let asked = c.args.asked.now in
       let old = g.S.Texts.world c.args.site.now in
-      let is_tick = c.as_str-2.ensures.value ∙ (c.in_ok-tick.ensures ∙ ap (λ folder. file_in folder tick_name) c.as_str.ensures) in
       let state = c.in_ok-state.state in
       let fresh = c.in_ok-state.ensures.fresh in
-      builds_reported tells graph asked c.args.records course old has c.requires.once c.requires.inputs c.in_ok-cone.cone c.in_ok-cone.ensures.cone _ state c.run_state-told.new.graph c.run_state-told.new.cone (g.S.Texts.world c.run_state-told.new.site)
+      builds_reported tells graph asked c.args.records course old has c.requires.once c.requires.inputs c.in_ok-cone.cone c.in_ok-cone.ensures.cone state c.run_state-told.new.graph c.run_state-told.new.state (g.S.Texts.world c.run_state-told.new.site)
       (report_in c.run_state-told.result) c.run_state-told.ensures
       (begins_this tells graph asked c.args.records course old has c.requires.formed c.requires.once c.requires.inputs c.in_ok-cone.cone c.in_ok-cone.ensures.cone state.plan fresh.plan state.looks
-      fresh.looks state refl refl fresh.kept fresh.failed fresh.starts _ is_tick)
+      fresh.looks state refl refl fresh.kept fresh.failed fresh.starts fresh.tick fresh.coned)
       (begins_here tells graph asked c.args.records course old has c.requires.formed c.requires.once c.requires.inputs c.in_ok-cone.cone c.in_ok-cone.ensures.cone state.plan fresh.plan state.looks
-      fresh.looks state refl refl fresh.kept fresh.failed fresh.starts _ is_tick),
+      fresh.looks state refl refl fresh.kept fresh.failed fresh.starts fresh.tick fresh.coned),
 )

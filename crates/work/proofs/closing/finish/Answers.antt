@@ -10,11 +10,11 @@ take_in_rest-requires-clause-many g c =
     let going = c.requires.going in
     let cut = c.in-Err.ensures.cut going.course going.suits going.is going.on in
     many_by_steps g.S.Texts.tells going.course.own (task_of going.course.asked going.course.store) cut.steps going.course.entry (g.S.Texts.world c.take_in_running.new.site) c.running.result going.suits.idle cut.run
-    (c.running.ensures.steps (task_of going.course.asked going.course.store) c.args.setting.graph.now cut.steps cut.planned cut.taken)
+    (c.running.ensures.steps (task_of going.course.asked going.course.store) c.args.graph.now cut.steps cut.planned cut.taken)
 
 pub returns-in-Err-clause-ran : goal.returns-in-Err-clause-ran
 returns-in-Err-clause-ran g c course suits ends on =
-    ran_cut g.S.Texts.tells course c.args.setting.graph.now (g.S.Texts.world c.take_in_running.new.site) c.take_in_running.new.state.plan (g.S.Texts.world c.take_in_rest.new.site) c.take_in_rest.result (c.in-Err.ensures.cut course suits ends on)
+    ran_cut g.S.Texts.tells course c.args.graph.now (g.S.Texts.world c.take_in_running.new.site) c.take_in_running.new.state.plan (g.S.Texts.world c.take_in_rest.new.site) c.take_in_rest.result (c.in-Err.ensures.cut course suits ends on)
     (λ steps met. c.take_in_rest.ensures.rest course steps met)
 
 pub returns-in-Err-clause-starts : goal.returns-in-Err-clause-starts

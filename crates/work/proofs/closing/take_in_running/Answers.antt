@@ -34,7 +34,7 @@ returns-in_err-take_in-clause-cut g c = on_err c.from_residual.result (λ course
 pub returns-clause-finished : goal.returns-clause-finished
 returns-clause-finished g c course suits ends was =
     let on = c.run.invariant.on course suits ends was in
-    record { on = on; none = none_runs on.steps c.running.result (c.running.ensures.steps (task_of course.asked course.store) c.args.setting.graph.now on.steps on.planned on.taken) c.run-test.false }
+    record { on = on; none = none_runs on.steps c.running.result (c.running.ensures.steps (task_of course.asked course.store) c.args.graph.now on.steps on.planned on.taken) c.run-test.false }
 
 pub returns-in_err-take_in-clause-grows : goal.returns-in_err-take_in-clause-grows
 returns-in_err-take_in-clause-grows g c = after_then g.S.Texts.tells (g.S.Texts.world c.args.site.now) (g.S.Texts.world c.run.site) (g.S.Texts.world c.take_in.new.site) c.run.invariant.grows c.take_in.ensures.grows

@@ -9,8 +9,8 @@ invariant-run g l = record {
   unrefused : Unrefused (g.S.Texts.world l.fn.site) (g.S.Texts.world l.site);
   starts : StartsUnrefused (g.S.Texts.world l.fn.site) (g.S.Texts.world l.site);
   grows : ComesAfter g.S.Texts.tells (g.S.Texts.world l.fn.site) (g.S.Texts.world l.site);
-  looked : LooksUnlessMore g.S.Texts.tells l.setting.graph.now (g.S.Texts.world l.fn.site) (g.S.Texts.world l.site) l.fn.state.looks l.state.looks;
-  on : StandsOn g.S.Texts.tells false l.setting (g.S.Texts.world l.fn.site) (g.S.Texts.world l.site) l.fn.state l.state;
+  looked : LooksUnlessMore g.S.Texts.tells l.graph (g.S.Texts.world l.fn.site) (g.S.Texts.world l.site) l.fn.state.looks l.state.looks;
+  on : StandsOn g.S.Texts.tells false l.graph (g.S.Texts.world l.fn.site) (g.S.Texts.world l.site) l.fn.state l.state;
 }
 
 abbrev pub decreases-run : goal.decreases-run

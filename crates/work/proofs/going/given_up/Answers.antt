@@ -12,12 +12,12 @@ returns-in-Fault-clause-stop g c entry so =
     fault_on entry (g.S.Texts.world c.args.site.now) (g.S.Texts.world c.give_up.new.site) c.args.stop c.in-Fault.fault c.fault.result c.give_up.result c.in-Fault.is c.fault.ensures so (c.give_up.ensures.seen entry) c.give_up.ensures.takes_in
 
 pub returns-in-Fault-clause-halted : goal.returns-in-Fault-clause-halted
-returns-in-Fault-clause-halted g c tick course grown graph cone state same there =
-    fault_halted g.S.Texts.tells tick course grown graph cone state (g.S.Texts.world c.args.site.now) (g.S.Texts.world c.give_up.new.site) c.args.stop c.in-Fault.fault c.fault.result c.give_up.result c.in-Fault.is c.fault.ensures there c.give_up.ensures.left c.give_up.ensures.grows c.give_up.ensures.rest
+returns-in-Fault-clause-halted g c course grown graph state same there =
+    fault_halted g.S.Texts.tells course grown graph state (g.S.Texts.world c.args.site.now) (g.S.Texts.world c.give_up.new.site) c.args.stop c.in-Fault.fault c.fault.result c.give_up.result c.in-Fault.is c.fault.ensures there c.give_up.ensures.left c.give_up.ensures.grows c.give_up.ensures.rest
 
 pub returns-in-Refused-clause-stop : goal.returns-in-Refused-clause-stop
 returns-in-Refused-clause-stop g c entry so = refusal_on entry (g.S.Texts.world c.args.site.now) c.args.stop c.in-Refused.refusal c.in-Refused.is so
 
 pub returns-in-Refused-clause-halted : goal.returns-in-Refused-clause-halted
-returns-in-Refused-clause-halted g c tick course grown graph cone state same there =
-    refusal_halted g.S.Texts.tells tick course grown graph cone state (g.S.Texts.world c.args.site.now) c.args.stop c.in-Refused.refusal c.in-Refused.is there
+returns-in-Refused-clause-halted g c course grown graph state same there =
+    refusal_halted g.S.Texts.tells course grown graph state (g.S.Texts.world c.args.site.now) c.args.stop c.in-Refused.refusal c.in-Refused.is there

@@ -15,24 +15,23 @@ returns-in_err-summary-clause-halted g c =
     let failed = err_from_is_err_and c.from_residual.result c.from_residual.ensures.1 in
     rw (failed.1, failed.2) (λ course edges phases begins.
     let at = c.run.invariant.begins course edges phases begins in
-    halted_there g.S.Texts.tells c.args.tick.now course at.0 at.1 c.run.graph c.run.cone c.run.state (g.S.Texts.world c.run.site) at.2 c.run_to_load.new.state (g.S.Texts.world c.run_to_load.new.site) c.in_err-summary.field-0.0
+    halted_there g.S.Texts.tells course at.0 at.1 c.run.graph c.run.state (g.S.Texts.world c.run.site) at.2 c.run_to_load.new.state (g.S.Texts.world c.run_to_load.new.site) c.in_err-summary.field-0.0
     (c.in_err-summary.ensures.halted course at.0 at.1 at.2))
 
 pub returns-in-Ended-clause-done : goal.returns-in-Ended-clause-done
 returns-in-Ended-clause-done g c course edges phases begins =
     let at = c.run.invariant.begins course edges phases begins in
-    done_there g.S.Texts.tells c.args.tick.now course at.0 at.1 c.run.graph c.run.cone c.run.state (g.S.Texts.world c.run.site) at.2 c.run_to_load.new.state (g.S.Texts.world c.run_to_load.new.site) c.in_ok-summary.field-0 c.in-Ended.summary c.in-Ended.is
+    done_there g.S.Texts.tells course at.0 at.1 c.run.graph c.run.state (g.S.Texts.world c.run.site) at.2 c.run_to_load.new.state (g.S.Texts.world c.run_to_load.new.site) c.in_ok-summary.field-0 c.in-Ended.summary c.in-Ended.is
     (c.in_ok-summary.ensures.paused course at.0 at.1 at.2)
 
 pub load_file-requires-clause-at : goal.load_file-requires-clause-at
 load_file-requires-clause-at g c =
     let begins = c.requires.begins in
     let at = c.run.invariant.begins begins.0 begins.1 begins.2 begins.3 in (
-      c.args.tick.now,
       begins.0,
       at.0,
       at.1,
-      load_next g.S.Texts.tells c.args.tick.now begins.0 at.0 at.1 c.run.graph c.run.cone c.run.state (g.S.Texts.world c.run.site) at.2 c.run_to_load.new.state (g.S.Texts.world c.run_to_load.new.site) c.in_ok-summary.field-0 c.in-Load.file c.in-Load.is
+      load_next g.S.Texts.tells begins.0 at.0 at.1 c.run.graph c.run.state (g.S.Texts.world c.run.site) at.2 c.run_to_load.new.state (g.S.Texts.world c.run_to_load.new.site) c.in_ok-summary.field-0 c.in-Load.file c.in-Load.is
           (c.in_ok-summary.ensures.paused begins.0 at.0 at.1 at.2),
     )
 
@@ -43,8 +42,8 @@ run-preserved g c = record {
   begins = λ course edges phases begins.
       let at = c.run.invariant.begins course edges phases begins in
       let next =
-      c.in_ok-load_file-in-Load.ensures.begun c.args.tick.now course at.0 at.1
-      (load_next g.S.Texts.tells c.args.tick.now course at.0 at.1 c.run.graph c.run.cone c.run.state (g.S.Texts.world c.run.site) at.2 c.run_to_load.new.state (g.S.Texts.world c.run_to_load.new.site) c.in_ok-summary.field-0 c.in-Load.file c.in-Load.is
+      c.in_ok-load_file-in-Load.ensures.begun course at.0 at.1
+      (load_next g.S.Texts.tells course at.0 at.1 c.run.graph c.run.state (g.S.Texts.world c.run.site) at.2 c.run_to_load.new.state (g.S.Texts.world c.run_to_load.new.site) c.in_ok-summary.field-0 c.in-Load.file c.in-Load.is
       (c.in_ok-summary.ensures.paused course at.0 at.1 at.2)) in
       (next.0, at.1 ++ next.1 ∷ [], next.2);
 }
@@ -54,6 +53,6 @@ returns-in_err-load_file-in-Load-clause-halted g c =
     let failed = err_from_is_err_and c.from_residual-in_err-load_file-in-Load.result c.from_residual-in_err-load_file-in-Load.ensures.1 in
     rw (failed.1, failed.2) (λ course edges phases begins.
     let at = c.run.invariant.begins course edges phases begins in
-    c.in_err-load_file-in-Load.ensures.halted c.args.tick.now course at.0 at.1
-    (load_next g.S.Texts.tells c.args.tick.now course at.0 at.1 c.run.graph c.run.cone c.run.state (g.S.Texts.world c.run.site) at.2 c.run_to_load.new.state (g.S.Texts.world c.run_to_load.new.site) c.in_ok-summary.field-0 c.in-Load.file c.in-Load.is
+    c.in_err-load_file-in-Load.ensures.halted course at.0 at.1
+    (load_next g.S.Texts.tells course at.0 at.1 c.run.graph c.run.state (g.S.Texts.world c.run.site) at.2 c.run_to_load.new.state (g.S.Texts.world c.run_to_load.new.site) c.in_ok-summary.field-0 c.in-Load.file c.in-Load.is
     (c.in_ok-summary.ensures.paused course at.0 at.1 at.2)))

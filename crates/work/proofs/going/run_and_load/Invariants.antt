@@ -9,8 +9,8 @@ use Rattle.work.proofs.going.run_and_load.Given as goal
 abbrev pub invariant-run : goal.invariant-run
 invariant-run g l = record {
   well : GoesWell (g.S.Texts.world l.fn.site) (g.S.Texts.world l.site);
-  begins : (course : Course) (edges : List Edge) (phases : List Phase) → BeginsAt g.S.Texts.tells l.tick course edges phases l.fn.graph l.fn.cone l.fn.state (g.S.Texts.world l.fn.site)
-      → (many : List Edge) × (more : List Phase) × BeginsAt g.S.Texts.tells l.tick course many more l.graph l.cone l.state (g.S.Texts.world l.site);
+  begins : (course : Course) (edges : List Edge) (phases : List Phase) → BeginsAt g.S.Texts.tells course edges phases l.fn.graph l.fn.state (g.S.Texts.world l.fn.site)
+      → (many : List Edge) × (more : List Phase) × BeginsAt g.S.Texts.tells course many more l.graph l.state (g.S.Texts.world l.site);
 }
 
 abbrev pub decreases-run : goal.decreases-run

@@ -7,7 +7,7 @@ use Rattle.work.proofs.going.run_graph.Goals as goal
 pub finished-requires-clause-refused : goal.finished-requires-clause-refused
 finished-requires-clause-refused g c =
     let begins = c.requires.begins in
-    refused_some g.S.Texts.tells c.args.tick.now begins.0 (declared_by c.run_and_load.new.graph).edges c.run_and_load.new.graph c.run_and_load.new.cone c.run_and_load.new.state (g.S.Texts.world c.run_and_load.new.site) c.in-Err.stop
+    refused_some g.S.Texts.tells begins.0 (declared_by c.run_and_load.new.graph).edges c.run_and_load.new.graph c.run_and_load.new.state (g.S.Texts.world c.run_and_load.new.site) c.in-Err.stop
     (c.in-Err.ensures.halted begins.0 begins.1 begins.2 begins.3)
 
 pub finished-requires-clause-stop : goal.finished-requires-clause-stop
@@ -15,7 +15,7 @@ finished-requires-clause-stop g c = (g.S.Texts.world c.args.site.now, c.in-Err.e
 
 pub returns-in-Err-clause-ended : goal.returns-in-Err-clause-ended
 returns-in-Err-clause-ended g c course edges phases begins =
-    c.finished.ensures.ended course (declared_by c.run_and_load.new.graph).edges c.run_and_load.new.cone (c.in-Err.ensures.halted course edges phases begins)
+    c.finished.ensures.ended course (declared_by c.run_and_load.new.graph).edges c.finished.new.state.cone (c.in-Err.ensures.halted course edges phases begins)
 
 pub returns-in-Err-clause-seen : goal.returns-in-Err-clause-seen
 returns-in-Err-clause-seen g c =

@@ -17,45 +17,45 @@ use Rattle.work.proofs.judged.judge.Goals as goal
 pub reason-requires-clause-command : goal.reason-requires-clause-command
 reason-requires-clause-command g c =
     let going = c.requires.going in
-    let graph = c.args.setting.graph.now in
-    judged_command going.course graph c.args.setting.tick.now going.suits c.args.edge (c.requires.next.lawful (task_of going.course.asked going.course.store) graph going.on.steps going.on.planned going.on.taken true).0.command
+    let graph = c.args.graph.now in
+    judged_command going.course graph going.suits c.args.edge (c.requires.next.lawful (task_of going.course.asked going.course.store) graph going.on.steps going.on.planned going.on.taken true).0.command
 
 pub returns-in_err-reason-clause-looked : goal.returns-in_err-reason-clause-looked
-returns-in_err-reason-clause-looked g c = (c.looks_follow.ensures.follow g.S.Texts.tells (g.S.Texts.world c.args.site.now) (g.S.Texts.world c.ask_before.new.site) (g.S.Texts.world c.reason.new.site)).looked c.args.setting.graph.now c.args.state.now.looks c.ask_before.new.looks c.reason.new.looks c.ask_before.ensures.looked c.reason.ensures.looked
+returns-in_err-reason-clause-looked g c = (c.looks_follow.ensures.follow g.S.Texts.tells (g.S.Texts.world c.args.site.now) (g.S.Texts.world c.ask_before.new.site) (g.S.Texts.world c.reason.new.site)).looked c.args.graph.now c.args.state.now.looks c.ask_before.new.looks c.reason.new.looks c.ask_before.ensures.looked c.reason.ensures.looked
 
 pub returns-clause-looked : goal.returns-clause-looked
-returns-clause-looked g c = (c.looks_follow.ensures.follow g.S.Texts.tells (g.S.Texts.world c.args.site.now) (g.S.Texts.world c.ask_before.new.site) (g.S.Texts.world c.reason.new.site)).looked c.args.setting.graph.now c.args.state.now.looks c.ask_before.new.looks c.reason.new.looks c.ask_before.ensures.looked c.reason.ensures.looked
+returns-clause-looked g c = (c.looks_follow.ensures.follow g.S.Texts.tells (g.S.Texts.world c.args.site.now) (g.S.Texts.world c.ask_before.new.site) (g.S.Texts.world c.reason.new.site)).looked c.args.graph.now c.args.state.now.looks c.ask_before.new.looks c.reason.new.looks c.ask_before.ensures.looked c.reason.ensures.looked
 
 pub reason-requires-clause-summed : goal.reason-requires-clause-summed
 reason-requires-clause-summed g c =
     let state = c.args.state.now in
-    subst (λ (flags : List Bool). AreSums c.args.setting.graph.now flags c.ask_before.new.looks.seen.items c.args.sums.now) (sym {A = List Bool} c.deref.ensures.value)
-    (c.sums_follow.ensures.sums c.args.setting.graph.now state.plan.changed.items state.looks.seen.items c.ask_before.new.looks.seen.items c.ask_before.ensures.looked.stays c.args.sums.now c.requires.summed)
+    subst (λ (flags : List Bool). AreSums c.args.graph.now flags c.ask_before.new.looks.seen.items c.args.sums.now) (sym {A = List Bool} c.deref.ensures.value)
+    (c.sums_follow.ensures.sums c.args.graph.now state.plan.changed.items state.looks.seen.items c.ask_before.new.looks.seen.items c.ask_before.ensures.looked.stays c.args.sums.now c.requires.summed)
 
 pub returns-in_err-ask_before-clause-summed : goal.returns-in_err-ask_before-clause-summed
 returns-in_err-ask_before-clause-summed g c =
     let state = c.args.state.now in
-    c.sums_follow.ensures.sums c.args.setting.graph.now state.plan.changed.items state.looks.seen.items c.ask_before.new.looks.seen.items c.ask_before.ensures.looked.stays c.args.sums.now c.requires.summed
+    c.sums_follow.ensures.sums c.args.graph.now state.plan.changed.items state.looks.seen.items c.ask_before.new.looks.seen.items c.ask_before.ensures.looked.stays c.args.sums.now c.requires.summed
 
 pub returns-in_err-reason-clause-summed : goal.returns-in_err-reason-clause-summed
 returns-in_err-reason-clause-summed g c =
-    subst (λ (flags : List Bool). AreSums c.args.setting.graph.now flags c.reason.new.looks.seen.items c.reason.new.sums) c.deref.ensures.value c.reason.ensures.summed
+    subst (λ (flags : List Bool). AreSums c.args.graph.now flags c.reason.new.looks.seen.items c.reason.new.sums) c.deref.ensures.value c.reason.ensures.summed
 
 pub returns-clause-summed : goal.returns-clause-summed
 returns-clause-summed g c =
-    subst (λ (flags : List Bool). AreSums c.args.setting.graph.now flags c.reason.new.looks.seen.items c.reason.new.sums)
+    subst (λ (flags : List Bool). AreSums c.args.graph.now flags c.reason.new.looks.seen.items c.reason.new.sums)
     (c.deref.ensures.value ∙ sym (ap (λ (it : _). it.items) c.judged.ensures.flags)) c.reason.ensures.summed
 
 -- the marks are right by what was seen before the judgement
 pub returns-in_err-ask_before-clause-marked : goal.returns-in_err-ask_before-clause-marked
 returns-in_err-ask_before-clause-marked g c =
     let state = c.args.state.now in
-    c.sums_follow.ensures.marks c.args.setting.graph.now state.plan.changed.items state.looks.seen.items c.ask_before.new.looks.seen.items c.ask_before.ensures.looked.stays c.args.sums.now c.requires.marked
+    c.sums_follow.ensures.marks c.args.graph.now state.plan.changed.items state.looks.seen.items c.ask_before.new.looks.seen.items c.ask_before.ensures.looked.stays c.args.sums.now c.requires.marked
 
 pub returns-in_err-reason-clause-marked : goal.returns-in_err-reason-clause-marked
 returns-in_err-reason-clause-marked g c =
     let state = c.args.state.now in
-    let graph = c.args.setting.graph.now in
+    let graph = c.args.graph.now in
     subst (λ (flags : List Bool). AreMarked graph flags c.reason.new.looks.seen.items c.reason.new.sums) c.deref.ensures.value
     (c.reason.ensures.marked (subst (λ (flags : List Bool). AreMarked graph flags c.ask_before.new.looks.seen.items c.args.sums.now) (sym {A = List Bool} c.deref.ensures.value)
     (c.sums_follow.ensures.marks graph state.plan.changed.items state.looks.seen.items c.ask_before.new.looks.seen.items c.ask_before.ensures.looked.stays c.args.sums.now c.requires.marked)))
@@ -63,7 +63,7 @@ returns-in_err-reason-clause-marked g c =
 pub returns-clause-marked : goal.returns-clause-marked
 returns-clause-marked g c =
     let state = c.args.state.now in
-    let graph = c.args.setting.graph.now in
+    let graph = c.args.graph.now in
     subst (λ (flags : List Bool). AreMarked graph flags c.reason.new.looks.seen.items c.reason.new.sums) (c.deref.ensures.value ∙ sym (ap (λ (it : _). it.items) c.judged.ensures.flags))
     (c.reason.ensures.marked (subst (λ (flags : List Bool). AreMarked graph flags c.ask_before.new.looks.seen.items c.args.sums.now) (sym {A = List Bool} c.deref.ensures.value)
     (c.sums_follow.ensures.marks graph state.plan.changed.items state.looks.seen.items c.ask_before.new.looks.seen.items c.ask_before.ensures.looked.stays c.args.sums.now c.requires.marked)))
@@ -74,13 +74,13 @@ returns-clause-nearer g c = judged_less c.args.state.now.plan c.judged.new.self.
 pub returns-clause-on : goal.returns-clause-on
 returns-clause-on g c course suits goes on =
     let tells = g.S.Texts.tells in
-    let graph = c.args.setting.graph.now in
+    let graph = c.args.graph.now in
     let state = c.args.state.now in
     let mid = g.S.Texts.world c.ask_before.new.site in
-    judged_on tells course graph c.log_stays.ensures c.args.setting.tick.now suits (with_looks tells course graph state c.ask_before.new.looks) mid (g.S.Texts.world c.reason.new.site) c.args.edge
-    (on_looked tells course graph c.log_stays.ensures c.args.setting.tick.now suits state (g.S.Texts.world c.args.site.now) mid c.ask_before.new.looks c.ask_before.ensures.looked on) goes c.requires.next
+    judged_on tells course graph c.log_stays.ensures suits (with_looks tells course graph state c.ask_before.new.looks) mid (g.S.Texts.world c.reason.new.site) c.args.edge
+    (on_looked tells course graph c.log_stays.ensures suits state (g.S.Texts.world c.args.site.now) mid c.ask_before.new.looks c.ask_before.ensures.looked on) goes c.requires.next
     c.reason.ensures.looked.looks c.reason.new.looks c.in_ok-reason.reason (is_stale c.verdict_of-verdict.result) c.verdict_of-verdict.ensures c.reason.ensures.looked
-    c.lists_stand.ensures (asked_outputs course graph c.args.setting.tick.now suits c.args.edge c.ask_before.new.looks c.in_ok-ask_before.ensures.asked)
+    c.lists_stand.ensures (asked_outputs course graph suits c.args.edge c.ask_before.new.looks c.in_ok-ask_before.ensures.asked)
     (subst
     (λ (flags : List Bool). (rs : List Record) (ds : List DepsRecord) → AreKnown graph rs ds state.records
     → KeepsDepfile tells (declared_by graph).edges mid (g.S.Texts.world c.reason.new.site) (suc c.args.edge)

@@ -11,8 +11,7 @@ use Rattle.work.proofs.loads.join.Goals as goal
 pub returns-in_err-before-clause-undone : goal.returns-in_err-before-clause-undone
 returns-in_err-before-clause-undone c = on_err c.from_residual.result (record {
   graph_is = c.in_err-before.ensures.err;
-  cone_is = refl;
-  state = record { plan = refl; looks = refl; logs = refl; starts = refl; failed = refl };
+  state = record { cone = refl; plan = refl; looks = refl; logs = refl; tick = refl; starts = refl; failed = refl };
   known = λ rs ds known. known;
 })
 
@@ -54,14 +53,15 @@ returns-in-Err-clause-undone c =
     let now = c.join_parts.new.state in
     record {
       graph_is = back;
-      cone_is = c.in-Err.ensures.cone;
       state = record {
+        cone = c.in-Err.ensures.cone;
         plan = c.in-Err.ensures.plan;
         looks = c.shrink-in-Err.ensures
             ∙ (ap (λ (g : Graph). take (length g.manifest.paths) now.looks.seen.items) back
             ∙ (ap (λ (n : ℕ). take n now.looks.seen.items) (sym may.seen)
             ∙ c.in-Err.ensures.looks));
         logs = c.shrink.ensures.logs ∙ c.join_parts.ensures.beside.logs;
+        tick = c.join_parts.ensures.beside.tick;
         starts = c.join_parts.ensures.beside.starts;
         failed = c.join_parts.ensures.beside.failed;
       };

@@ -25,7 +25,7 @@ join_inputs-requires-clause-known c =
     (c.requires.loaded.2, j.has.added, store.records, store.deps, j.has.paths, j.may.known)
 
 pub returns-in_err-join_inputs-clause-beside : goal.returns-in_err-join_inputs-clause-beside
-returns-in_err-join_inputs-clause-beside c = record { logs = c.join_inputs.ensures.logs; starts = refl; failed = refl }
+returns-in_err-join_inputs-clause-beside c = record { logs = c.join_inputs.ensures.logs; tick = refl; starts = refl; failed = refl }
 
 pub returns-in_err-join_inputs-clause-grown : goal.returns-in_err-join_inputs-clause-grown
 returns-in_err-join_inputs-clause-grown c = on_err c.from_residual.result c.join_inputs.ensures.grown
@@ -60,7 +60,7 @@ cone_again-requires-clause-asked c =
     )
 
 pub returns-in_err-grown-clause-beside : goal.returns-in_err-grown-clause-beside
-returns-in_err-grown-clause-beside c = record { logs = c.join_inputs.ensures.logs; starts = refl; failed = refl }
+returns-in_err-grown-clause-beside c = record { logs = c.join_inputs.ensures.logs; tick = refl; starts = refl; failed = refl }
 
 pub returns-in_err-grown-clause-grown : goal.returns-in_err-grown-clause-grown
 returns-in_err-grown-clause-grown c = on_err c.from_residual-in_err-grown.result c.join_inputs.ensures.grown
@@ -76,7 +76,7 @@ returns-in_err-grown-clause-kept c = on_err c.from_residual-in_err-grown.result 
 -- a circle is one of what was asked, over the edges as they are now
 pub returns-in_err-grown-clause-cause : goal.returns-in_err-grown-clause-cause
 returns-in_err-grown-clause-cause c =
-    passed (λ s. IfRefused s (UnjoinedOver c.args.before.now c.args.graph.now c.args.cone.now c.args.state.now)) c.in_err-grown.field-0.0 c.from_residual-in_err-grown.result c.from_residual-in_err-grown.ensures.1
+    passed (λ s. IfRefused s (UnjoinedOver c.args.before.now c.args.graph.now c.args.state.now)) c.in_err-grown.field-0.0 c.from_residual-in_err-grown.result c.from_residual-in_err-grown.ensures.1
     (refused_then c.in_err-grown.field-0.0 c.in_err-grown.ensures.refused (λ refusal circle asked store graph j.
     let joined = c.in_ok-join_inputs.ensures.joined graph j.has.added j.has.paths store.records store.deps j.may.known (to_join j.may j.undoes j.has) in
     circle_by j.may j.undoes j.has c.files_stand.ensures joined refusal
@@ -101,12 +101,16 @@ grow-requires-clause-fits c =
 pub returns-in_err-grow-clause-beside : goal.returns-in_err-grow-clause-beside
 returns-in_err-grow-clause-beside c = record {
   logs = ap (λ (r : Records). r.logs) c.grow.ensures.records ∙ c.join_inputs.ensures.logs;
+  tick = c.grow.ensures.beside.tick;
   starts = c.grow.ensures.beside.starts;
   failed = c.grow.ensures.beside.failed;
 }
 
 pub returns-in_err-grow-clause-grown : goal.returns-in_err-grow-clause-grown
 returns-in_err-grow-clause-grown c = on_err c.from_residual-in_err-grow.result c.join_inputs.ensures.grown
+
+pub returns-in_err-grow-clause-cone : goal.returns-in_err-grow-clause-cone
+returns-in_err-grow-clause-cone c = on_err c.from_residual-in_err-grow.result c.grow.ensures.cone
 
 pub returns-in_err-grow-clause-plan : goal.returns-in_err-grow-clause-plan
 returns-in_err-grow-clause-plan c = on_err c.from_residual-in_err-grow.result c.in_err-grow.ensures.plan
@@ -128,7 +132,7 @@ returns-clause-goes c asked store graph j =
 pub returns-clause-room : goal.returns-clause-room
 returns-clause-room c =
     let room = c.in_ok-grow.ensures.room in
-    record { fits = room.fits; looks = room.looks; changed = room.changed; starts = room.starts; failed = room.failed }
+    record { fits = room.fits; looks = room.looks; changed = room.changed; tick = room.tick; starts = room.starts; failed = room.failed }
 
 pub returns-clause-known : goal.returns-clause-known
 returns-clause-known c was more is rs ds known =
@@ -138,6 +142,7 @@ returns-clause-known c was more is rs ds known =
 pub returns-clause-beside : goal.returns-clause-beside
 returns-clause-beside c = record {
   logs = ap (λ (r : Records). r.logs) c.grow.ensures.records ∙ c.join_inputs.ensures.logs;
+  tick = c.grow.ensures.beside.tick;
   starts = c.grow.ensures.beside.starts;
   failed = c.grow.ensures.beside.failed;
 }

@@ -6,7 +6,7 @@ use Rattle.work.proofs.Results.{ok_then}
 use Rattle.work.proofs.outputs.ask_before.Goals as goal
 
 pub returns-then-not-has_restat-clause-looked : goal.returns-then-not-has_restat-clause-looked
-returns-then-not-has_restat-clause-looked g c = saw_none g.S.Texts.tells c.args.setting.graph.now (g.S.Texts.world c.args.site.now) c.args.looks.now
+returns-then-not-has_restat-clause-looked g c = saw_none g.S.Texts.tells c.args.graph.now (g.S.Texts.world c.args.site.now) c.args.looks.now
 
 pub returns-then-not-has_restat-clause-asked : goal.returns-then-not-has_restat-clause-asked
 returns-then-not-has_restat-clause-asked g c restat = absurd (false≢true (sym c.if-not-has_restat.true ∙ (c.has_restat.ensures ∙ restat)))

@@ -6,7 +6,7 @@ use Rattle.work.proofs.outputs.changes.Goals as goal
 pub returns-clause-anew : goal.returns-clause-anew
 returns-clause-anew g c = record {
   between = c.forget.new.self;
-  forgets = outputs_forgotten c.args.setting.graph.now c.args.edge c.outputs-outputs.result.now c.args.looks.now c.forget.new.self c.outputs-outputs.ensures c.forget.ensures.forgotten c.forget.ensures.others c.forget.ensures.fits;
+  forgets = outputs_forgotten c.args.graph.now c.args.edge c.outputs-outputs.result.now c.args.looks.now c.forget.new.self c.outputs-outputs.ensures c.forget.ensures.forgotten c.forget.ensures.others c.forget.ensures.fits;
   looked = c.ask.ensures.looked;
   asked = λ p made. c.in_ok-ask.ensures.asked p (ap (λ (l : List ℕ). has_number l p) c.outputs-outputs.ensures ∙ made);
 }

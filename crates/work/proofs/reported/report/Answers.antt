@@ -16,27 +16,27 @@ returns-in_default g c = record {
   starts = refl;
   looks = refl;
   failed = refl;
-  on = λ course suits taken. tells_nothing g.S.Texts.tells course c.args.setting.tick.now c.args.setting.graph.now suits c.args.state.now (g.S.Texts.world c.args.site.now) c.args.edge c.args.start c.args.told.now taken (λ paths is. c.in_default.not-Inputs paths is);
+  on = λ course suits taken. tells_nothing g.S.Texts.tells course c.args.graph.now suits c.args.state.now (g.S.Texts.world c.args.site.now) c.args.edge c.args.start c.args.told.now taken (λ paths is. c.in_default.not-Inputs paths is);
   cut = tt;
 }
 
 pub returns-in_err-texts-clause-cut : goal.returns-in_err-texts-clause-cut
 returns-in_err-texts-clause-cut g c =
-    on_err c.from_residual.result (λ course suits taken. cut_telling g.S.Texts.tells course c.args.setting.tick.now c.args.setting.graph.now suits c.args.state.now (g.S.Texts.world c.args.site.now) c.args.edge c.args.start c.args.told.now taken)
+    on_err c.from_residual.result (λ course suits taken. cut_telling g.S.Texts.tells course c.args.graph.now suits c.args.state.now (g.S.Texts.world c.args.site.now) c.args.edge c.args.start c.args.told.now taken)
 
 pub report-requires-clause-once : goal.report-requires-clause-once
 report-requires-clause-once g c =
-    taken_once g.S.Texts.tells c.requires.taken_in.0 c.args.setting.tick.now c.args.setting.graph.now c.requires.taken_in.1 c.args.state.now (g.S.Texts.world c.args.site.now) c.args.edge c.args.start true refl c.args.told.now c.requires.taken_in.2
+    taken_once g.S.Texts.tells c.requires.taken_in.0 c.args.graph.now c.requires.taken_in.1 c.args.state.now (g.S.Texts.world c.args.site.now) c.args.edge c.args.start true refl c.args.told.now c.requires.taken_in.2
 
 pub report-requires-clause-some : goal.report-requires-clause-some
 report-requires-clause-some g c =
-    taken_some g.S.Texts.tells c.requires.taken_in.0 c.args.setting.tick.now c.args.setting.graph.now c.requires.taken_in.1 c.args.state.now (g.S.Texts.world c.args.site.now) c.args.edge c.args.start true refl c.args.told.now c.requires.taken_in.2
+    taken_some g.S.Texts.tells c.requires.taken_in.0 c.args.graph.now c.requires.taken_in.1 c.args.state.now (g.S.Texts.world c.args.site.now) c.args.edge c.args.start true refl c.args.told.now c.requires.taken_in.2
 
 pub returns-clause-on : goal.returns-clause-on
 returns-clause-on g c = ok_then c.report.result c.report.ensures.ok (λ so course suits taken.
-    reported g.S.Texts.tells course c.args.setting.tick.now c.args.setting.graph.now suits c.args.state.now (g.S.Texts.world c.args.site.now) c.args.edge c.args.start c.args.told.now taken c.in-Inputs.paths c.in-Inputs.is (g.S.Texts.world c.report.new.site) c.report.ensures.writes
+    reported g.S.Texts.tells course c.args.graph.now suits c.args.state.now (g.S.Texts.world c.args.site.now) c.args.edge c.args.start c.args.told.now taken c.in-Inputs.paths c.in-Inputs.is (g.S.Texts.world c.report.new.site) c.report.ensures.writes
     c.report.new.self c.report.ensures.same c.report.ensures.places c.report.ensures.deps_places (texts_in c.deref.result.now) (ap texts_in c.deref.ensures.value ∙ c.in_ok-texts.ensures) so)
 
 pub returns-clause-cut : goal.returns-clause-cut
 returns-clause-cut g c = err_then c.report.result c.report.ensures.err (λ so course suits taken.
-    cut_reporting g.S.Texts.tells course c.args.setting.tick.now c.args.setting.graph.now suits c.args.state.now (g.S.Texts.world c.args.site.now) c.args.edge c.args.start c.args.told.now taken c.in-Inputs.paths c.in-Inputs.is (g.S.Texts.world c.report.new.site) c.report.ensures.writes so)
+    cut_reporting g.S.Texts.tells course c.args.graph.now suits c.args.state.now (g.S.Texts.world c.args.site.now) c.args.edge c.args.start c.args.told.now taken c.in-Inputs.paths c.in-Inputs.is (g.S.Texts.world c.report.new.site) c.report.ensures.writes so)

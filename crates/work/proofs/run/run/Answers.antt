@@ -10,7 +10,7 @@ use Rattle.work.proofs.run.run.Goals as goal
 pub run-init : goal.run-init
 run-init g c =
     let now = g.S.Texts.world c.args.site.now in
-    let graph = c.args.setting.graph.now in
+    let graph = c.args.graph.now in
     let state = c.args.state.now in
     record {
       unrefused = unrefused_none now c.requires.running;
@@ -32,8 +32,8 @@ returns-in_err-halt-clause-cut g c = on_err c.from_residual.result (λ course su
 
 pub returns-in-Some-clause-halts : goal.returns-in-Some-clause-halts
 returns-in-Some-clause-halts g c course suits goes on =
-    some_of c.in_ok-halt.field-0 c.in-Some.halt (GoesOn g.S.Texts.tells c.args.setting (g.S.Texts.world c.run.site) (g.S.Texts.world c.go_on.new.site) c.run.state c.go_on.new.state)
-    (Halts g.S.Texts.tells c.args.setting (g.S.Texts.world c.run.site) (g.S.Texts.world c.go_on.new.site) c.run.state c.go_on.new.state) c.in-Some.is
+    some_of c.in_ok-halt.field-0 c.in-Some.halt (GoesOn g.S.Texts.tells c.args.graph.now (g.S.Texts.world c.run.site) (g.S.Texts.world c.go_on.new.site) c.run.state c.go_on.new.state)
+    (Halts g.S.Texts.tells c.args.graph.now (g.S.Texts.world c.run.site) (g.S.Texts.world c.go_on.new.site) c.run.state c.go_on.new.state) c.in-Some.is
     c.in_ok-halt.ensures.on course suits goes (c.run.invariant.on course suits goes on)
 
 pub returns-in_err-halt-clause-grows : goal.returns-in_err-halt-clause-grows
@@ -43,7 +43,7 @@ pub returns-in-Some-clause-grows : goal.returns-in-Some-clause-grows
 returns-in-Some-clause-grows g c = after_then g.S.Texts.tells (g.S.Texts.world c.args.site.now) (g.S.Texts.world c.run.site) (g.S.Texts.world c.go_on.new.site) c.run.invariant.grows c.go_on.ensures.grows
 
 pub returns-in-Some-clause-looked : goal.returns-in-Some-clause-looked
-returns-in-Some-clause-looked g c = looks_then_looks g.S.Texts.tells c.args.setting.graph.now (g.S.Texts.world c.args.site.now) (g.S.Texts.world c.run.site) (g.S.Texts.world c.go_on.new.site)
+returns-in-Some-clause-looked g c = looks_then_looks g.S.Texts.tells c.args.graph.now (g.S.Texts.world c.args.site.now) (g.S.Texts.world c.run.site) (g.S.Texts.world c.go_on.new.site)
     (c.looks_follow.ensures.follow g.S.Texts.tells (g.S.Texts.world c.args.site.now) (g.S.Texts.world c.run.site) (g.S.Texts.world c.go_on.new.site))
     c.args.state.now.looks c.run.state.looks c.go_on.new.state.looks c.run.invariant.grows c.go_on.ensures.grows c.run.invariant.looked c.in_ok-halt.ensures.looked
 
@@ -54,11 +54,11 @@ run-preserved g c = record {
   summed = c.in_ok-halt.ensures.summed;
   marked = c.in_ok-halt.ensures.marked;
   grows = after_then g.S.Texts.tells (g.S.Texts.world c.args.site.now) (g.S.Texts.world c.run.site) (g.S.Texts.world c.go_on.new.site) c.run.invariant.grows c.go_on.ensures.grows;
-  looked = looks_then_looks g.S.Texts.tells c.args.setting.graph.now (g.S.Texts.world c.args.site.now) (g.S.Texts.world c.run.site) (g.S.Texts.world c.go_on.new.site)
+  looked = looks_then_looks g.S.Texts.tells c.args.graph.now (g.S.Texts.world c.args.site.now) (g.S.Texts.world c.run.site) (g.S.Texts.world c.go_on.new.site)
       (c.looks_follow.ensures.follow g.S.Texts.tells (g.S.Texts.world c.args.site.now) (g.S.Texts.world c.run.site) (g.S.Texts.world c.go_on.new.site))
       c.args.state.now.looks c.run.state.looks c.go_on.new.state.looks c.run.invariant.grows c.go_on.ensures.grows c.run.invariant.looked c.in_ok-halt.ensures.looked;
   on = λ course suits goes was.
-      none_of c.in_ok-halt.field-0 (GoesOn g.S.Texts.tells c.args.setting (g.S.Texts.world c.run.site) (g.S.Texts.world c.go_on.new.site) c.run.state c.go_on.new.state)
-      (Halts g.S.Texts.tells c.args.setting (g.S.Texts.world c.run.site) (g.S.Texts.world c.go_on.new.site) c.run.state c.go_on.new.state) c.in_default.is
+      none_of c.in_ok-halt.field-0 (GoesOn g.S.Texts.tells c.args.graph.now (g.S.Texts.world c.run.site) (g.S.Texts.world c.go_on.new.site) c.run.state c.go_on.new.state)
+      (Halts g.S.Texts.tells c.args.graph.now (g.S.Texts.world c.run.site) (g.S.Texts.world c.go_on.new.site) c.run.state c.go_on.new.state) c.in_default.is
       c.in_ok-halt.ensures.on course suits goes (c.run.invariant.on course suits goes was);
 }

@@ -9,11 +9,11 @@ abbrev pub invariant-run : goal.invariant-run
 invariant-run g l = record {
   unrefused : Unrefused (g.S.Texts.world l.fn.site) (g.S.Texts.world l.site);
   starts : StartsUnrefused (g.S.Texts.world l.fn.site) (g.S.Texts.world l.site);
-  summed : AreSums l.setting.graph.now l.state.plan.changed.items l.state.looks.seen.items l.sums;
-  marked : AreMarked l.setting.graph.now l.state.plan.changed.items l.state.looks.seen.items l.sums;
+  summed : AreSums l.graph l.state.plan.changed.items l.state.looks.seen.items l.sums;
+  marked : AreMarked l.graph l.state.plan.changed.items l.state.looks.seen.items l.sums;
   grows : ComesAfter g.S.Texts.tells (g.S.Texts.world l.fn.site) (g.S.Texts.world l.site);
-  looked : LooksUnlessMore g.S.Texts.tells l.setting.graph.now (g.S.Texts.world l.fn.site) (g.S.Texts.world l.site) l.fn.state.looks l.state.looks;
-  on : GoesOn g.S.Texts.tells l.setting (g.S.Texts.world l.fn.site) (g.S.Texts.world l.site) l.fn.state l.state;
+  looked : LooksUnlessMore g.S.Texts.tells l.graph (g.S.Texts.world l.fn.site) (g.S.Texts.world l.site) l.fn.state.looks l.state.looks;
+  on : GoesOn g.S.Texts.tells l.graph (g.S.Texts.world l.fn.site) (g.S.Texts.world l.site) l.fn.state l.state;
 }
 
 abbrev pub decreases-run : goal.decreases-run

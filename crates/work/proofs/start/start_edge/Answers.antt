@@ -9,31 +9,31 @@ use Rattle.work.proofs.start.start_edge.Goals as goal
 pub returns-in_err-make_folders-clause-cut : goal.returns-in_err-make_folders-clause-cut
 returns-in_err-make_folders-clause-cut g c =
     on_err c.from_residual.result (λ course suits goes on.
-    cut_looking g.S.Texts.tells course c.args.setting.graph.now c.args.setting.tick.now suits c.log_stays.ensures c.args.state.now (g.S.Texts.world c.args.site.now) c.args.edge on goes c.requires.next
+    cut_looking g.S.Texts.tells course c.args.graph.now suits c.log_stays.ensures c.args.state.now (g.S.Texts.world c.args.site.now) c.args.edge on goes c.requires.next
     (g.S.Texts.world c.make_folders.new.site) c.make_folders.ensures.looks)
 
 pub returns-in_err-start-clause-cut : goal.returns-in_err-start-clause-cut
 returns-in_err-start-clause-cut g c =
     on_err c.from_residual-in_err-start.result (λ course suits goes on.
-    cut_looking g.S.Texts.tells course c.args.setting.graph.now c.args.setting.tick.now suits c.log_stays.ensures c.args.state.now (g.S.Texts.world c.args.site.now) c.args.edge on goes c.requires.next
+    cut_looking g.S.Texts.tells course c.args.graph.now suits c.log_stays.ensures c.args.state.now (g.S.Texts.world c.args.site.now) c.args.edge on goes c.requires.next
     (g.S.Texts.world c.start.new.site)
     (looks_then g.S.Texts.tells (g.S.Texts.world c.args.site.now) (g.S.Texts.world c.make_folders.new.site) (g.S.Texts.world c.start.new.site) c.make_folders.ensures.looks c.start.ensures.looks))
 
 pub begin-requires-clause-once : goal.begin-requires-clause-once
 begin-requires-clause-once g c =
     let going = c.requires.going in
-    declared_once g.S.Texts.tells going.course c.args.setting.graph.now c.args.setting.tick.now going.suits
+    declared_once g.S.Texts.tells going.course c.args.graph.now going.suits
 
 pub begin-requires-clause-some : goal.begin-requires-clause-some
 begin-requires-clause-some g c =
     let going = c.requires.going in
-    declared_some g.S.Texts.tells going.course c.args.setting.graph.now c.args.setting.tick.now going.suits (suc c.args.edge)
-    (next_command g.S.Texts.tells going.course c.args.setting.graph.now c.args.setting.tick.now going.suits c.log_stays.ensures c.args.state.now (g.S.Texts.world c.args.site.now) c.args.edge going.on going.is c.requires.next)
+    declared_some g.S.Texts.tells going.course c.args.graph.now going.suits (suc c.args.edge)
+    (next_command g.S.Texts.tells going.course c.args.graph.now going.suits c.log_stays.ensures c.args.state.now (g.S.Texts.world c.args.site.now) c.args.edge going.on going.is c.requires.next)
 
 pub returns-in_err-begin-clause-cut : goal.returns-in_err-begin-clause-cut
 returns-in_err-begin-clause-cut g c =
     on_err c.from_residual-in_err-begin.result (λ course suits goes on.
-    cut_beginning g.S.Texts.tells course c.args.setting.graph.now c.args.setting.tick.now suits c.log_stays.ensures c.args.state.now (g.S.Texts.world c.args.site.now) c.args.edge on goes c.requires.next
+    cut_beginning g.S.Texts.tells course c.args.graph.now suits c.log_stays.ensures c.args.state.now (g.S.Texts.world c.args.site.now) c.args.edge on goes c.requires.next
     (g.S.Texts.world c.start.new.site) (g.S.Texts.world c.begin.new.site)
     (looks_then g.S.Texts.tells (g.S.Texts.world c.args.site.now) (g.S.Texts.world c.make_folders.new.site) (g.S.Texts.world c.start.new.site) c.make_folders.ensures.looks c.start.ensures.looks)
     c.begin.ensures.writes c.in_err-begin.ensures.err)
@@ -44,7 +44,7 @@ launch-requires-clause-begun g c =
     record {
       course = going.course;
       suits = going.suits;
-      begun = begun_now g.S.Texts.tells going.course c.args.setting.graph.now c.args.setting.tick.now going.suits c.log_stays.ensures c.args.state.now (g.S.Texts.world c.args.site.now) c.args.edge going.on going.is c.requires.next
+      begun = begun_now g.S.Texts.tells going.course c.args.graph.now going.suits c.log_stays.ensures c.args.state.now (g.S.Texts.world c.args.site.now) c.args.edge going.on going.is c.requires.next
           (g.S.Texts.world c.start.new.site) (g.S.Texts.world c.begin.new.site)
           (looks_then g.S.Texts.tells (g.S.Texts.world c.args.site.now) (g.S.Texts.world c.make_folders.new.site) (g.S.Texts.world c.start.new.site) c.make_folders.ensures.looks c.start.ensures.looks)
           c.begin.ensures.writes c.begin.new.self c.start.new.self c.begin.ensures.same c.begin.ensures.places c.begin.ensures.deps_places c.in_ok-begin.ensures.ok;
@@ -54,7 +54,7 @@ pub returns-clause-on : goal.returns-clause-on
 returns-clause-on g c =
     ok_then c.launch.result c.launch.ensures.on (λ so course suits goes on.
     so course suits
-    (begun_now g.S.Texts.tells course c.args.setting.graph.now c.args.setting.tick.now suits c.log_stays.ensures c.args.state.now (g.S.Texts.world c.args.site.now) c.args.edge on goes c.requires.next
+    (begun_now g.S.Texts.tells course c.args.graph.now suits c.log_stays.ensures c.args.state.now (g.S.Texts.world c.args.site.now) c.args.edge on goes c.requires.next
     (g.S.Texts.world c.start.new.site) (g.S.Texts.world c.begin.new.site)
     (looks_then g.S.Texts.tells (g.S.Texts.world c.args.site.now) (g.S.Texts.world c.make_folders.new.site) (g.S.Texts.world c.start.new.site) c.make_folders.ensures.looks c.start.ensures.looks)
     c.begin.ensures.writes c.begin.new.self c.start.new.self c.begin.ensures.same c.begin.ensures.places c.begin.ensures.deps_places c.in_ok-begin.ensures.ok))
@@ -63,7 +63,7 @@ pub returns-clause-cut : goal.returns-clause-cut
 returns-clause-cut g c =
     err_then c.launch.result c.launch.ensures.cut (λ so course suits goes on.
     so course suits
-    (begun_now g.S.Texts.tells course c.args.setting.graph.now c.args.setting.tick.now suits c.log_stays.ensures c.args.state.now (g.S.Texts.world c.args.site.now) c.args.edge on goes c.requires.next
+    (begun_now g.S.Texts.tells course c.args.graph.now suits c.log_stays.ensures c.args.state.now (g.S.Texts.world c.args.site.now) c.args.edge on goes c.requires.next
     (g.S.Texts.world c.start.new.site) (g.S.Texts.world c.begin.new.site)
     (looks_then g.S.Texts.tells (g.S.Texts.world c.args.site.now) (g.S.Texts.world c.make_folders.new.site) (g.S.Texts.world c.start.new.site) c.make_folders.ensures.looks c.start.ensures.looks)
     c.begin.ensures.writes c.begin.new.self c.start.new.self c.begin.ensures.same c.begin.ensures.places c.begin.ensures.deps_places c.in_ok-begin.ensures.ok))

@@ -17,7 +17,7 @@ returns-in_err-push-clause-forgets c = record {
 }
 
 pub returns-in_err-push-clause-beside : goal.returns-in_err-push-clause-beside
-returns-in_err-push-clause-beside c = record { records = refl; starts = refl }
+returns-in_err-push-clause-beside c = record { records = refl; cone = refl; tick = refl; starts = refl }
 
 pub returns-in_ok-push-clause-nearer : goal.returns-in_ok-push-clause-nearer
 returns-in_ok-push-clause-nearer c = finished_less c.args.state.now.plan.standings.items c.finished.new.self.standings.items c.args.edge c.args.ok c.requires.running c.finished.ensures.stands
@@ -33,7 +33,7 @@ returns-in_ok-push-clause-forgets c = record {
 }
 
 pub returns-in_ok-push-clause-beside : goal.returns-in_ok-push-clause-beside
-returns-in_ok-push-clause-beside c = record { records = refl; starts = refl }
+returns-in_ok-push-clause-beside c = record { records = refl; cone = refl; tick = refl; starts = refl }
 
 pub returns-else-not-ok-clause-nearer : goal.returns-else-not-ok-clause-nearer
 returns-else-not-ok-clause-nearer c = finished_less c.args.state.now.plan.standings.items c.finished.new.self.standings.items c.args.edge c.args.ok c.requires.running c.finished.ensures.stands
@@ -49,4 +49,4 @@ returns-else-not-ok-clause-forgets c = record {
 }
 
 pub returns-else-not-ok-clause-beside : goal.returns-else-not-ok-clause-beside
-returns-else-not-ok-clause-beside c = record { records = refl; starts = refl }
+returns-else-not-ok-clause-beside c = record { records = refl; cone = refl; tick = refl; starts = refl }

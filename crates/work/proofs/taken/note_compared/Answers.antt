@@ -10,11 +10,11 @@ returns-in-Ok-clause-nearer g c = finished_less c.args.state.now.plan.standings.
 
 pub returns-in-Ok-clause-changed : goal.returns-in-Ok-clause-changed
 returns-in-Ok-clause-changed g c =
-    flags_compared c.args.state.now.plan.changed.items c.finished.new.self.changed.items c.as_slice.result.now c.in-Ok.changed.items ((links_of c.args.setting.graph.now).outputs c.args.edge)
+    flags_compared c.args.state.now.plan.changed.items c.finished.new.self.changed.items c.as_slice.result.now c.in-Ok.changed.items ((links_of c.args.graph.now).outputs c.args.edge)
     c.args.state.now.looks.seen.items c.changes.new.looks.seen.items c.finished.ensures.flags c.as_slice.ensures.value c.in-Ok.ensures.changes
 
 pub returns-in-Ok-clause-unchanged : goal.returns-in-Ok-clause-unchanged
-returns-in-Ok-clause-unchanged g c = flags_kept c.args.state.now.plan.changed.items c.finished.new.self.changed.items ((links_of c.args.setting.graph.now).outputs c.args.edge) _ c.finished.ensures.flags
+returns-in-Ok-clause-unchanged g c = flags_kept c.args.state.now.plan.changed.items c.finished.new.self.changed.items ((links_of c.args.graph.now).outputs c.args.edge) _ c.finished.ensures.flags
 
 pub returns-in-Err-clause-nearer : goal.returns-in-Err-clause-nearer
 returns-in-Err-clause-nearer g c = finished_less c.args.state.now.plan.standings.items c.finished-in-Err.new.self.standings.items c.args.edge true c.requires.running c.finished-in-Err.ensures.stands

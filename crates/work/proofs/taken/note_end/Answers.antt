@@ -12,16 +12,16 @@ use Rattle.work.proofs.taken.note_end.Goals as goal
 pub returns-then-has_restat-clause-ended : goal.returns-then-has_restat-clause-ended
 returns-then-has_restat-clause-ended g c =
     ok_then₃ c.note_compared.result c.note_compared.ensures.changed c.note_compared.ensures.unchanged c.note_compared.ensures.anew (λ changed unchanged anew.
-    ended_compared g.S.Texts.tells c.args.setting.graph.now c.args.edge c.args.ok (g.S.Texts.world c.args.site.now) (g.S.Texts.world c.note_compared.new.site) c.args.state.now c.note_compared.new.state c.note_compared.ensures.beside unchanged
+    ended_compared g.S.Texts.tells c.args.graph.now c.args.edge c.args.ok (g.S.Texts.world c.args.site.now) (g.S.Texts.world c.note_compared.new.site) c.args.state.now c.note_compared.new.state c.note_compared.ensures.beside unchanged
     c.if-ok.true (sym c.has_restat.ensures ∙ c.if-has_restat.true) changed anew)
 
 pub returns-then-has_restat-clause-planned : goal.returns-then-has_restat-clause-planned
 returns-then-has_restat-clause-planned g c =
-    subst (λ (b : Bool). TakesStep c.args.setting.graph.now c.args.state.now.plan c.note_compared.new.state.plan (Finished (suc c.args.edge) b)) (sym c.if-ok.true) c.note_compared.ensures.planned
+    subst (λ (b : Bool). TakesStep c.args.graph.now c.args.state.now.plan c.note_compared.new.state.plan (Finished (suc c.args.edge) b)) (sym c.if-ok.true) c.note_compared.ensures.planned
 
 pub returns-in_ok-note_all-clause-ended : goal.returns-in_ok-note_all-clause-ended
 returns-in_ok-note_all-clause-ended g c =
-    let graph = c.args.setting.graph.now in
+    let graph = c.args.graph.now in
     let restat = (edge_at (declared_by graph).edges (suc c.args.edge)).restat in
     ended_all g.S.Texts.tells graph c.args.edge c.args.ok (g.S.Texts.world c.args.site.now) (g.S.Texts.world c.args.site.now) c.args.state.now c.note_all.new.state c.note_all.ensures.beside c.note_all.ensures.flags.others
     (elim c.else-ok.branch [

@@ -14,74 +14,74 @@ use Rattle.work.proofs.taken.record_end.Goals as goal
 pub index-start-requires : goal.index-start-requires
 index-start-requires g c =
     let taken = c.requires.taken_in in
-    let lt = taken_stamped g.S.Texts.tells taken.0 c.args.setting.tick.now c.args.setting.graph.now taken.1 c.args.state.now (g.S.Texts.world c.args.site.now) c.args.edge (get_or c.args.state.now.starts.items c.args.edge 0) c.args.ok c.if-not-ok.false c.args.told.now taken.2 in
+    let lt = taken_stamped g.S.Texts.tells taken.0 c.args.graph.now taken.1 c.args.state.now (g.S.Texts.world c.args.site.now) c.args.edge (get_or c.args.state.now.starts.items c.args.edge 0) c.args.ok c.if-not-ok.false c.args.told.now taken.2 in
     omega (arith, lt, c.index.ensures.place)
 
 pub report-requires-clause-taken_in : goal.report-requires-clause-taken_in
 report-requires-clause-taken_in g c =
     let taken = c.requires.taken_in in
-    let lt = taken_stamped g.S.Texts.tells taken.0 c.args.setting.tick.now c.args.setting.graph.now taken.1 c.args.state.now (g.S.Texts.world c.args.site.now) c.args.edge (get_or c.args.state.now.starts.items c.args.edge 0) c.args.ok c.if-not-ok.false c.args.told.now taken.2 in
-    (taken.0, taken.1, taken_under g.S.Texts.tells taken.0 c.args.setting.tick.now c.args.setting.graph.now taken.1 c.args.state.now (g.S.Texts.world c.args.site.now) c.args.edge (get_or c.args.state.now.starts.items c.args.edge 0) c.args.ok c.if-not-ok.false c.args.told.now taken.2 c.index-start.result.now (read_item c.args.state.now.starts.items c.index.result c.index-start.result.now c.index-start.ensures (omega (arith, lt, c.index.ensures.place)) ∙ ap (λ (k : ℕ). get_or c.args.state.now.starts.items k 0) c.index.ensures.place))
+    let lt = taken_stamped g.S.Texts.tells taken.0 c.args.graph.now taken.1 c.args.state.now (g.S.Texts.world c.args.site.now) c.args.edge (get_or c.args.state.now.starts.items c.args.edge 0) c.args.ok c.if-not-ok.false c.args.told.now taken.2 in
+    (taken.0, taken.1, taken_under g.S.Texts.tells taken.0 c.args.graph.now taken.1 c.args.state.now (g.S.Texts.world c.args.site.now) c.args.edge (get_or c.args.state.now.starts.items c.args.edge 0) c.args.ok c.if-not-ok.false c.args.told.now taken.2 c.index-start.result.now (read_item c.args.state.now.starts.items c.index.result c.index-start.result.now c.index-start.ensures (omega (arith, lt, c.index.ensures.place)) ∙ ap (λ (k : ℕ). get_or c.args.state.now.starts.items k 0) c.index.ensures.place))
 
 pub done-requires-clause-within : goal.done-requires-clause-within
 done-requires-clause-within g c =
     let taken = c.requires.taken_in in
-    taken_within g.S.Texts.tells taken.0 c.args.setting.tick.now c.args.setting.graph.now taken.1 c.args.state.now (g.S.Texts.world c.args.site.now) c.args.edge (get_or c.args.state.now.starts.items c.args.edge 0) c.args.ok c.if-not-ok.false c.args.told.now taken.2
+    taken_within g.S.Texts.tells taken.0 c.args.graph.now taken.1 c.args.state.now (g.S.Texts.world c.args.site.now) c.args.edge (get_or c.args.state.now.starts.items c.args.edge 0) c.args.ok c.if-not-ok.false c.args.told.now taken.2
 
 pub done-requires-clause-once : goal.done-requires-clause-once
 done-requires-clause-once g c =
     let taken = c.requires.taken_in in
-    taken_once g.S.Texts.tells taken.0 c.args.setting.tick.now c.args.setting.graph.now taken.1 c.args.state.now (g.S.Texts.world c.args.site.now) c.args.edge (get_or c.args.state.now.starts.items c.args.edge 0) c.args.ok c.if-not-ok.false c.args.told.now taken.2
+    taken_once g.S.Texts.tells taken.0 c.args.graph.now taken.1 c.args.state.now (g.S.Texts.world c.args.site.now) c.args.edge (get_or c.args.state.now.starts.items c.args.edge 0) c.args.ok c.if-not-ok.false c.args.told.now taken.2
 
 pub done-requires-clause-some : goal.done-requires-clause-some
 done-requires-clause-some g c =
     let taken = c.requires.taken_in in
-    taken_some g.S.Texts.tells taken.0 c.args.setting.tick.now c.args.setting.graph.now taken.1 c.args.state.now (g.S.Texts.world c.args.site.now) c.args.edge (get_or c.args.state.now.starts.items c.args.edge 0) c.args.ok c.if-not-ok.false c.args.told.now taken.2
+    taken_some g.S.Texts.tells taken.0 c.args.graph.now taken.1 c.args.state.now (g.S.Texts.world c.args.site.now) c.args.edge (get_or c.args.state.now.starts.items c.args.edge 0) c.args.ok c.if-not-ok.false c.args.told.now taken.2
 
 pub done-requires-clause-command : goal.done-requires-clause-command
 done-requires-clause-command g c =
     let taken = c.requires.taken_in in
-    taken_command g.S.Texts.tells taken.0 c.args.setting.tick.now c.args.setting.graph.now taken.1 c.args.state.now (g.S.Texts.world c.args.site.now) c.args.edge (get_or c.args.state.now.starts.items c.args.edge 0) c.args.ok c.if-not-ok.false c.args.told.now taken.2
+    taken_command g.S.Texts.tells taken.0 c.args.graph.now taken.1 c.args.state.now (g.S.Texts.world c.args.site.now) c.args.edge (get_or c.args.state.now.starts.items c.args.edge 0) c.args.ok c.if-not-ok.false c.args.told.now taken.2
 
 pub command-requires : goal.command-requires
 command-requires g c =
     let taken = c.requires.taken_in in
-    taken_command g.S.Texts.tells taken.0 c.args.setting.tick.now c.args.setting.graph.now taken.1 c.args.state.now (g.S.Texts.world c.args.site.now) c.args.edge (get_or c.args.state.now.starts.items c.args.edge 0) c.args.ok c.if-not-ok.false c.args.told.now taken.2
+    taken_command g.S.Texts.tells taken.0 c.args.graph.now taken.1 c.args.state.now (g.S.Texts.world c.args.site.now) c.args.edge (get_or c.args.state.now.starts.items c.args.edge 0) c.args.ok c.if-not-ok.false c.args.told.now taken.2
 
 pub act-requires : goal.act-requires
 act-requires g c =
     let taken = c.requires.taken_in in
-    taken_command g.S.Texts.tells taken.0 c.args.setting.tick.now c.args.setting.graph.now taken.1 c.args.state.now (g.S.Texts.world c.args.site.now) c.args.edge (get_or c.args.state.now.starts.items c.args.edge 0) c.args.ok c.if-not-ok.false c.args.told.now taken.2
+    taken_command g.S.Texts.tells taken.0 c.args.graph.now taken.1 c.args.state.now (g.S.Texts.world c.args.site.now) c.args.edge (get_or c.args.state.now.starts.items c.args.edge 0) c.args.ok c.if-not-ok.false c.args.told.now taken.2
 
 pub returns-in_err-report-clause-cut : goal.returns-in_err-report-clause-cut
 returns-in_err-report-clause-cut g c =
     on_err c.from_residual.result (λ course suits taken.
-    let lt = taken_stamped g.S.Texts.tells course c.args.setting.tick.now c.args.setting.graph.now suits c.args.state.now (g.S.Texts.world c.args.site.now) c.args.edge (get_or c.args.state.now.starts.items c.args.edge 0) c.args.ok c.if-not-ok.false c.args.told.now taken in
-    c.in_err-report.ensures.cut course suits (taken_under g.S.Texts.tells course c.args.setting.tick.now c.args.setting.graph.now suits c.args.state.now (g.S.Texts.world c.args.site.now) c.args.edge (get_or c.args.state.now.starts.items c.args.edge 0) c.args.ok c.if-not-ok.false c.args.told.now taken c.index-start.result.now (read_item c.args.state.now.starts.items c.index.result c.index-start.result.now c.index-start.ensures (omega (arith, lt, c.index.ensures.place)) ∙ ap (λ (k : ℕ). get_or c.args.state.now.starts.items k 0) c.index.ensures.place)))
+    let lt = taken_stamped g.S.Texts.tells course c.args.graph.now suits c.args.state.now (g.S.Texts.world c.args.site.now) c.args.edge (get_or c.args.state.now.starts.items c.args.edge 0) c.args.ok c.if-not-ok.false c.args.told.now taken in
+    c.in_err-report.ensures.cut course suits (taken_under g.S.Texts.tells course c.args.graph.now suits c.args.state.now (g.S.Texts.world c.args.site.now) c.args.edge (get_or c.args.state.now.starts.items c.args.edge 0) c.args.ok c.if-not-ok.false c.args.told.now taken c.index-start.result.now (read_item c.args.state.now.starts.items c.index.result c.index-start.result.now c.index-start.ensures (omega (arith, lt, c.index.ensures.place)) ∙ ap (λ (k : ℕ). get_or c.args.state.now.starts.items k 0) c.index.ensures.place)))
 
 pub returns-in_err-done-clause-cut : goal.returns-in_err-done-clause-cut
 returns-in_err-done-clause-cut g c =
     on_err c.from_residual-in_err-done.result (λ course suits taken.
-    let lt = taken_stamped g.S.Texts.tells course c.args.setting.tick.now c.args.setting.graph.now suits c.args.state.now (g.S.Texts.world c.args.site.now) c.args.edge (get_or c.args.state.now.starts.items c.args.edge 0) c.args.ok c.if-not-ok.false c.args.told.now taken in
-    cut_recording g.S.Texts.tells course c.args.setting.tick.now c.args.setting.graph.now suits c.report.new.state (g.S.Texts.world c.report.new.site) c.args.edge c.index-start.result.now
-    (c.in_ok-report.ensures.on course suits (taken_under g.S.Texts.tells course c.args.setting.tick.now c.args.setting.graph.now suits c.args.state.now (g.S.Texts.world c.args.site.now) c.args.edge (get_or c.args.state.now.starts.items c.args.edge 0) c.args.ok c.if-not-ok.false c.args.told.now taken c.index-start.result.now (read_item c.args.state.now.starts.items c.index.result c.index-start.result.now c.index-start.ensures (omega (arith, lt, c.index.ensures.place)) ∙ ap (λ (k : ℕ). get_or c.args.state.now.starts.items k 0) c.index.ensures.place)))
+    let lt = taken_stamped g.S.Texts.tells course c.args.graph.now suits c.args.state.now (g.S.Texts.world c.args.site.now) c.args.edge (get_or c.args.state.now.starts.items c.args.edge 0) c.args.ok c.if-not-ok.false c.args.told.now taken in
+    cut_recording g.S.Texts.tells course c.args.graph.now suits c.report.new.state (g.S.Texts.world c.report.new.site) c.args.edge c.index-start.result.now
+    (c.in_ok-report.ensures.on course suits (taken_under g.S.Texts.tells course c.args.graph.now suits c.args.state.now (g.S.Texts.world c.args.site.now) c.args.edge (get_or c.args.state.now.starts.items c.args.edge 0) c.args.ok c.if-not-ok.false c.args.told.now taken c.index-start.result.now (read_item c.args.state.now.starts.items c.index.result c.index-start.result.now c.index-start.ensures (omega (arith, lt, c.index.ensures.place)) ∙ ap (λ (k : ℕ). get_or c.args.state.now.starts.items k 0) c.index.ensures.place)))
     (g.S.Texts.world c.done.new.site) c.done.ensures.writes c.index-start.result.now refl c.in_err-done.ensures.err)
 
 pub returns-in_err-remove_read_depfile-clause-cut : goal.returns-in_err-remove_read_depfile-clause-cut
 returns-in_err-remove_read_depfile-clause-cut g c =
     on_err c.from_residual-in_err-remove_read_depfile.result (λ course suits taken.
-    let lt = taken_stamped g.S.Texts.tells course c.args.setting.tick.now c.args.setting.graph.now suits c.args.state.now (g.S.Texts.world c.args.site.now) c.args.edge (get_or c.args.state.now.starts.items c.args.edge 0) c.args.ok c.if-not-ok.false c.args.told.now taken in
-    cut_clearing g.S.Texts.tells course c.args.setting.tick.now c.args.setting.graph.now suits c.report.new.state (g.S.Texts.world c.report.new.site) c.args.edge c.index-start.result.now
-    (c.in_ok-report.ensures.on course suits (taken_under g.S.Texts.tells course c.args.setting.tick.now c.args.setting.graph.now suits c.args.state.now (g.S.Texts.world c.args.site.now) c.args.edge (get_or c.args.state.now.starts.items c.args.edge 0) c.args.ok c.if-not-ok.false c.args.told.now taken c.index-start.result.now (read_item c.args.state.now.starts.items c.index.result c.index-start.result.now c.index-start.ensures (omega (arith, lt, c.index.ensures.place)) ∙ ap (λ (k : ℕ). get_or c.args.state.now.starts.items k 0) c.index.ensures.place)))
+    let lt = taken_stamped g.S.Texts.tells course c.args.graph.now suits c.args.state.now (g.S.Texts.world c.args.site.now) c.args.edge (get_or c.args.state.now.starts.items c.args.edge 0) c.args.ok c.if-not-ok.false c.args.told.now taken in
+    cut_clearing g.S.Texts.tells course c.args.graph.now suits c.report.new.state (g.S.Texts.world c.report.new.site) c.args.edge c.index-start.result.now
+    (c.in_ok-report.ensures.on course suits (taken_under g.S.Texts.tells course c.args.graph.now suits c.args.state.now (g.S.Texts.world c.args.site.now) c.args.edge (get_or c.args.state.now.starts.items c.args.edge 0) c.args.ok c.if-not-ok.false c.args.told.now taken c.index-start.result.now (read_item c.args.state.now.starts.items c.index.result c.index-start.result.now c.index-start.ensures (omega (arith, lt, c.index.ensures.place)) ∙ ap (λ (k : ℕ). get_or c.args.state.now.starts.items k 0) c.index.ensures.place)))
     (g.S.Texts.world c.done.new.site) c.done.ensures.writes c.index-start.result.now refl
     c.done.new.self c.done.ensures.same c.done.ensures.places c.done.ensures.deps_places c.in_ok-done.ensures.ok c.log_stays.ensures c.command.result.now.act c.command.ensures.act c.command.result.now.deps c.command.ensures.deps (g.S.Texts.world c.remove_read_depfile.new.site) c.remove_read_depfile.ensures.at (λ other. (c.remove_read_depfile.ensures.stays other).1))
 
 pub returns-clause-on : goal.returns-clause-on
 returns-clause-on g c =
     ok_then c.remove_response.result c.remove_response.ensures.removed (λ gone course suits taken.
-    let lt = taken_stamped g.S.Texts.tells course c.args.setting.tick.now c.args.setting.graph.now suits c.args.state.now (g.S.Texts.world c.args.site.now) c.args.edge (get_or c.args.state.now.starts.items c.args.edge 0) c.args.ok c.if-not-ok.false c.args.told.now taken in
-    removed g.S.Texts.tells course c.args.setting.tick.now c.args.setting.graph.now suits c.report.new.state (g.S.Texts.world c.report.new.site) c.args.edge c.index-start.result.now
-    (c.in_ok-report.ensures.on course suits (taken_under g.S.Texts.tells course c.args.setting.tick.now c.args.setting.graph.now suits c.args.state.now (g.S.Texts.world c.args.site.now) c.args.edge (get_or c.args.state.now.starts.items c.args.edge 0) c.args.ok c.if-not-ok.false c.args.told.now taken c.index-start.result.now (read_item c.args.state.now.starts.items c.index.result c.index-start.result.now c.index-start.ensures (omega (arith, lt, c.index.ensures.place)) ∙ ap (λ (k : ℕ). get_or c.args.state.now.starts.items k 0) c.index.ensures.place)))
+    let lt = taken_stamped g.S.Texts.tells course c.args.graph.now suits c.args.state.now (g.S.Texts.world c.args.site.now) c.args.edge (get_or c.args.state.now.starts.items c.args.edge 0) c.args.ok c.if-not-ok.false c.args.told.now taken in
+    removed g.S.Texts.tells course c.args.graph.now suits c.report.new.state (g.S.Texts.world c.report.new.site) c.args.edge c.index-start.result.now
+    (c.in_ok-report.ensures.on course suits (taken_under g.S.Texts.tells course c.args.graph.now suits c.args.state.now (g.S.Texts.world c.args.site.now) c.args.edge (get_or c.args.state.now.starts.items c.args.edge 0) c.args.ok c.if-not-ok.false c.args.told.now taken c.index-start.result.now (read_item c.args.state.now.starts.items c.index.result c.index-start.result.now c.index-start.ensures (omega (arith, lt, c.index.ensures.place)) ∙ ap (λ (k : ℕ). get_or c.args.state.now.starts.items k 0) c.index.ensures.place)))
     (g.S.Texts.world c.done.new.site) c.done.ensures.writes c.index-start.result.now refl
     c.done.new.self c.done.ensures.same c.done.ensures.places c.done.ensures.deps_places c.in_ok-done.ensures.ok c.log_stays.ensures c.act.result.now c.act.ensures c.command.result.now.deps c.command.ensures.deps (g.S.Texts.world c.remove_read_depfile.new.site)
     (subst (λ (a : Act). WritesOrNot g.S.Texts.tells a.depfile None (g.S.Texts.world c.done.new.site) (g.S.Texts.world c.remove_read_depfile.new.site)) (c.command.ensures.act ∙ sym c.act.ensures) c.remove_read_depfile.ensures.at) (λ other. (c.remove_read_depfile.ensures.stays other).1) (g.S.Texts.world c.remove_response.new.site) c.remove_response.ensures.at
@@ -90,9 +90,9 @@ returns-clause-on g c =
 pub returns-clause-cut : goal.returns-clause-cut
 returns-clause-cut g c =
     on_err c.remove_response.result (λ course suits taken.
-    let lt = taken_stamped g.S.Texts.tells course c.args.setting.tick.now c.args.setting.graph.now suits c.args.state.now (g.S.Texts.world c.args.site.now) c.args.edge (get_or c.args.state.now.starts.items c.args.edge 0) c.args.ok c.if-not-ok.false c.args.told.now taken in
-    cut_removing g.S.Texts.tells course c.args.setting.tick.now c.args.setting.graph.now suits c.report.new.state (g.S.Texts.world c.report.new.site) c.args.edge c.index-start.result.now
-    (c.in_ok-report.ensures.on course suits (taken_under g.S.Texts.tells course c.args.setting.tick.now c.args.setting.graph.now suits c.args.state.now (g.S.Texts.world c.args.site.now) c.args.edge (get_or c.args.state.now.starts.items c.args.edge 0) c.args.ok c.if-not-ok.false c.args.told.now taken c.index-start.result.now (read_item c.args.state.now.starts.items c.index.result c.index-start.result.now c.index-start.ensures (omega (arith, lt, c.index.ensures.place)) ∙ ap (λ (k : ℕ). get_or c.args.state.now.starts.items k 0) c.index.ensures.place)))
+    let lt = taken_stamped g.S.Texts.tells course c.args.graph.now suits c.args.state.now (g.S.Texts.world c.args.site.now) c.args.edge (get_or c.args.state.now.starts.items c.args.edge 0) c.args.ok c.if-not-ok.false c.args.told.now taken in
+    cut_removing g.S.Texts.tells course c.args.graph.now suits c.report.new.state (g.S.Texts.world c.report.new.site) c.args.edge c.index-start.result.now
+    (c.in_ok-report.ensures.on course suits (taken_under g.S.Texts.tells course c.args.graph.now suits c.args.state.now (g.S.Texts.world c.args.site.now) c.args.edge (get_or c.args.state.now.starts.items c.args.edge 0) c.args.ok c.if-not-ok.false c.args.told.now taken c.index-start.result.now (read_item c.args.state.now.starts.items c.index.result c.index-start.result.now c.index-start.ensures (omega (arith, lt, c.index.ensures.place)) ∙ ap (λ (k : ℕ). get_or c.args.state.now.starts.items k 0) c.index.ensures.place)))
     (g.S.Texts.world c.done.new.site) c.done.ensures.writes c.index-start.result.now refl
     c.done.new.self c.done.ensures.same c.done.ensures.places c.done.ensures.deps_places c.in_ok-done.ensures.ok c.log_stays.ensures c.act.result.now c.act.ensures c.command.result.now.deps c.command.ensures.deps (g.S.Texts.world c.remove_read_depfile.new.site)
     (subst (λ (a : Act). WritesOrNot g.S.Texts.tells a.depfile None (g.S.Texts.world c.done.new.site) (g.S.Texts.world c.remove_read_depfile.new.site)) (c.command.ensures.act ∙ sym c.act.ensures) c.remove_read_depfile.ensures.at) (λ other. (c.remove_read_depfile.ensures.stays other).1) (g.S.Texts.world c.remove_response.new.site) c.remove_response.ensures.at)

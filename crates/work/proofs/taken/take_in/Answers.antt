@@ -21,29 +21,29 @@ use Rattle.work.proofs.taken.take_in.Goals as goal
 pub wait_any-requires : goal.wait_any-requires
 wait_any-requires g c =
     let going = c.requires.going.going in
-    some_runs g.S.Texts.tells going.course c.args.setting.graph.now None c.args.state.now (g.S.Texts.world c.args.site.now) going.on (c.requires.going.may.runs (task_of going.course.asked going.course.store) c.args.setting.graph.now going.on.steps going.on.planned going.on.taken)
+    some_runs g.S.Texts.tells going.course c.args.graph.now None c.args.state.now (g.S.Texts.world c.args.site.now) going.on (c.requires.going.may.runs (task_of going.course.asked going.course.store) c.args.graph.now going.on.steps going.on.planned going.on.taken)
 
 pub edge-edge-requires : goal.edge-edge-requires
 edge-edge-requires g c =
     let going = c.requires.going.going in
-    let runs = running_edge g.S.Texts.tells going.course c.args.setting.graph.now None c.args.state.now (g.S.Texts.world c.args.site.now) going.on c.in-Ok.finished.job c.in-Ok.ensures.finishes.ran in
+    let runs = running_edge g.S.Texts.tells going.course c.args.graph.now None c.args.state.now (g.S.Texts.world c.args.site.now) going.on c.in-Ok.finished.job c.in-Ok.ensures.finishes.ran in
     omega (arith, runs.is, runs.within)
 
 pub take_in_told-requires-clause-ending : goal.take_in_told-requires-clause-ending
 take_in_told-requires-clause-ending g c =
     let going = c.requires.going.going in
-    let runs = running_edge g.S.Texts.tells going.course c.args.setting.graph.now None c.args.state.now (g.S.Texts.world c.args.site.now) going.on c.in-Ok.finished.job c.in-Ok.ensures.finishes.ran in
+    let runs = running_edge g.S.Texts.tells going.course c.args.graph.now None c.args.state.now (g.S.Texts.world c.args.site.now) going.on c.in-Ok.finished.job c.in-Ok.ensures.finishes.ran in
     let job_is : c.in-Ok.finished.job ≡ suc c.edge-edge.result = omega (arith, runs.is, c.edge-edge.ensures) in (
       going.course,
       going.suits,
-      ending_of g.S.Texts.tells going.course c.args.setting.tick.now c.args.setting.graph.now going.suits c.args.state.now (g.S.Texts.world c.args.site.now) (g.S.Texts.world c.wait_any.new.self) (g.S.Texts.world c.read_told.new.site) c.in-Ok.finished.job c.edge-edge.result c.in-Ok.finished.ok c.in-Ok-read_told.told c.act.result.now job_is going.on (may_take going.course c.args.setting.graph.now c.args.state.now.plan going.on.steps c.requires.going.goes going.is going.on.planned going.on.taken c.requires.going.may) c.in-Ok.ensures.finishes c.read_told.ensures.looks
+      ending_of g.S.Texts.tells going.course c.args.graph.now going.suits c.args.state.now (g.S.Texts.world c.args.site.now) (g.S.Texts.world c.wait_any.new.self) (g.S.Texts.world c.read_told.new.site) c.in-Ok.finished.job c.edge-edge.result c.in-Ok.finished.ok c.in-Ok-read_told.told c.act.result.now job_is going.on (may_take going.course c.args.graph.now c.args.state.now.plan going.on.steps c.requires.going.goes going.is going.on.planned going.on.taken c.requires.going.may) c.in-Ok.ensures.finishes c.read_told.ensures.looks
           c.act.ensures c.in-Ok-read_told.ensures.read,
     )
 
 pub note_unread-requires-clause-running : goal.note_unread-requires-clause-running
 note_unread-requires-clause-running g c =
     let going = c.requires.going.going in
-    let runs = running_edge g.S.Texts.tells going.course c.args.setting.graph.now None c.args.state.now (g.S.Texts.world c.args.site.now) going.on c.in-Ok.finished.job c.in-Ok.ensures.finishes.ran in
+    let runs = running_edge g.S.Texts.tells going.course c.args.graph.now None c.args.state.now (g.S.Texts.world c.args.site.now) going.on c.in-Ok.finished.job c.in-Ok.ensures.finishes.ran in
     let same : c.edge-edge.result ≡ runs.edge = omega (arith, runs.is, c.edge-edge.ensures) in
     ap (standing_at c.args.state.now.plan.standings.items) same ∙ runs.stands
 
@@ -56,37 +56,37 @@ returns-in-Ok-read_told-clause-cuts g c =
 pub returns-in-Ok-read_told-clause-removed : goal.returns-in-Ok-read_told-clause-removed
 returns-in-Ok-read_told-clause-removed g c =
     let going = c.requires.going.going in
-    let runs = running_edge g.S.Texts.tells going.course c.args.setting.graph.now None c.args.state.now (g.S.Texts.world c.args.site.now) going.on c.in-Ok.finished.job c.in-Ok.ensures.finishes.ran in
+    let runs = running_edge g.S.Texts.tells going.course c.args.graph.now None c.args.state.now (g.S.Texts.world c.args.site.now) going.on c.in-Ok.finished.job c.in-Ok.ensures.finishes.ran in
     let job_is : c.in-Ok.finished.job ≡ suc c.edge-edge.result = omega (arith, runs.is, c.edge-edge.ensures) in
     ok_both c.take_in_told.result c.take_in_told.ensures.noted c.take_in_told.ensures.removed (λ noted removed i is failed.
-    taken_by_removing g.S.Texts.tells (declared_by c.args.setting.graph.now).edges (suc c.edge-edge.result) c.in-Ok.finished.ok (g.S.Texts.world c.args.site.now) (g.S.Texts.world c.wait_any.new.self) (g.S.Texts.world c.read_told.new.site) (g.S.Texts.world c.take_in_told.new.site)
+    taken_by_removing g.S.Texts.tells (declared_by c.args.graph.now).edges (suc c.edge-edge.result) c.in-Ok.finished.ok (g.S.Texts.world c.args.site.now) (g.S.Texts.world c.wait_any.new.self) (g.S.Texts.world c.read_told.new.site) (g.S.Texts.world c.take_in_told.new.site)
     (subst (λ (n : ℕ). Finishes g.S.Texts.tells n c.in-Ok.finished.ok (g.S.Texts.world c.args.site.now) (g.S.Texts.world c.wait_any.new.self)) job_is c.in-Ok.ensures.finishes) c.read_told.ensures.looks c.take_in_told.ensures.events
     (λ went. removed (not_failed c.args.state.now.failed.items c.edge-edge.result _ (sym (ap (λ (v : Vec ℕ Global). v.items) failed) ∙ noted))) i is)
 
 pub returns-in-Ok-read_told-clause-on : goal.returns-in-Ok-read_told-clause-on
 returns-in-Ok-read_told-clause-on g c =
     ok_then c.take_in_told.result c.take_in_told.ensures.on (λ so goes may course suits is on.
-    let turn = may_take course c.args.setting.graph.now c.args.state.now.plan on.steps goes is on.planned on.taken may in
-    let runs = running_edge g.S.Texts.tells course c.args.setting.graph.now None c.args.state.now (g.S.Texts.world c.args.site.now) on c.in-Ok.finished.job c.in-Ok.ensures.finishes.ran in
+    let turn = may_take course c.args.graph.now c.args.state.now.plan on.steps goes is on.planned on.taken may in
+    let runs = running_edge g.S.Texts.tells course c.args.graph.now None c.args.state.now (g.S.Texts.world c.args.site.now) on c.in-Ok.finished.job c.in-Ok.ensures.finishes.ran in
     let job_is : c.in-Ok.finished.job ≡ suc c.edge-edge.result = omega (arith, runs.is, c.edge-edge.ensures) in
-    so course suits (ending_of g.S.Texts.tells course c.args.setting.tick.now c.args.setting.graph.now suits c.args.state.now (g.S.Texts.world c.args.site.now) (g.S.Texts.world c.wait_any.new.self) (g.S.Texts.world c.read_told.new.site) c.in-Ok.finished.job c.edge-edge.result c.in-Ok.finished.ok c.in-Ok-read_told.told c.act.result.now job_is on turn c.in-Ok.ensures.finishes c.read_told.ensures.looks
+    so course suits (ending_of g.S.Texts.tells course c.args.graph.now suits c.args.state.now (g.S.Texts.world c.args.site.now) (g.S.Texts.world c.wait_any.new.self) (g.S.Texts.world c.read_told.new.site) c.in-Ok.finished.job c.edge-edge.result c.in-Ok.finished.ok c.in-Ok-read_told.told c.act.result.now job_is on turn c.in-Ok.ensures.finishes c.read_told.ensures.looks
     c.act.ensures c.in-Ok-read_told.ensures.read))
 
 pub returns-in-Ok-read_told-clause-cut : goal.returns-in-Ok-read_told-clause-cut
 returns-in-Ok-read_told-clause-cut g c =
     err_then c.take_in_told.result c.take_in_told.ensures.cut (λ so goes may course suits is on.
-    let turn = may_take course c.args.setting.graph.now c.args.state.now.plan on.steps goes is on.planned on.taken may in
-    let runs = running_edge g.S.Texts.tells course c.args.setting.graph.now None c.args.state.now (g.S.Texts.world c.args.site.now) on c.in-Ok.finished.job c.in-Ok.ensures.finishes.ran in
+    let turn = may_take course c.args.graph.now c.args.state.now.plan on.steps goes is on.planned on.taken may in
+    let runs = running_edge g.S.Texts.tells course c.args.graph.now None c.args.state.now (g.S.Texts.world c.args.site.now) on c.in-Ok.finished.job c.in-Ok.ensures.finishes.ran in
     let job_is : c.in-Ok.finished.job ≡ suc c.edge-edge.result = omega (arith, runs.is, c.edge-edge.ensures) in
-    so course suits (ending_of g.S.Texts.tells course c.args.setting.tick.now c.args.setting.graph.now suits c.args.state.now (g.S.Texts.world c.args.site.now) (g.S.Texts.world c.wait_any.new.self) (g.S.Texts.world c.read_told.new.site) c.in-Ok.finished.job c.edge-edge.result c.in-Ok.finished.ok c.in-Ok-read_told.told c.act.result.now job_is on turn c.in-Ok.ensures.finishes c.read_told.ensures.looks
+    so course suits (ending_of g.S.Texts.tells course c.args.graph.now suits c.args.state.now (g.S.Texts.world c.args.site.now) (g.S.Texts.world c.wait_any.new.self) (g.S.Texts.world c.read_told.new.site) c.in-Ok.finished.job c.edge-edge.result c.in-Ok.finished.ok c.in-Ok-read_told.told c.act.result.now job_is on turn c.in-Ok.ensures.finishes c.read_told.ensures.looks
     c.act.ensures c.in-Ok-read_told.ensures.read))
 
 pub returns-in-Err-read_told-clause-cut : goal.returns-in-Err-read_told-clause-cut
 returns-in-Err-read_told-clause-cut g c goes may course suits is on =
-    let turn = may_take course c.args.setting.graph.now c.args.state.now.plan on.steps goes is on.planned on.taken may in
-    let runs = running_edge g.S.Texts.tells course c.args.setting.graph.now None c.args.state.now (g.S.Texts.world c.args.site.now) on c.in-Ok.finished.job c.in-Ok.ensures.finishes.ran in
+    let turn = may_take course c.args.graph.now c.args.state.now.plan on.steps goes is on.planned on.taken may in
+    let runs = running_edge g.S.Texts.tells course c.args.graph.now None c.args.state.now (g.S.Texts.world c.args.site.now) on c.in-Ok.finished.job c.in-Ok.ensures.finishes.ran in
     let job_is : c.in-Ok.finished.job ≡ suc c.edge-edge.result = omega (arith, runs.is, c.edge-edge.ensures) in
-    end_unread g.S.Texts.tells course c.args.setting.tick.now c.args.setting.graph.now suits c.args.state.now (g.S.Texts.world c.args.site.now) (g.S.Texts.world c.wait_any.new.self) (g.S.Texts.world c.read_told.new.site) c.edge-edge.result c.in-Ok.finished.ok on turn
+    end_unread g.S.Texts.tells course c.args.graph.now suits c.args.state.now (g.S.Texts.world c.args.site.now) (g.S.Texts.world c.wait_any.new.self) (g.S.Texts.world c.read_told.new.site) c.edge-edge.result c.in-Ok.finished.ok on turn
     (subst (λ (n : ℕ). Finishes g.S.Texts.tells n c.in-Ok.finished.ok (g.S.Texts.world c.args.site.now) (g.S.Texts.world c.wait_any.new.self)) job_is c.in-Ok.ensures.finishes) c.read_told.ensures.looks
     (λ none. c.in-Err-read_told.ensures.named (ap (λ (a : Act). a.depfile) c.act.ensures ∙ (ap (λ (b : BuildGraph). (edge_at b.edges (suc c.edge-edge.result)).act.depfile) (sym suits.same) ∙ none)))
     c.note_unread.new.state.plan c.note_unread.ensures.planned
@@ -99,14 +99,14 @@ returns-in-Err-clause-cuts g c =
       starts = inl c.in-Err.ensures.err.at_start;
       waits = record {
         some = some_still g.S.Texts.tells (g.S.Texts.world c.args.site.now) (g.S.Texts.world c.wait_any.new.self)
-            (some_runs g.S.Texts.tells going.course c.args.setting.graph.now None c.args.state.now (g.S.Texts.world c.args.site.now) going.on (c.requires.going.may.runs (task_of going.course.asked going.course.store) c.args.setting.graph.now going.on.steps going.on.planned going.on.taken)) c.in-Err.ensures.err;
+            (some_runs g.S.Texts.tells going.course c.args.graph.now None c.args.state.now (g.S.Texts.world c.args.site.now) going.on (c.requires.going.may.runs (task_of going.course.asked going.course.store) c.args.graph.now going.on.steps going.on.planned going.on.taken)) c.in-Err.ensures.err;
         noted = ((g.S.Texts.world c.args.site.now).failures, c.in-Err.ensures.waits c.requires.running);
       };
     }
 
 pub returns-in-Err-clause-cut : goal.returns-in-Err-clause-cut
 returns-in-Err-clause-cut g c goes may course suits is on =
-    cut_looking g.S.Texts.tells course c.args.setting.graph.now (g.S.Texts.world c.args.site.now) c.args.state.now c.args.state.now.plan (g.S.Texts.world c.wait_any.new.self) refl c.in-Err.ensures.err on
+    cut_looking g.S.Texts.tells course c.args.graph.now (g.S.Texts.world c.args.site.now) c.args.state.now c.args.state.now.plan (g.S.Texts.world c.wait_any.new.self) refl c.in-Err.ensures.err on
 
 pub returns-in-Ok-read_told-clause-grows : goal.returns-in-Ok-read_told-clause-grows
 returns-in-Ok-read_told-clause-grows g c = after_then g.S.Texts.tells (g.S.Texts.world c.args.site.now) (g.S.Texts.world c.read_told.new.site) (g.S.Texts.world c.take_in_told.new.site) (after_then g.S.Texts.tells (g.S.Texts.world c.args.site.now) (g.S.Texts.world c.wait_any.new.self) (g.S.Texts.world c.read_told.new.site) (after_finish g.S.Texts.tells c.in-Ok.finished.job c.in-Ok.finished.ok (g.S.Texts.world c.args.site.now) (g.S.Texts.world c.wait_any.new.self) c.in-Ok.ensures.finishes) (after_looks g.S.Texts.tells (g.S.Texts.world c.wait_any.new.self) (g.S.Texts.world c.read_told.new.site) c.read_told.ensures.looks)) c.take_in_told.ensures.grows

@@ -16,33 +16,33 @@ use Rattle.work.proofs.taken.take_in_told.Goals as goal
 
 pub note_end-requires-clause-running : goal.note_end-requires-clause-running
 note_end-requires-clause-running g c =
-    ending_stands g.S.Texts.tells c.requires.ending.0 c.args.setting.tick.now c.args.setting.graph.now c.requires.ending.1 c.args.state.now (g.S.Texts.world c.args.site.now) c.args.edge c.args.finished.ok c.ended-finished.result.ok c.args.told.now c.ended-finished.ensures.ok c.one_answer.ensures c.requires.ending.2
+    ending_stands g.S.Texts.tells c.requires.ending.0 c.args.graph.now c.requires.ending.1 c.args.state.now (g.S.Texts.world c.args.site.now) c.args.edge c.args.finished.ok c.ended-finished.result.ok c.args.told.now c.ended-finished.ensures.ok c.one_answer.ensures c.requires.ending.2
 
 pub note_end-requires-clause-command : goal.note_end-requires-clause-command
 note_end-requires-clause-command g c =
-    ending_command g.S.Texts.tells c.requires.ending.0 c.args.setting.tick.now c.args.setting.graph.now c.requires.ending.1 c.args.state.now (g.S.Texts.world c.args.site.now) c.args.edge c.args.finished.ok c.ended-finished.result.ok c.args.told.now c.ended-finished.ensures.ok c.one_answer.ensures c.requires.ending.2
+    ending_command g.S.Texts.tells c.requires.ending.0 c.args.graph.now c.requires.ending.1 c.args.state.now (g.S.Texts.world c.args.site.now) c.args.edge c.args.finished.ok c.ended-finished.result.ok c.args.told.now c.ended-finished.ensures.ok c.one_answer.ensures c.requires.ending.2
 
 pub note_end-requires-clause-fits : goal.note_end-requires-clause-fits
 note_end-requires-clause-fits g c = c.requires.ending.2.on.room.looks
 
 pub returns-in_err-map_err-clause-cut : goal.returns-in_err-map_err-clause-cut
 returns-in_err-map_err-clause-cut g c =
-    on_err c.from_residual.result (λ course suits ending. ending_cut g.S.Texts.tells course c.args.setting.tick.now c.args.setting.graph.now suits c.args.state.now (g.S.Texts.world c.args.site.now) c.args.edge c.args.finished.ok c.ended-finished.result.ok c.args.told.now c.ended-finished.ensures.ok c.one_answer.ensures ending (g.S.Texts.world c.note_end.new.site) c.note_end.ensures.looks c.note_end.new.state.plan c.note_end.ensures.planned)
+    on_err c.from_residual.result (λ course suits ending. ending_cut g.S.Texts.tells course c.args.graph.now suits c.args.state.now (g.S.Texts.world c.args.site.now) c.args.edge c.args.finished.ok c.ended-finished.result.ok c.args.told.now c.ended-finished.ensures.ok c.one_answer.ensures ending (g.S.Texts.world c.note_end.new.site) c.note_end.ensures.looks c.note_end.new.state.plan c.note_end.ensures.planned)
 
 pub record_end-requires-clause-taken_in : goal.record_end-requires-clause-taken_in
 record_end-requires-clause-taken_in g c =
-    (c.requires.ending.0, c.requires.ending.1, (ending_taken g.S.Texts.tells c.requires.ending.0 c.args.setting.tick.now c.args.setting.graph.now c.requires.ending.1 c.args.state.now (g.S.Texts.world c.args.site.now) c.args.edge c.args.finished.ok c.ended-finished.result.ok c.args.told.now c.ended-finished.ensures.ok c.one_answer.ensures c.requires.ending.2 c.lists_stand.ensures (g.S.Texts.world c.note_end.new.site) c.note_end.new.state (ok_by c.note_end.result c.map_err.result _ c.map_err.ensures.variant c.in_ok-map_err.was c.note_end.ensures.ended) c.log_stays.ensures c.none_while_running.ensures c.note_end.ensures.planned (ok_by c.note_end.result c.map_err.result _ c.map_err.ensures.variant c.in_ok-map_err.was c.note_end.ensures.noted)))
+    (c.requires.ending.0, c.requires.ending.1, (ending_taken g.S.Texts.tells c.requires.ending.0 c.args.graph.now c.requires.ending.1 c.args.state.now (g.S.Texts.world c.args.site.now) c.args.edge c.args.finished.ok c.ended-finished.result.ok c.args.told.now c.ended-finished.ensures.ok c.one_answer.ensures c.requires.ending.2 c.lists_stand.ensures (g.S.Texts.world c.note_end.new.site) c.note_end.new.state (ok_by c.note_end.result c.map_err.result _ c.map_err.ensures.variant c.in_ok-map_err.was c.note_end.ensures.ended) c.log_stays.ensures c.none_while_running.ensures c.note_end.ensures.planned (ok_by c.note_end.result c.map_err.result _ c.map_err.ensures.variant c.in_ok-map_err.was c.note_end.ensures.noted)))
 
 pub returns-in_err-map_err-2-clause-cut : goal.returns-in_err-map_err-2-clause-cut
 returns-in_err-map_err-2-clause-cut g c =
     on_err c.from_residual-in_err-map_err-2.result (λ course suits ending.
     err_by c.record_end.result c.map_err-2.result _ c.map_err-2.ensures.variant c.in_err-map_err-2.was c.record_end.ensures.cut course suits
-    (ending_taken g.S.Texts.tells course c.args.setting.tick.now c.args.setting.graph.now suits c.args.state.now (g.S.Texts.world c.args.site.now) c.args.edge c.args.finished.ok c.ended-finished.result.ok c.args.told.now c.ended-finished.ensures.ok c.one_answer.ensures ending c.lists_stand.ensures (g.S.Texts.world c.note_end.new.site) c.note_end.new.state (ok_by c.note_end.result c.map_err.result _ c.map_err.ensures.variant c.in_ok-map_err.was c.note_end.ensures.ended) c.log_stays.ensures c.none_while_running.ensures c.note_end.ensures.planned (ok_by c.note_end.result c.map_err.result _ c.map_err.ensures.variant c.in_ok-map_err.was c.note_end.ensures.noted)))
+    (ending_taken g.S.Texts.tells course c.args.graph.now suits c.args.state.now (g.S.Texts.world c.args.site.now) c.args.edge c.args.finished.ok c.ended-finished.result.ok c.args.told.now c.ended-finished.ensures.ok c.one_answer.ensures ending c.lists_stand.ensures (g.S.Texts.world c.note_end.new.site) c.note_end.new.state (ok_by c.note_end.result c.map_err.result _ c.map_err.ensures.variant c.in_ok-map_err.was c.note_end.ensures.ended) c.log_stays.ensures c.none_while_running.ensures c.note_end.ensures.planned (ok_by c.note_end.result c.map_err.result _ c.map_err.ensures.variant c.in_ok-map_err.was c.note_end.ensures.noted)))
 
 pub returns-clause-removed : goal.returns-clause-removed
 returns-clause-removed g c =
     on_ok c.map_err-3.result (λ went.
-    let act = (edge_at (declared_by c.args.setting.graph.now).edges (suc c.args.edge)).act in
+    let act = (edge_at (declared_by c.args.graph.now).edges (suc c.args.edge)).act in
     removing_then g.S.Texts.tells act (g.S.Texts.world c.args.site.now) (g.S.Texts.world c.record_end.new.site) (g.S.Texts.world c.show_end.new.site)
     (removing_after g.S.Texts.tells act (g.S.Texts.world c.args.site.now) (g.S.Texts.world c.note_end.new.site) (g.S.Texts.world c.record_end.new.site)
     (λ tell.
@@ -53,17 +53,17 @@ returns-clause-removed g c =
 pub returns-clause-on : goal.returns-clause-on
 returns-clause-on g c =
     on_ok c.map_err-3.result (λ course suits ending.
-    on_shown g.S.Texts.tells course c.args.setting.graph.now None c.record_end.new.state c.show_end.new.display (g.S.Texts.world c.show_end.new.site)
-    (on_looks g.S.Texts.tells course c.args.setting.graph.now c.log_stays.ensures None c.record_end.new.state (g.S.Texts.world c.record_end.new.site) (g.S.Texts.world c.show_end.new.site)
+    on_shown g.S.Texts.tells course c.args.graph.now None c.record_end.new.state c.show_end.new.display (g.S.Texts.world c.show_end.new.site)
+    (on_looks g.S.Texts.tells course c.args.graph.now c.log_stays.ensures None c.record_end.new.state (g.S.Texts.world c.record_end.new.site) (g.S.Texts.world c.show_end.new.site)
     ((ok_by c.record_end.result c.map_err-2.result _ c.map_err-2.ensures.variant c.in_ok-map_err-2.was c.record_end.ensures.on) course suits
-    (ending_taken g.S.Texts.tells course c.args.setting.tick.now c.args.setting.graph.now suits c.args.state.now (g.S.Texts.world c.args.site.now) c.args.edge c.args.finished.ok c.ended-finished.result.ok c.args.told.now c.ended-finished.ensures.ok c.one_answer.ensures ending c.lists_stand.ensures (g.S.Texts.world c.note_end.new.site) c.note_end.new.state (ok_by c.note_end.result c.map_err.result _ c.map_err.ensures.variant c.in_ok-map_err.was c.note_end.ensures.ended) c.log_stays.ensures c.none_while_running.ensures c.note_end.ensures.planned (ok_by c.note_end.result c.map_err.result _ c.map_err.ensures.variant c.in_ok-map_err.was c.note_end.ensures.noted))) suits.once c.show_end.ensures.looks))
+    (ending_taken g.S.Texts.tells course c.args.graph.now suits c.args.state.now (g.S.Texts.world c.args.site.now) c.args.edge c.args.finished.ok c.ended-finished.result.ok c.args.told.now c.ended-finished.ensures.ok c.one_answer.ensures ending c.lists_stand.ensures (g.S.Texts.world c.note_end.new.site) c.note_end.new.state (ok_by c.note_end.result c.map_err.result _ c.map_err.ensures.variant c.in_ok-map_err.was c.note_end.ensures.ended) c.log_stays.ensures c.none_while_running.ensures c.note_end.ensures.planned (ok_by c.note_end.result c.map_err.result _ c.map_err.ensures.variant c.in_ok-map_err.was c.note_end.ensures.noted))) suits.once c.show_end.ensures.looks))
 
 pub returns-clause-cut : goal.returns-clause-cut
 returns-clause-cut g c =
     on_err c.map_err-3.result (λ course suits ending.
-    cut_looking g.S.Texts.tells course c.args.setting.graph.now (g.S.Texts.world c.record_end.new.site) c.record_end.new.state c.record_end.new.state.plan (g.S.Texts.world c.show_end.new.site) refl c.show_end.ensures.looks
+    cut_looking g.S.Texts.tells course c.args.graph.now (g.S.Texts.world c.record_end.new.site) c.record_end.new.state c.record_end.new.state.plan (g.S.Texts.world c.show_end.new.site) refl c.show_end.ensures.looks
     ((ok_by c.record_end.result c.map_err-2.result _ c.map_err-2.ensures.variant c.in_ok-map_err-2.was c.record_end.ensures.on) course suits
-    (ending_taken g.S.Texts.tells course c.args.setting.tick.now c.args.setting.graph.now suits c.args.state.now (g.S.Texts.world c.args.site.now) c.args.edge c.args.finished.ok c.ended-finished.result.ok c.args.told.now c.ended-finished.ensures.ok c.one_answer.ensures ending c.lists_stand.ensures (g.S.Texts.world c.note_end.new.site) c.note_end.new.state (ok_by c.note_end.result c.map_err.result _ c.map_err.ensures.variant c.in_ok-map_err.was c.note_end.ensures.ended) c.log_stays.ensures c.none_while_running.ensures c.note_end.ensures.planned (ok_by c.note_end.result c.map_err.result _ c.map_err.ensures.variant c.in_ok-map_err.was c.note_end.ensures.noted))))
+    (ending_taken g.S.Texts.tells course c.args.graph.now suits c.args.state.now (g.S.Texts.world c.args.site.now) c.args.edge c.args.finished.ok c.ended-finished.result.ok c.args.told.now c.ended-finished.ensures.ok c.one_answer.ensures ending c.lists_stand.ensures (g.S.Texts.world c.note_end.new.site) c.note_end.new.state (ok_by c.note_end.result c.map_err.result _ c.map_err.ensures.variant c.in_ok-map_err.was c.note_end.ensures.ended) c.log_stays.ensures c.none_while_running.ensures c.note_end.ensures.planned (ok_by c.note_end.result c.map_err.result _ c.map_err.ensures.variant c.in_ok-map_err.was c.note_end.ensures.noted))))
 
 pub returns-in_err-map_err-clause-grows : goal.returns-in_err-map_err-clause-grows
 returns-in_err-map_err-clause-grows g c = after_looks g.S.Texts.tells (g.S.Texts.world c.args.site.now) (g.S.Texts.world c.note_end.new.site) c.note_end.ensures.looks
@@ -76,11 +76,11 @@ returns-clause-grows g c = after_then g.S.Texts.tells (g.S.Texts.world c.args.si
 
 pub returns-clause-kept : goal.returns-clause-kept
 returns-clause-kept g c =
-    let graph = c.args.setting.graph.now in
+    let graph = c.args.graph.now in
     let flags = c.args.state.now.plan.changed.items in
     let seen = c.args.state.now.looks.seen.items in
     let noted = c.note_end.new.state in
-    let command = ending_command g.S.Texts.tells c.requires.ending.0 c.args.setting.tick.now graph c.requires.ending.1 c.args.state.now (g.S.Texts.world c.args.site.now) c.args.edge c.args.finished.ok c.ended-finished.result.ok c.args.told.now c.ended-finished.ensures.ok c.one_answer.ensures c.requires.ending.2 in
+    let command = ending_command g.S.Texts.tells c.requires.ending.0 graph c.requires.ending.1 c.args.state.now (g.S.Texts.world c.args.site.now) c.args.edge c.args.finished.ok c.ended-finished.result.ok c.args.told.now c.ended-finished.ensures.ok c.one_answer.ensures c.requires.ending.2 in
     let kept = ended_keeps g.S.Texts.tells graph c.args.edge c.ended-finished.result.ok (g.S.Texts.world c.args.site.now) (g.S.Texts.world c.note_end.new.site) c.args.state.now noted (c.lists_stand.ensures.phony_is c.args.edge ∙ command)
     (ok_by c.note_end.result c.map_err.result _ c.map_err.ensures.variant c.in_ok-map_err.was c.note_end.ensures.ended) in
     on_ok c.map_err-3.result

@@ -22,7 +22,7 @@ take_in-requires-clause-going g c = record {
 
 pub returns-in_err-map_err-in-Judge-clause-cut : goal.returns-in_err-map_err-in-Judge-clause-cut
 returns-in_err-map_err-in-Judge-clause-cut g c = on_err c.from_residual.result (λ course suits goes on.
-    cut_looking g.S.Texts.tells course c.args.setting.graph.now (g.S.Texts.world c.args.site.now) c.args.state.now c.judge.new.state.plan (g.S.Texts.world c.judge.new.site)
+    cut_looking g.S.Texts.tells course c.args.graph.now (g.S.Texts.world c.args.site.now) c.args.state.now c.judge.new.state.plan (g.S.Texts.world c.judge.new.site)
     (err_by c.judge.result c.map_err.result _ c.map_err.ensures.variant c.in_err-map_err-in-Judge.was c.judge.ensures.plan) c.judge.ensures.looked.looks on)
 
 pub returns-in_err-map_err-in-Start-clause-cut : goal.returns-in_err-map_err-in-Start-clause-cut
@@ -45,12 +45,12 @@ returns-in_ok-take_in-in-Wait-clause-on g c =
 
 pub returns-in-Load-clause-on : goal.returns-in-Load-clause-on
 returns-in-Load-clause-on g c course suits goes =
-    at_load g.S.Texts.tells course c.args.setting.graph.now (g.S.Texts.world c.args.site.now) c.args.state.now c.in-Load.file
+    at_load g.S.Texts.tells course c.args.graph.now (g.S.Texts.world c.args.site.now) c.args.state.now c.in-Load.file
     (record { offered = c.in-Load.ensures.offered; lawful = c.in-Load.ensures.lawful; loads = c.in-Load.ensures.loads })
 
 pub returns-in-Ended-clause-on : goal.returns-in-Ended-clause-on
 returns-in-Ended-clause-on g c course suits =
-    at_end g.S.Texts.tells course c.args.setting.graph.now (g.S.Texts.world c.args.site.now) c.args.state.now _
+    at_end g.S.Texts.tells course c.args.graph.now (g.S.Texts.world c.args.site.now) c.args.state.now _
     (record { offered = c.in-Ended.ensures.offered; lawful = c.in-Ended.ensures.lawful; loads = c.in-Ended.ensures.loads })
 
 pub returns-in_err-map_err-in-Judge-clause-grows : goal.returns-in_err-map_err-in-Judge-clause-grows
@@ -72,32 +72,32 @@ pub returns-in-Load-clause-grows : goal.returns-in-Load-clause-grows
 returns-in-Load-clause-grows g c = after_same g.S.Texts.tells (g.S.Texts.world c.args.site.now)
 
 pub returns-in-Load-clause-looked : goal.returns-in-Load-clause-looked
-returns-in-Load-clause-looked g c same = (c.looks_follow.ensures.follow g.S.Texts.tells (g.S.Texts.world c.args.site.now) (g.S.Texts.world c.args.site.now) (g.S.Texts.world c.args.site.now)).none c.args.setting.graph.now c.args.state.now.looks
+returns-in-Load-clause-looked g c same = (c.looks_follow.ensures.follow g.S.Texts.tells (g.S.Texts.world c.args.site.now) (g.S.Texts.world c.args.site.now) (g.S.Texts.world c.args.site.now)).none c.args.graph.now c.args.state.now.looks
 
 pub returns-in-Ended-clause-grows : goal.returns-in-Ended-clause-grows
 returns-in-Ended-clause-grows g c = after_same g.S.Texts.tells (g.S.Texts.world c.args.site.now)
 
 pub returns-in-Ended-clause-looked : goal.returns-in-Ended-clause-looked
-returns-in-Ended-clause-looked g c same = (c.looks_follow.ensures.follow g.S.Texts.tells (g.S.Texts.world c.args.site.now) (g.S.Texts.world c.args.site.now) (g.S.Texts.world c.args.site.now)).none c.args.setting.graph.now c.args.state.now.looks
+returns-in-Ended-clause-looked g c same = (c.looks_follow.ensures.follow g.S.Texts.tells (g.S.Texts.world c.args.site.now) (g.S.Texts.world c.args.site.now) (g.S.Texts.world c.args.site.now)).none c.args.graph.now c.args.state.now.looks
 
 -- a start changes nothing of what the sums are of
 pub returns-in_ok-map_err-in-Start-clause-marked : goal.returns-in_ok-map_err-in-Start-clause-marked
 returns-in_ok-map_err-in-Start-clause-marked g c =
-    let graph = c.args.setting.graph.now in
+    let graph = c.args.graph.now in
     subst (λ (flags : Vec Bool Global). AreMarked graph flags.items c.start_edge.new.state.looks.seen.items c.args.sums.now) (sym c.start_edge.ensures.changed)
     (subst (λ (looks : Looks). AreMarked graph c.args.state.now.plan.changed.items looks.seen.items c.args.sums.now) (sym c.start_edge.ensures.looks) c.requires.marked)
 
 -- an end keeps what no command makes
 pub returns-in_ok-take_in-in-Wait-clause-summed : goal.returns-in_ok-take_in-in-Wait-clause-summed
 returns-in_ok-take_in-in-Wait-clause-summed g c =
-    let graph = c.args.setting.graph.now in
+    let graph = c.args.graph.now in
     let flags = c.args.state.now.plan.changed.items in
     let seen = c.args.state.now.looks.seen.items in
     c.sums_follow.ensures.last_sums graph flags c.take_in.new.state.plan.changed.items seen c.take_in.new.state.looks.seen.items c.in_ok-take_in-in-Wait.ensures.kept c.forget_made.new.self (c.forget_made.ensures graph flags seen c.requires.marked)
 
 pub returns-in_ok-take_in-in-Wait-clause-marked : goal.returns-in_ok-take_in-in-Wait-clause-marked
 returns-in_ok-take_in-in-Wait-clause-marked g c =
-    let graph = c.args.setting.graph.now in
+    let graph = c.args.graph.now in
     let flags = c.args.state.now.plan.changed.items in
     let seen = c.args.state.now.looks.seen.items in
     c.sums_follow.ensures.last_marks graph flags c.take_in.new.state.plan.changed.items seen c.take_in.new.state.looks.seen.items c.in_ok-take_in-in-Wait.ensures.kept c.forget_made.new.self (c.forget_made.ensures graph flags seen c.requires.marked)

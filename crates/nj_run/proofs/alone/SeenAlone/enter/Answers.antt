@@ -16,6 +16,11 @@ invariant_of-retold g c =
       begins = c.args.self.now.retold.begins;
       so_far = stays.so_far;
       started = λ is p. stays.started is p ∙ c.args.self.now.retold.started is p;
+      numbers = c.args.self.now.retold.numbers;
+      owns = c.args.self.now.retold.owns;
+      here = c.args.self.now.retold.here;
+      stand = stays.stand c.args.self.now.retold.stand;
+      kept = λ whole. stays.kept _ _ (c.args.self.now.retold.kept whole);
     }
 
 pub returns : goal.returns

@@ -1,4 +1,6 @@
-use Rattle.std.proofs.Common.{◌∙◌, Some}
+use Rattle.std.proofs.Common.{◌∙◌, Some, sym}
+use Rattle.std.proofs.lemmas.Bool.{false≢true}
+use Rattle.seen.proofs.Kept.{anew_notes, anew_stand}
 use Rattle.seen.proofs.Since.{replaced}
 use Rattle.seen.proofs.Told.{hidden_replaced, own_bytes}
 use Rattle.seen.proofs.retold.Retold.put_anew.Goals as goal
@@ -17,8 +19,17 @@ invariant_of-self g c =
       begins = c.args.self.now.begins;
       so_far = stays.so_far;
       started = λ is p. stays.started is p ∙ c.args.self.now.started is p;
+      numbers = c.args.self.now.numbers;
+      owns = c.args.self.now.owns;
+      here = c.args.self.now.here;
+      stand = anew_stand g.S.Texts.tells g.B.Beginning.begun (g.S.Texts.world c.args.self.now.site) (g.S.Texts.world c.replace.new.self) c.note_calls_note.ensures c.as_str.result.now (λ is. c.args.self.now.here is ∙ sym c.as_str.ensures) c.args.text.now c.args.self.now.noted.lines.items c.requires.notes c.replace.result c.replace.ensures.writes c.replace.ensures.err;
+      kept = λ whole. absurd (false≢true (sym whole ∙ c.requires.torn));
     }
 
 pub returns-clause-looks : goal.returns-clause-looks
 returns-clause-looks g c = hidden_replaced g.S.Texts.tells g.B.Beginning.begun (g.S.Texts.world c.args.self.now.site) (g.S.Texts.world c.replace.new.self) c.args.self.now.so_far c.args.self.now.begins c.looks_are_told.ensures c.as_str.result.now (Some c.args.text.now) (λ is. c.args.self.now.hidden is c.as_str.result.now ∙ own_bytes c.args.self.now.known.own.seen c.as_str.result.now c.as_str.ensures)
     c.replace.result c.replace.ensures.writes c.replace.ensures.err
+
+pub returns-clause-notes : goal.returns-clause-notes
+returns-clause-notes g c =
+    anew_notes g.S.Texts.tells g.B.Beginning.begun (g.S.Texts.world c.args.self.now.site) (g.S.Texts.world c.replace.new.self) c.note_calls_note.ensures c.as_str.result.now (λ is. c.args.self.now.here is ∙ sym c.as_str.ensures) c.args.text.now c.args.self.now.noted.lines.items c.requires.notes c.replace.result c.replace.ensures.writes

@@ -2,6 +2,7 @@ use Rattle.std.proofs.Common.{◌∙◌, Err, ap, subst, sym}
 use Rattle.model.specs.declared.fault.SiteFault.{SiteFault}
 use Rattle.seen.specs.Asking.{Refuses}
 use Rattle.seen.specs.Begun.{told_world}
+use Rattle.seen.proofs.Kept.{looks_keep}
 use Rattle.seen.proofs.Since.{looks_stay}
 use Rattle.seen.proofs.Told.{cause_on, looks_on, waits_on}
 use Rattle.seen.proofs.Answered.{cause_by}
@@ -11,6 +12,7 @@ use Rattle.seen.proofs.retold.Retold.refuse_read.Goals as goal
 pub invariant_of-self : goal.invariant_of-self
 invariant_of-self g c =
     let stays = looks_stay g.S.Texts.tells g.B.Beginning.begun (g.S.Texts.world c.args.self.now.site) (g.S.Texts.world c.read-content.new.self) c.args.self.now.so_far c.read-content.ensures.looks in
+    let keeps = looks_keep g.S.Texts.tells g.B.Beginning.begun (g.S.Texts.world c.args.self.now.site) (g.S.Texts.world c.read-content.new.self) c.calls_note.ensures c.calls_stand.ensures c.read-content.ensures.looks in
     record {
       one = c.args.self.now.one;
       begun = c.args.self.now.begun;
@@ -21,10 +23,15 @@ invariant_of-self g c =
       begins = c.args.self.now.begins;
       so_far = stays.so_far;
       started = λ is p. stays.started is p ∙ c.args.self.now.started is p;
+      numbers = c.args.self.now.numbers;
+      owns = c.args.self.now.owns;
+      here = c.args.self.now.here;
+      stand = keeps.stand c.args.self.now.stand;
+      kept = λ whole. keeps.notes _ _ (c.args.self.now.kept whole);
     }
 
-pub returns : goal.returns
-returns g c =
+pub returns-clause-refused : goal.returns-clause-refused
+returns-clause-refused g c =
     subst (λ (f : SiteFault). Refuses g.S.Texts.tells (told_world g.S.Texts.tells g.B.Beginning.begun (g.S.Texts.world c.args.self.now.site)) (told_world g.S.Texts.tells g.B.Beginning.begun (g.S.Texts.world c.read-content.new.self)) f) (sym c.fault_of.ensures)
     (record {
       looks = looks_on g.S.Texts.tells g.B.Beginning.begun (g.S.Texts.world c.args.self.now.site) (g.S.Texts.world c.read-content.new.self) c.args.self.now.so_far c.args.self.now.begins c.looks_are_told.ensures c.read-content.ensures.looks;

@@ -3,6 +3,7 @@ use Rattle.std.specs.Prelude.{OnErr, OnOk}
 use Rattle.model.specs.Calls.{Appends, AppendsOrNot}
 use Rattle.model.specs.World.{World}
 use Rattle.seen.specs.Begun.{told_world}
+use Rattle.seen.proofs.Kept.{appended_keep}
 use Rattle.seen.proofs.Since.{appended}
 use Rattle.seen.proofs.Told.{err_on, ok_on, appends_on, appends_or_not_on}
 use Rattle.seen.proofs.retold.RetoldSite.append.Goals as goal
@@ -11,6 +12,7 @@ use Rattle.seen.proofs.retold.RetoldSite.append.Goals as goal
 pub invariant_of-self : goal.invariant_of-self
 invariant_of-self g c =
     let stays = appended g.S.Texts.tells g.B.Beginning.begun (g.S.Texts.world c.is_barred.new.self.site) (g.S.Texts.world c.append.new.self) c.is_barred.new.self.so_far c.args.path.now c.args.bytes.now c.append.result c.append.ensures.appends c.append.ensures.err in
+    let keeps = appended_keep g.S.Texts.tells g.B.Beginning.begun (g.S.Texts.world c.is_barred.new.self.site) (g.S.Texts.world c.append.new.self) c.calls_note.ensures c.calls_stand.ensures c.args.path.now (λ tells. (c.is_barred.ensures.told tells c.if-is_barred.false).0) c.args.bytes.now c.append.result c.append.ensures.appends c.append.ensures.err in
     record {
       one = c.is_barred.new.self.one;
       begun = c.is_barred.new.self.begun;
@@ -21,6 +23,11 @@ invariant_of-self g c =
       begins = c.is_barred.new.self.begins;
       so_far = stays.so_far;
       started = λ is p. stays.started is p ∙ c.is_barred.new.self.started is p;
+      numbers = c.is_barred.new.self.numbers;
+      owns = c.is_barred.new.self.owns;
+      here = c.is_barred.new.self.here;
+      stand = keeps.stand c.is_barred.new.self.stand;
+      kept = λ whole. keeps.notes _ _ (c.is_barred.new.self.kept whole);
     }
 
 pub returns-clause-appends : goal.returns-clause-appends

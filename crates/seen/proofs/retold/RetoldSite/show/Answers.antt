@@ -1,4 +1,5 @@
 use Rattle.std.proofs.Common.{◌∙◌}
+use Rattle.seen.proofs.Kept.{looks_keep}
 use Rattle.seen.proofs.Since.{looks_stay}
 use Rattle.seen.proofs.Told.{looks_on}
 use Rattle.seen.proofs.retold.RetoldSite.show.Goals as goal
@@ -7,6 +8,7 @@ use Rattle.seen.proofs.retold.RetoldSite.show.Goals as goal
 pub invariant_of-self : goal.invariant_of-self
 invariant_of-self g c =
     let stays = looks_stay g.S.Texts.tells g.B.Beginning.begun (g.S.Texts.world c.args.self.now.site) (g.S.Texts.world c.show.new.self) c.args.self.now.so_far c.show.ensures.looks in
+    let keeps = looks_keep g.S.Texts.tells g.B.Beginning.begun (g.S.Texts.world c.args.self.now.site) (g.S.Texts.world c.show.new.self) c.calls_note.ensures c.calls_stand.ensures c.show.ensures.looks in
     record {
       one = c.args.self.now.one;
       begun = c.args.self.now.begun;
@@ -17,6 +19,11 @@ invariant_of-self g c =
       begins = c.args.self.now.begins;
       so_far = stays.so_far;
       started = λ is p. stays.started is p ∙ c.args.self.now.started is p;
+      numbers = c.args.self.now.numbers;
+      owns = c.args.self.now.owns;
+      here = c.args.self.now.here;
+      stand = keeps.stand c.args.self.now.stand;
+      kept = λ whole. keeps.notes _ _ (c.args.self.now.kept whole);
     }
 
 pub returns-clause-looks : goal.returns-clause-looks

@@ -12,6 +12,6 @@ returns-in_err-ask_left-clause-asks g c =
 pub loop-output-preserved : goal.loop-output-preserved
 loop-output-preserved g c = record {
   asks = asks_both g.S.Texts.tells (told_world g.S.Texts.tells g.B.Beginning.begun (g.S.Texts.world c.args.self.now.retold.site)) (told_world g.S.Texts.tells g.B.Beginning.begun (g.S.Texts.world c.loop-output.self.retold.site)) (told_world g.S.Texts.tells g.B.Beginning.begun (g.S.Texts.world c.ask_left.new.self.retold.site)) 0 c.in_ok-ask_left.field-0 0 c.loop-output.invariant.asks c.in_ok-ask_left.ensures.asks;
-  grows = grows_then c.args.self.now.known.lines.items c.loop-output.self.known.lines.items c.ask_left.new.self.known.lines.items c.loop-output.invariant.grows c.in_ok-ask_left.ensures.grows;
+  grows = grows_then c.args.self.now.retold.noted.lines.items c.loop-output.self.retold.noted.lines.items c.ask_left.new.self.retold.noted.lines.items c.loop-output.invariant.grows c.in_ok-ask_left.ensures.grows;
   own = c.in_ok-ask_left.ensures.own ∙ c.loop-output.invariant.own;
 }

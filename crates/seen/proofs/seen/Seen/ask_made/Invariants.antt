@@ -8,6 +8,6 @@ use Rattle.seen.proofs.seen.Seen.ask_made.Given as goal
 abbrev pub invariant-loop-output : goal.invariant-loop-output
 invariant-loop-output g l = record {
   asks : Asks {T = ℕ} g.S.Texts.tells (told_world g.S.Texts.tells g.B.Beginning.begun (g.S.Texts.world l.fn.self.retold.site)) (told_world g.S.Texts.tells g.B.Beginning.begun (g.S.Texts.world l.self.retold.site)) (Ok 0);
-  grows : Grows l.fn.self.known.lines.items l.self.known.lines.items;
+  grows : Grows l.fn.self.retold.noted.lines.items l.self.retold.noted.lines.items;
   own : l.self.retold.known.own ≡ l.fn.self.retold.known.own;
 }

@@ -12,6 +12,6 @@ returns-in_err-ask_once-clause-asks g c =
 pub loop-path-preserved : goal.loop-path-preserved
 loop-path-preserved g c = record {
   asks = asks_both g.S.Texts.tells (told_world g.S.Texts.tells g.B.Beginning.begun (g.S.Texts.world c.args.self.now.retold.site)) (told_world g.S.Texts.tells g.B.Beginning.begun (g.S.Texts.world c.loop-path.self.retold.site)) (told_world g.S.Texts.tells g.B.Beginning.begun (g.S.Texts.world c.ask_once.new.self.retold.site)) 0 c.in_ok-ask_once.field-0 0 c.loop-path.invariant.asks c.in_ok-ask_once.ensures.asks;
-  grows = grows_then c.args.self.now.known.lines.items c.loop-path.self.known.lines.items c.ask_once.new.self.known.lines.items c.loop-path.invariant.grows c.in_ok-ask_once.ensures.grows;
+  grows = grows_then c.args.self.now.retold.noted.lines.items c.loop-path.self.retold.noted.lines.items c.ask_once.new.self.retold.noted.lines.items c.loop-path.invariant.grows c.in_ok-ask_once.ensures.grows;
   own = c.in_ok-ask_once.ensures.own ∙ c.loop-path.invariant.own;
 }

@@ -1,0 +1,11 @@
+pub mod Small
+pub mod Sound
+pub mod Telling
+pub mod Keeping
+pub mod Truth
+pub mod Ending
+pub mod Calling
+pub mod SmallOne
+pub mod Noting
+pub mod KilledOne
+pub mod Behind

@@ -1,0 +1,10 @@
+pub mod Counting
+pub mod Soundly
+pub mod Notes
+pub mod Others
+pub mod Laws
+pub mod Calls
+pub mod Small
+pub mod Going
+pub mod Killed
+pub mod Between
