@@ -11,7 +11,7 @@ use Rattle.seen_log.specs.Record.{forms}
 use Rattle.seen_log.specs.declared.log.Log.{Log}
 use Rattle.seen_log.specs.declared.note.Note.{Note}
 use Rattle.seen_log.specs.declared.note.Noted.{Noted}
-use Rattle.seen.specs.Judged.{is_as_noted, is_turned}
+use Rattle.seen_true.specs.Counting.{is_as_noted, is_turned}
 use Rattle.seen.specs.Measured.{measured_at}
 use Rattle.seen.specs.declared.measure.Measure.{Measure}
 use Rattle.tools.specs.Clean.{AddsJust}
