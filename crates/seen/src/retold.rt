@@ -77,7 +77,7 @@ pub struct Retold<S: Measured, B: Beginning> {
 impl<S: Measured, B: Beginning> Retold<S, B> {
     ghost use Rattle.std.specs.Prelude.{◌≡◌, [], false, true, IfOk, IsTrue, None, OnErr, OnOk, Some};
     ghost use Rattle.std.specs.Option.{option_map};
-    ghost use Rattle.seen_true.specs.Going.{EntersBy, Notes, NotesStand};
+    ghost use Rattle.seen_true.specs.Going.{EntersAt, Notes, NotesStand};
     ghost use Rattle.model.specs.Calls.{Appends, HasCause, KeepsWait, OnlyLooks, Sees, Writes};
     ghost use Rattle.model.specs.World.{content_of, file_at, stamp_of};
     ghost use Rattle.seen_law.specs.Laws.{IsPlain, IsTold};
@@ -96,7 +96,7 @@ impl<S: Measured, B: Beginning> Retold<S, B> {
         requires knows { IsTrue S.tells → B.begun.knows ≡ known_of known }
         requires first { IsTrue S.tells → (S.world site).history ≡ B.begun.first }
         requires begins { IsTrue S.tells → BeginsTold B.begun }
-        requires enters { IsTrue S.tells → EntersBy B.begun.knows (option_map (λ text. text.items) base) B.begun.first }
+        requires enters { IsTrue S.tells → EntersAt B.begun.knows (option_map (λ text. text.items) base) B.begun.asked B.begun.first }
         ensures site { result.site ≡ site }
     {
         enters_noted();

@@ -1,9 +1,13 @@
-use Rattle.std.proofs.Common.{◌∙◌, sym}
-use Rattle.std.proofs.lemmas.Bool.{false≢true}
+use Rattle.std.proofs.Common.{◌≡◌, ◌∙◌, ap, length}
+use Rattle.std.proofs.lemmas.Result.{IfOk-weaker}
+use Rattle.seen.specs.declared.makers.Makers.{Makers}
+use Rattle.seen.specs.declared.notes.Entry.{Entry}
+use Rattle.seen.specs.Makers.{listing, pairs_of}
 use Rattle.seen.proofs.notes.enter.Goals as goal
 
-pub returns-in-Ok-clause-enters : goal.returns-in-Ok-clause-enters
-returns-in-Ok-clause-enters g c = λ is found. c.in-Ok.ensures.enters is
-
-pub returns-in-Err-clause-enters : goal.returns-in-Err-clause-enters
-returns-in-Err-clause-enters g c = λ is found. absurd (false≢true (sym found ∙ c.lost_entry.ensures.lost))
+-- what was listed is handed on
+pub returns-clause-lists : goal.returns-clause-lists
+returns-clause-lists g c =
+    IfOk-weaker c.read_by.result (λ (entry : Entry). entry.counts.makers ≡ c.in_ok-makers.makers)
+    (λ (entry : Entry). pairs_of entry.counts.makers.listed.items ≡ listing c.args.manifest.now (length c.args.manifest.now.lines))
+    (λ entry is. ap (λ (m : Makers). pairs_of m.listed.items) is ∙ c.in_ok-makers.ensures.lists) c.read_by.ensures.makers
