@@ -1,0 +1,12 @@
+use Rattle.std.proofs.Common.{refl}
+use Rattle.seen_builds.proofs.laws.begun_is_run.Goals as goal
+
+pub returns : goal.returns
+returns c graph request old new report begins = record {
+  idle = begins.idle;
+  running = begins.running;
+  makes = begins.makes;
+  base = begins.base;
+  enters = begins.enters refl;
+  built = begins.built;
+}
