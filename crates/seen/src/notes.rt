@@ -13,6 +13,7 @@ ghost use Rattle.seen.specs.Asking.{Asks};
 ghost use Rattle.seen.specs.Entering.{IsUnbegun};
 ghost use Rattle.seen.specs.Known.{IsEntryOf, known_of};
 ghost use Rattle.seen.specs.Makers.{AreJobs, listing, pairs_of};
+ghost use Rattle.seen.specs.Own.{AreOwnIn};
 
 use crate::counts::Counts;
 use crate::judging::next_number;
@@ -35,7 +36,8 @@ pub struct Entry {
     pub base: Option<Vec<u8>>,
 }
 
-/// What is known when a build begins whose build log is at this path, by the notes beside it and by the build file; or why it cannot begin.
+/// What is known when a build begins whose logs lie in this folder, by the notes beside them and by the build file; or why it cannot begin. The empty
+/// folder is the working folder.
 ///
 /// Others may write the notes behind the moment at which they are read, before the build begins ([`Seen::over`]): so a build knows when this was
 /// called, too.
@@ -45,20 +47,21 @@ pub fn enter<S: Measured>(
     alloc: Global,
     site: &mut S,
     manifest: &Manifest,
-    log: &str,
+    folder: &str,
 ) -> Result<Entry, SiteFault>
     requires { (S.world site.old).stopped ≡ false }
     ensures asks { Asks S.tells (S.world site.old) (S.world site.new) result }
     ensures unbegun { IfOk result (λ entry. IsUnbegun entry.counts) }
+    ensures own { IfOk result (λ entry. AreOwnIn folder.now entry.counts.own) }
     ensures lists { IfOk result (λ entry. pairs_of entry.counts.makers.listed.items ≡ listing manifest.now (length manifest.now.lines)) }
     ensures enters { IsTrue S.tells → IfOk result (λ entry. EntersAt (known_of entry.counts) (option_map (λ text. text.items) entry.base) (S.world site.old).history (S.world site.new).history) }
 {
     let makers = Makers::of(alloc, manifest)?;
-    read_by(alloc, site, makers, log)
+    let own = Own::within(alloc, folder)?;
+    read_with(alloc, site, makers, own)
 }
 
-/// The same, where commands make this.
-#[tactic(auto, using(crate::proofs::Answered::asks_more, crate::proofs::Answered::asks_fail, crate::proofs::Answered::asks_no_room, crate::proofs::Answered::asks_no_memory))]
+/// The same, where commands make this, and the build log is at this path.
 pub fn read_by<S: Measured>(
     alloc: Global,
     site: &mut S,
@@ -67,11 +70,26 @@ pub fn read_by<S: Measured>(
 ) -> Result<Entry, SiteFault>
     requires { (S.world site.old).stopped ≡ false }
     ensures asks { Asks S.tells (S.world site.old) (S.world site.new) result }
+{
+    let own = Own::beside(alloc, log)?;
+    read_with(alloc, site, makers, own)
+}
+
+/// The same, where these are the program's own files.
+#[tactic(auto, using(crate::proofs::Answered::asks_more, crate::proofs::Answered::asks_fail, crate::proofs::Answered::asks_no_room, crate::proofs::Answered::asks_no_memory))]
+fn read_with<S: Measured>(
+    alloc: Global,
+    site: &mut S,
+    makers: Makers,
+    own: Own,
+) -> Result<Entry, SiteFault>
+    requires { (S.world site.old).stopped ≡ false }
+    ensures asks { Asks S.tells (S.world site.old) (S.world site.new) result }
     ensures unbegun { AreJobs makers → makers.table.entries ≡ [] → IfOk result (λ entry. IsUnbegun entry.counts) }
+    ensures own { IfOk result (λ entry. entry.counts.own ≡ own) }
     ensures makers { IfOk result (λ entry. entry.counts.makers ≡ makers) }
     ensures enters { IsTrue S.tells → IfOk result (λ entry. EntersAt (known_of entry.counts) (option_map (λ text. text.items) entry.base) (S.world site.old).history (S.world site.new).history) }
 {
-    let own = Own::beside(alloc, log)?;
     let start = last_start(site, &own)?;
     let content = site.read(own.seen.as_str())?;
     match content {

@@ -4,6 +4,7 @@ pub mod Beginning
 pub mod Entering
 pub mod Counting
 pub mod Sourced
+pub mod Fitting
 pub mod Following
 pub mod Empty
 pub mod Keeping

@@ -1,5 +1,5 @@
 -- A build that goes by what is known when it begins, on the site as it is told. All is this project's own.
-use Rattle.std.specs.Prelude.{◌≡◌, ◌⊎◌, ℕ, max, Bool, false, IsTrue, List, [], ◌∷◌, Option, None}
+use Rattle.std.specs.Prelude.{◌≡◌, ◌⊎◌, ℕ, max, Bool, false, IsTrue, List, [], ◌∷◌, Option, None, Err}
 use Rattle.std.specs.Option.{option_map}
 use Rattle.model.specs.declared.event.Moment.{Moment}
 use Rattle.model.specs.declared.event.Moment.TheVariants.{Wrote}
@@ -19,8 +19,10 @@ use Rattle.seen_true.specs.Counting.{telling}
 use Rattle.seen_true.specs.Going.{EntersAt, NotesStand}
 use Rattle.seen.specs.declared.counts.Counts.{Counts}
 use Rattle.seen.specs.declared.notes.Entry.{Entry}
+use Rattle.seen.specs.Asking.{Asks}
 use Rattle.seen.specs.Begun.{Begun, GoesOn, told_world}
 use Rattle.seen.specs.Known.{known_of}
+use Rattle.seen.specs.Own.{AreOwnIn}
 use Rattle.seen_builds.specs.Makes.{KnowsMakers}
 
 -- how files count by what is known
@@ -50,14 +52,14 @@ pub record IsOver (tells : Bool) (b : Begun) (graph : BuildGraph) (asked : Reque
   pub builds : BuildsAsked tells graph asked (told_world tells b old) (told_world tells b new) report
   pub noted : NotesStand tells b new
 
--- It did not begin: the site was only looked at, and this fault is answered.
+-- It did not begin: the site was only looked at, and this fault is answered, which has its cause.
 pub record IsNotBegun (tells : Bool) (old new : World) (report : Report) : Type 0 where
   pub fault : SiteFault
   pub is : report ≡ Fault fault
-  pub looks : OnlyLooks tells old new
+  pub asks : Asks {T = Entry} tells old new (Err fault)
 
--- Something was known: which edge makes what, by the build file, and what was read of the notes at some moment since it was asked for. The site had only
--- been looked at, ran no command and had not stopped; and the build began by that.
+-- Something was known: which files are the program's own, by the folder of the logs; which edge makes what, by the build file; and what was read of the
+-- notes at some moment since it was asked for. The site had only been looked at, ran no command and had not stopped; and the build began by that.
 pub record BeginsKnowing (tells : Bool) (graph : BuildGraph) (asked : Request) (old new : World) (report : Report) : Type 0 where
   pub counts : Counts
   pub base : Option (List ℕ)
@@ -65,6 +67,7 @@ pub record BeginsKnowing (tells : Bool) (graph : BuildGraph) (asked : Request) (
   pub looks : OnlyLooks tells old entry
   pub idle : IsIdle entry.events
   pub running : entry.stopped ≡ false
+  pub own : AreOwnIn asked.folder counts.own
   pub makes : KnowsMakers counts.makers graph.edges
   pub enters : IsTrue tells → EntersAt (known_of counts) base old.history entry.history
   pub built : IsOver tells (begun_with counts old.history entry) graph asked entry new report

@@ -11,12 +11,13 @@ use Rattle.work.specs.Loads.{ReadsDyndeps}
 use Rattle.work.specs.declared.report.Report.{Report}
 use Rattle.builder.specs.declared.asked.Asked.{Asked as Request}
 use Rattle.seen_true.specs.Between.{ComesBehind, paths_between, told_at}
-use Rattle.seen_true.specs.Going.{Entered, EntersAt, NotesStand}
+use Rattle.seen_true.specs.Going.{Entered, EntersAt}
 use Rattle.seen_true.specs.Soundly.{CountSoundly, IsLaterThanRecords}
 use Rattle.seen.specs.declared.counts.Counts.{Counts}
 use Rattle.seen.specs.Begun.{Begun, told_world}
 use Rattle.seen.specs.Known.{known_of}
 use Rattle.seen.specs.Makers.{maker_of}
+use Rattle.seen.specs.Own.{AreOwnIn}
 use Rattle.seen_builds.specs.From.{begun_with, telling_in, BeginsKnowing, IsOver}
 use Rattle.seen_builds.specs.Makes.{KnowsMakers}
 
@@ -55,11 +56,13 @@ files_told run = view_of (exit_in run).history
 abbrev pub files_there : Run → View
 files_there run = view_of run.exit.history
 
--- THE BUILD WAS RUN, as `build_seen` promises: no command ran at its beginning, and the site had not stopped; which edge makes what was known by the
--- build file, and of notes what was read of them since the build was asked for; and then it was built, and left true notes.
+-- THE BUILD WAS RUN, as `build_seen` promises: no command ran at its beginning, and the site had not stopped; which files are the program's own was known
+-- by the folder of the logs, which edge makes what by the build file, and of notes what was read of them since the build was asked for; and then it was
+-- built, and left true notes.
 pub record WasRun (run : Run) : Type 0 where
   pub idle : IsIdle run.entry.events
   pub running : run.entry.stopped ≡ false
+  pub own : AreOwnIn run.request.folder run.counts.own
   pub makes : KnowsMakers run.counts.makers run.graph.edges
   pub base : Option (List ℕ)
   pub enters : EntersAt (known_of run.counts) base run.past run.entry.history
@@ -101,11 +104,6 @@ told_in (Ended entered exit) = told_at entered exit
 -- this build is before the next one
 abbrev pub ended_by : Run → Before
 ended_by run = Ended (begun_in run) run.exit
-
--- the notes of that build are true wherever it ended
-abbrev pub LeftTrueNotes : Before → Type 0
-LeftTrueNotes (Told history) = Unit {0}
-LeftTrueNotes (Ended entered exit) = NotesStand true entered exit
 
 -- what others did since this was told counts soundly, by what the build knew when it began
 abbrev pub OthersCountSoundly : Conventions → (told : List Moment) → Run → Type 0

@@ -1,10 +1,8 @@
 //! One build.
 
-ghost use Rattle.std.specs.Prelude.{◌≡◌, false, IfOk, IsTrue, List, OnOk};
+ghost use Rattle.std.specs.Prelude.{◌≡◌, false, IsTrue, List};
 ghost use Rattle.model.specs.declared.event.Moment.{Moment};
-ghost use Rattle.model.specs.Calls.{OnlyLooks};
 ghost use Rattle.model.specs.World.{IsIdle};
-ghost use Rattle.paths.specs.Told.{graph_of};
 ghost use Rattle.graph.specs.Told.{declared_by};
 ghost use Rattle.manifest.specs.Answer.{IsGraph};
 ghost use Rattle.builder.specs.Reports.{IsLinked};
@@ -12,18 +10,12 @@ ghost use Rattle.seen.specs.Begun.{BeginsTold};
 ghost use Rattle.seen.specs.Entering.{IsUnbegun};
 ghost use Rattle.seen.specs.Known.{known_of};
 ghost use Rattle.seen_builds.specs.From.{begun_with, EntersSince, IsOver, IsSeenBuild};
-ghost use Rattle.seen_builds.specs.Makes.{KnowsMakers};
 
 use builder::{Asked, Options, Report, build_graph_read};
 use graph::Graph;
-use paths::Manifest;
 use seen::{Beginning, Entry, Measured, Seen, enter};
-use site::SiteFault;
-use std::alloc::{AllocError, Global};
+use std::alloc::Global;
 use std::marker::Brand;
-
-/// The name of the build log.
-const LOG: &str = ".nj_log";
 
 /// Builds what is asked for of a graph, by what was known when the build began, on a site that is told so; the site below comes back.
 pub fn build_over<S: Measured + Drop, B: Beginning>(
@@ -104,37 +96,8 @@ fn build_behind<S: Measured + Drop>(
     requires linked { IsLinked graph.old }
     ensures { IsSeenBuild S.tells (declared_by graph.old) asked.now (S.world site) (S.world result.1) result.0 }
 {
-    match known_in_folder(alloc, &mut site, &graph.manifest, asked.folder.as_str()) {
+    match enter(alloc, &mut site, &graph.manifest, asked.folder.as_str()) {
         Ok(entry) => build_from(alloc, site, entry, graph, asked, options),
         Err(fault) => (Report::Fault(fault), site),
-    }
-}
-
-/// What is known when a build begins whose build log lies in this folder.
-fn known_in_folder<S: Measured>(
-    alloc: Global,
-    site: &mut S,
-    manifest: &Manifest,
-    folder: &str,
-) -> Result<Entry, SiteFault>
-    requires idle { IsIdle (S.world site.old).events }
-    requires running { (S.world site.old).stopped ≡ false }
-    ensures looks { OnlyLooks S.tells (S.world site.old) (S.world site.new) }
-    ensures idle { IsIdle (S.world site.new).events }
-    ensures running { OnOk result ((S.world site.new).stopped ≡ false) }
-    ensures unbegun { IfOk result (λ entry. IsUnbegun entry.counts) }
-    ensures makes { IfOk result (λ entry. KnowsMakers entry.counts.makers (graph_of manifest.now).edges) }
-    ensures enters { IfOk result (λ entry. EntersSince S.tells entry (S.world site.old).history (S.world site.new)) }
-{
-    let log = log_path(alloc, folder)?;
-    enter(alloc, site, manifest, log.as_str())
-}
-
-/// The path of the build log in this folder; an empty one is the working folder.
-fn log_path(alloc: Global, folder: &str) -> Result<String, AllocError> {
-    match folder {
-        "" => String::from_str(alloc, LOG),
-        "/" => format!(in alloc; "/{LOG}"),
-        _ => format!(in alloc; "{folder}/{LOG}"),
     }
 }

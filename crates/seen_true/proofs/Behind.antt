@@ -13,17 +13,17 @@ use Rattle.seen_law.specs.Laws.{FilesAreTold}
 use Rattle.seen_law.specs.Meanwhile.{no_command, told_next}
 use Rattle.seen_law.specs.Retold.{BeginsSo, retold}
 use Rattle.seen_true.specs.Counting.{telling}
-use Rattle.seen_true.specs.Going.{Entered, EntersAt, NotesStand, course}
+use Rattle.seen_true.specs.Going.{Entered, course}
 use Rattle.seen_true.specs.Soundly.{CountSoundly}
-use Rattle.seen_true.specs.Between.{BehindBegins, BehindIsSound, ComesBehind, paths_between, told_at}
+use Rattle.seen_true.specs.Between.{BehindBegins, BehindIsSound, paths_between, told_at}
 use Rattle.seen_true.proofs.Ending.{ending_law}
 use Rattle.seen_true.proofs.Noting.{stay_law}
 use Rattle.seen_true.proofs.Sound.{begins_law}
 
 pub sound_law : FilesAreTold → OneReading forms → BehindIsSound
-sound_law files_law one_reading format own e exit next base stands enters behind =
-    ending_law files_law one_reading format own (course e exit) next.knows next.first (stands.kept refl behind.left) behind.fit
-    (stay_law next base enters behind.read).reads behind.others behind.number
+sound_law files_law one_reading format own e exit next base stands knows behind =
+    ending_law files_law one_reading format own (course e exit) next.knows next.first (stands.kept refl behind.left) knows.fit
+    (stay_law next base knows.enters behind.read).reads behind.others behind.number
 
 module _ (B : Behaviour) (format : LogFormat) (own : OwnFiles) (edges others : List Edge)
     (e : Entered) (exit : World) (next : Entered) (last entry : World) (was : last.history ≡ told_at e exit) (idle : IsIdle entry.events)
@@ -48,6 +48,6 @@ module _ (B : Behaviour) (format : LogFormat) (own : OwnFiles) (edges others : L
       (subst Counts (sym here) sound) faithful)
 
 pub behind_law : FilesAreTold → OneReading forms → BehindBegins
-behind_law files_law one_reading B format own edges others e exit next base last entry stands enters behind was here idle faithful =
+behind_law files_law one_reading B format own edges others e exit next base last entry stands knows behind was here idle faithful =
     begins_then B format own edges others e exit next last entry was idle faithful here
-    (sound_law files_law one_reading format own e exit next base stands enters behind)
+    (sound_law files_law one_reading format own e exit next base stands knows behind)

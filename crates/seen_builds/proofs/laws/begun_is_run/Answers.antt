@@ -5,6 +5,7 @@ pub returns : goal.returns
 returns c graph request old new report begins = record {
   idle = begins.idle;
   running = begins.running;
+  own = begins.own;
   makes = begins.makes;
   base = begins.base;
   enters = begins.enters refl;

@@ -4,7 +4,7 @@ use Rattle.model.specs.World.{file_at}
 use Rattle.seen.specs.declared.own.Own.{Own}
 use Rattle.seen.proofs.Entered.{entered_at, text_none, text_some}
 use Rattle.seen.proofs.Answered.{asks_fail, asks_more, asks_no_room}
-use Rattle.seen.proofs.notes.read_by.Goals as goal
+use Rattle.seen.proofs.notes.read_with.Goals as goal
 
 pub returns-in_err-content-clause-asks : goal.returns-in_err-content-clause-asks
 returns-in_err-content-clause-asks g c =
