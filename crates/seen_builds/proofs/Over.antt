@@ -1,5 +1,5 @@
 -- A build over a site as it is told.
-use Rattle.std.proofs.Common.{◌≡◌, inl, inr, ℕ, Bool, true, false, List, sym, subst}
+use Rattle.std.proofs.Common.{◌≡◌, inl, inr, ℕ, Bool, true, false, List, refl, sym, subst}
 use Rattle.std.specs.Prelude.{IsTrue}
 use Rattle.std.specs.Option.{option_map}
 use Rattle.model.specs.declared.event.Event.{Event}
@@ -17,6 +17,7 @@ use Rattle.seen.specs.Asking.{WasAnswered}
 use Rattle.seen.specs.Begun.{Begun, GoesOn, told_world}
 use Rattle.seen.specs.Known.{known_of}
 use Rattle.seen_builds.specs.From.{EntersSince, IsOver, begun_with}
+use Rattle.seen_builds.specs.Runs.{BegunIsRun}
 
 -- what is told of a site on which no command runs, and which has not stopped
 told_idle : (tells : Bool) (b : Begun) (world : World) → IsIdle world.events → IsIdle (told_world tells b world).events
@@ -70,3 +71,16 @@ module _ (tells : Bool) (entry : Entry) (old past : List Moment) (world : World)
   pub over_from : (graph : BuildGraph) (asked : Request) (new : World) (report : Report) → IsOver tells (begun_with entry.counts past world) graph asked world new report
       → IsOver tells (begun_with entry.counts old world) graph asked world new report
   over_from graph asked new report over = subst (λ (h : List Moment). IsOver tells (begun_with entry.counts h world) graph asked world new report) (sym same) over
+
+-- ---- it is one of those that may come one after another
+
+pub begun_law : BegunIsRun
+begun_law graph request old new report begins = record {
+  idle = begins.idle;
+  running = begins.running;
+  own = begins.own;
+  makes = begins.makes;
+  base = begins.base;
+  enters = begins.enters refl;
+  built = begins.built;
+}

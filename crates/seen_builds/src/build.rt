@@ -89,7 +89,7 @@ fn build_behind<S: Measured + Drop>(
     options: &Options,
 ) -> (Report, S)
     ghost past: { List Moment }
-    requires past { (S.world site).history ≡ past }
+    requires behind { (S.world site).history ≡ past }
     requires idle { IsIdle (S.world site).events }
     requires running { (S.world site).stopped ≡ false }
     requires formed { IsGraph (declared_by graph.old) }

@@ -15,7 +15,7 @@ build_from-requires g c =
       formed = c.requires.formed;
       linked = c.requires.linked;
       unbegun = c.in-Ok.ensures.unbegun;
-      enters = enters_behind g.S.Texts.tells c.in-Ok.entry old.history g.past world c.requires.past c.in-Ok.ensures.enters;
+      enters = enters_behind g.S.Texts.tells c.in-Ok.entry old.history g.past world c.requires.behind c.in-Ok.ensures.enters;
     }
 
 pub returns-in-Ok : goal.returns-in-Ok
@@ -32,7 +32,7 @@ returns-in-Ok g c =
       own = c.in-Ok.ensures.own;
       makes = listed_law c.in-Ok.entry.counts.makers c.args.graph.now.manifest c.in-Ok.ensures.unbegun.table c.in-Ok.ensures.lists;
       enters = c.in-Ok.ensures.enters;
-      built = over_from g.S.Texts.tells c.in-Ok.entry old.history g.past world c.requires.past
+      built = over_from g.S.Texts.tells c.in-Ok.entry old.history g.past world c.requires.behind
           (declared_by c.args.graph.now) c.args.asked.now (g.S.Texts.world c.build_from.result.1) c.build_from.result.0 c.build_from.ensures;
     })
 

@@ -3,7 +3,7 @@ use Rattle.seen_builds.proofs.build.build_seen.Goals as goal
 
 pub build_behind-requires : goal.build_behind-requires
 build_behind-requires g c = record {
-  past = refl;
+  behind = refl;
   idle = c.requires.idle;
   running = c.requires.running;
   formed = c.requires.formed;
