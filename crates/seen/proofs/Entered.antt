@@ -1,6 +1,7 @@
 -- What is known of notes when a build begins.
-use Rattle.std.proofs.Common.{◌≡◌, inl, inr, ℕ, true, List, [], ◌∷◌, ◌++◌, Option, Some, None, refl, sym, ◌∙◌, ap, subst, append_assoc}
+use Rattle.std.proofs.Common.{◌≡◌, inl, inr, ℕ, Bool, true, List, [], ◌∷◌, ◌++◌, Option, Some, None, refl, sym, ◌∙◌, ap, subst, append_assoc}
 use Rattle.std.specs.Option.{option_map}
+use Rattle.std.specs.Prelude.{IsTrue}
 use Rattle.indexmap.specs.IndexMap.{get_by_text}
 use Rattle.log_text.specs.declared.form.Version.TheVariants.{Two}
 use Rattle.log_text.specs.declared.tail.Tail.{Tail}
@@ -22,9 +23,13 @@ use Rattle.seen_log.specs.Log.{noted_in_force}
 use Rattle.seen_log.specs.Record.{forms}
 use Rattle.seen_true.specs.Notes.{IsWhole}
 use Rattle.seen_true.specs.Calls.{IsLeftByProgram}
+use Rattle.seen_true.specs.Counting.{Knowing}
 use Rattle.seen_true.specs.Going.{BaseIsWhole, EntersAt}
 use Rattle.seen.specs.declared.counts.Counts.{Counts}
 use Rattle.seen.specs.Beginning.{noted_of}
+use Rattle.seen.specs.declared.notes.Entry.{Entry}
+use Rattle.seen.specs.Begun.{Begun}
+use Rattle.seen.specs.Entering.{EntersSince}
 use Rattle.seen.specs.Known.{IsEntryOf, known_of}
 
 -- ---- what the log has is what the records tell
@@ -125,3 +130,10 @@ entered_at k base x0 x1 x2 seen text content running still_running before wrote 
       };
       left = left_then still_running k.own.seen x1.history x2.history sees.earlier sees.later wrote sees.grows;
     }
+
+-- what was read of notes, where it is what the beginning knows
+pub enters_first : (tells : Bool) (b : Begun) (entry : Entry) (world : World) → IsTrue tells → b.knows ≡ known_of entry.counts → world.history ≡ b.first
+    → EntersSince tells entry b.asked world → EntersAt b.knows (option_map (λ text. text.items) entry.base) b.asked b.first
+enters_first tells b entry world is knows first enters =
+    subst (λ (k : Knowing). EntersAt k (option_map (λ text. text.items) entry.base) b.asked b.first) (sym knows)
+    (subst (λ (h : List Moment). EntersAt (known_of entry.counts) (option_map (λ text. text.items) entry.base) b.asked h) first (enters is))

@@ -1,6 +1,6 @@
 //! The file of the notes, as a build finds it.
 
-ghost use Rattle.std.specs.Prelude.{◌≡◌, [], ℕ, List, false, true, None, IfOk, IsTrue, length, replicate};
+ghost use Rattle.std.specs.Prelude.{◌≡◌, [], ℕ, List, false, true, None, IfOk, length, replicate};
 ghost use Rattle.std.specs.Option.{option_map};
 ghost use Rattle.log_text.specs.Text.{IsRead};
 ghost use Rattle.log_text.specs.declared.tail.Tail.TheVariants.{Whole};
@@ -8,10 +8,10 @@ ghost use Rattle.seen_log.specs.declared.note.Note.{Note};
 ghost use Rattle.seen_log.specs.Keeping.{Keeps};
 ghost use Rattle.seen_log.specs.Log.{noted_in_force};
 ghost use Rattle.seen_log.specs.Record.{forms};
-ghost use Rattle.seen_true.specs.Going.{BaseIsWhole, EntersAt};
+ghost use Rattle.seen_true.specs.Going.{BaseIsWhole};
 ghost use Rattle.seen.specs.Asking.{Asks};
-ghost use Rattle.seen.specs.Entering.{IsUnbegun};
-ghost use Rattle.seen.specs.Known.{IsEntryOf, known_of};
+ghost use Rattle.seen.specs.Entering.{EntersSince, IsUnbegun};
+ghost use Rattle.seen.specs.Known.{IsEntryOf};
 ghost use Rattle.seen.specs.Makers.{AreJobs, listing, pairs_of};
 ghost use Rattle.seen.specs.Own.{AreOwnIn};
 
@@ -54,7 +54,7 @@ pub fn enter<S: Measured>(
     ensures unbegun { IfOk result (λ entry. IsUnbegun entry.counts) }
     ensures own { IfOk result (λ entry. AreOwnIn folder.now entry.counts.own) }
     ensures lists { IfOk result (λ entry. pairs_of entry.counts.makers.listed.items ≡ listing manifest.now (length manifest.now.lines)) }
-    ensures enters { IsTrue S.tells → IfOk result (λ entry. EntersAt (known_of entry.counts) (option_map (λ text. text.items) entry.base) (S.world site.old).history (S.world site.new).history) }
+    ensures enters { IfOk result (λ entry. EntersSince S.tells entry (S.world site.old).history (S.world site.new)) }
 {
     let makers = Makers::of(alloc, manifest)?;
     let own = Own::within(alloc, folder)?;
@@ -88,7 +88,7 @@ fn read_with<S: Measured>(
     ensures unbegun { AreJobs makers → makers.table.entries ≡ [] → IfOk result (λ entry. IsUnbegun entry.counts) }
     ensures own { IfOk result (λ entry. entry.counts.own ≡ own) }
     ensures makers { IfOk result (λ entry. entry.counts.makers ≡ makers) }
-    ensures enters { IsTrue S.tells → IfOk result (λ entry. EntersAt (known_of entry.counts) (option_map (λ text. text.items) entry.base) (S.world site.old).history (S.world site.new).history) }
+    ensures enters { IfOk result (λ entry. EntersSince S.tells entry (S.world site.old).history (S.world site.new)) }
 {
     let start = last_start(site, &own)?;
     let content = site.read(own.seen.as_str())?;

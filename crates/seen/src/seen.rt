@@ -1,14 +1,13 @@
 //! A site over a site.
 
 ghost use Rattle.std.specs.Prelude.{◌≡◌, [], false, IsTrue, OnErr, OnOk};
-ghost use Rattle.std.specs.Option.{option_map};
 ghost use Rattle.model.specs.Calls.{Appends, AppendsOrNot, HasCause, KeepsWait};
 ghost use Rattle.model.specs.World.{World};
 ghost use Rattle.seen.specs.Asking.{Asks};
-ghost use Rattle.seen_true.specs.Going.{EntersAt, NotesStand};
+ghost use Rattle.seen_true.specs.Going.{NotesStand};
 ghost use Rattle.seen.specs.Begun.{BeginsTold, told_world};
 ghost use Rattle.seen.specs.Known.{known_of};
-ghost use Rattle.seen.specs.Entering.{IsUnbegun};
+ghost use Rattle.seen.specs.Entering.{EntersSince, IsUnbegun};
 
 use crate::beginning::Beginning;
 use crate::lines::{Told, told_by};
@@ -56,13 +55,12 @@ impl<S: Measured, B: Beginning> Seen<S, B> {
         requires knows { IsTrue S.tells → B.begun.knows ≡ known_of entry.counts }
         requires first { IsTrue S.tells → (S.world site).history ≡ B.begun.first }
         requires begins { IsTrue S.tells → BeginsTold B.begun }
-        requires enters { IsTrue S.tells → EntersAt B.begun.knows (option_map (λ text. text.items) entry.base) B.begun.asked B.begun.first }
+        requires enters { EntersSince S.tells entry B.begun.asked (S.world site) }
         ensures { result.retold.site ≡ site }
     {
-        let Entry { counts, base } = entry;
         Seen {
             alloc,
-            retold: Retold::over(alloc, site, counts, base),
+            retold: Retold::over(alloc, site, entry),
             next: None,
             lost: false,
         }

@@ -1,7 +1,5 @@
 -- A build over a site as it is told.
 use Rattle.std.proofs.Common.{◌≡◌, inl, inr, ℕ, Bool, true, false, List, refl, sym, subst}
-use Rattle.std.specs.Prelude.{IsTrue}
-use Rattle.std.specs.Option.{option_map}
 use Rattle.model.specs.declared.event.Event.{Event}
 use Rattle.model.specs.declared.event.Moment.{Moment}
 use Rattle.model.specs.declared.graph.BuildGraph.{BuildGraph}
@@ -10,13 +8,12 @@ use Rattle.model.specs.World.{World, IsIdle}
 use Rattle.work.specs.declared.report.Report.{Report}
 use Rattle.builder.specs.declared.asked.Asked.{Asked as Request}
 use Rattle.builder.specs.Parts.{BuildsAsked}
-use Rattle.seen_true.specs.Counting.{Knowing}
-use Rattle.seen_true.specs.Going.{EntersAt, NotesStand}
+use Rattle.seen_true.specs.Going.{NotesStand}
 use Rattle.seen.specs.declared.notes.Entry.{Entry}
 use Rattle.seen.specs.Asking.{WasAnswered}
 use Rattle.seen.specs.Begun.{Begun, GoesOn, told_world}
-use Rattle.seen.specs.Known.{known_of}
-use Rattle.seen_builds.specs.From.{EntersSince, IsOver, begun_with}
+use Rattle.seen.specs.Entering.{EntersSince}
+use Rattle.seen_builds.specs.From.{IsOver, begun_with}
 use Rattle.seen_builds.specs.Runs.{BegunIsRun}
 
 -- what is told of a site on which no command runs, and which has not stopped
@@ -43,13 +40,6 @@ module _ (tells : Bool) (b : Begun) (old first : World) (same : first ≡ old) w
         (subst (λ (w : World). BuildsAsked tells graph asked (told_world tells b first) (told_world tells b w) report) (sym ends) builds);
     noted = subst (λ (w : World). NotesStand tells b w) (sym ends) stand;
   }
-
--- what was known of notes, where it is what the beginning knows
-pub enters_first : (tells : Bool) (b : Begun) (entry : Entry) (world : World) → IsTrue tells → b.knows ≡ known_of entry.counts → world.history ≡ b.first
-    → EntersSince tells entry b.asked world → EntersAt b.knows (option_map (λ text. text.items) entry.base) b.asked b.first
-enters_first tells b entry world is knows first enters =
-    subst (λ (k : Knowing). EntersAt k (option_map (λ text. text.items) entry.base) b.asked b.first) (sym knows)
-    (subst (λ (h : List Moment). EntersAt (known_of entry.counts) (option_map (λ text. text.items) entry.base) b.asked h) first (enters is))
 
 -- where there is only looked no command runs still
 pub idle_looking : (tells : Bool) (old new : World) → OnlyLooks tells old new → IsIdle old.events → IsIdle new.events

@@ -1,6 +1,5 @@
 -- A build that goes by what is known when it begins, on the site as it is told. All is this project's own.
 use Rattle.std.specs.Prelude.{◌≡◌, ◌⊎◌, ℕ, max, Bool, false, IsTrue, List, [], ◌∷◌, Option, None, Err}
-use Rattle.std.specs.Option.{option_map}
 use Rattle.model.specs.declared.event.Moment.{Moment}
 use Rattle.model.specs.declared.event.Moment.TheVariants.{Wrote}
 use Rattle.model.specs.declared.event.Writer.TheVariants.{Someone}
@@ -40,10 +39,6 @@ told_first counts world = told_next (telling_in counts) (told_nothing counts wor
 -- it begins so, where this had happened when it was asked for, before it read the notes
 abbrev pub begun_with : Counts → (past : List Moment) → World → Begun
 begun_with counts past world = record { knows = known_of counts; asked = past; first = world.history; before = told_first counts world }
-
--- what is known of notes was read of their file at some moment since then
-abbrev pub EntersSince : Bool → Entry → (past : List Moment) → World → Type 0
-EntersSince tells entry past world = IsTrue tells → EntersAt (known_of entry.counts) (option_map (λ text. text.items) entry.base) past world.history
 
 -- THE BUILD OVER A SITE, from `old` to `new`, that began so: on a site that tells its files the history went on; of what it was told it was the build
 -- that each build is of the site that it is given; and the notes that it left are true, wherever it ended.

@@ -7,9 +7,9 @@ ghost use Rattle.graph.specs.Told.{declared_by};
 ghost use Rattle.manifest.specs.Answer.{IsGraph};
 ghost use Rattle.builder.specs.Reports.{IsLinked};
 ghost use Rattle.seen.specs.Begun.{BeginsTold};
-ghost use Rattle.seen.specs.Entering.{IsUnbegun};
+ghost use Rattle.seen.specs.Entering.{EntersSince, IsUnbegun};
 ghost use Rattle.seen.specs.Known.{known_of};
-ghost use Rattle.seen_builds.specs.From.{begun_with, EntersSince, IsOver, IsSeenBuild};
+ghost use Rattle.seen_builds.specs.From.{begun_with, IsOver, IsSeenBuild};
 
 use builder::{Asked, Options, Report, build_graph_read};
 use graph::Graph;

@@ -1,6 +1,6 @@
 use Rattle.std.proofs.Common.{ap}
 use Rattle.graph.specs.Told.{declared_by}
-use Rattle.seen_builds.proofs.Over.{enters_first, idle_over, running_over, is_over}
+use Rattle.seen_builds.proofs.Over.{idle_over, running_over, is_over}
 use Rattle.seen_builds.proofs.build.build_over.Goals as goal
 
 pub over-seen-requires : goal.over-seen-requires
@@ -9,7 +9,7 @@ over-seen-requires g c = record {
   knows = c.requires.knows;
   first = c.requires.first;
   begins = c.requires.begins;
-  enters = λ is. enters_first g.S.Texts.tells g.B.Beginning.begun c.args.entry (g.S.Texts.world c.args.site) is (c.requires.knows is) (c.requires.first is) c.requires.enters;
+  enters = c.requires.enters;
 }
 
 pub build_graph_read-report-requires : goal.build_graph_read-report-requires
