@@ -1,14 +1,19 @@
 -- What is known of notes when a build begins.
-use Rattle.std.proofs.Common.{◌≡◌, inl, inr, ℕ, true, List, [], ◌++◌, Option, Some, None, refl, sym, ◌∙◌, ap, subst, append_assoc}
+use Rattle.std.proofs.Common.{◌≡◌, inl, inr, ℕ, Bool, true, List, [], ◌∷◌, ◌++◌, Option, Some, None, refl, sym, ◌∙◌, ap, subst, append_assoc}
 use Rattle.std.specs.Option.{option_map}
+use Rattle.std.specs.Prelude.{IsTrue}
 use Rattle.indexmap.specs.IndexMap.{get_by_text}
 use Rattle.log_text.specs.declared.form.Version.TheVariants.{Two}
 use Rattle.log_text.specs.declared.tail.Tail.{Tail}
 use Rattle.log_text.specs.declared.tail.Tail.TheVariants.{Whole}
 use Rattle.log_text.specs.Text.{IsEnded, IsRead}
+use Rattle.std.specs.List.{AllByRecursion}
 use Rattle.model.specs.declared.event.Moment.{Moment}
+use Rattle.model.specs.declared.event.Moment.TheVariants.{Wrote, Happened}
+use Rattle.model.specs.declared.event.Writer.TheVariants.{Program, Command, Someone}
 use Rattle.model.specs.World.{World, File, content_of, file_at}
-use Rattle.model.specs.Calls.{OthersWrote, Sees, content_or_empty}
+use Rattle.model.specs.Calls.{AllByOthers, IsByOthers, OthersWrote, Sees, content_or_empty}
+use Rattle.theory.proofs.Lists.{all_parts, same_rest}
 use Rattle.seen_log.specs.declared.log.Log.{Log}
 use Rattle.seen_log.specs.declared.note.Last.{Last}
 use Rattle.seen_log.specs.declared.note.Note.{Note}
@@ -17,10 +22,15 @@ use Rattle.seen_log.specs.Keeping.{IsLast, Keeps}
 use Rattle.seen_log.specs.Log.{noted_in_force}
 use Rattle.seen_log.specs.Record.{forms}
 use Rattle.seen_true.specs.Notes.{IsWhole}
-use Rattle.seen_true.specs.Going.{BaseIsWhole}
+use Rattle.seen_true.specs.Calls.{IsLeftByProgram}
+use Rattle.seen_true.specs.Counting.{Knowing}
+use Rattle.seen_true.specs.Going.{BaseIsWhole, EntersAt}
 use Rattle.seen.specs.declared.counts.Counts.{Counts}
 use Rattle.seen.specs.Beginning.{noted_of}
-use Rattle.seen.specs.Known.{EntersAt, IsEntryOf}
+use Rattle.seen.specs.declared.notes.Entry.{Entry}
+use Rattle.seen.specs.Begun.{Begun}
+use Rattle.seen.specs.Entering.{EntersSince}
+use Rattle.seen.specs.Known.{IsEntryOf, known_of}
 
 -- ---- what the log has is what the records tell
 
@@ -76,11 +86,28 @@ text_none (Some file) is = absurd (never is)
     never : None ≡ Some file.content → ⊥
     never e = cc
 
+-- where others alone wrote the program left the path
+left_by : (running : ℕ → Type 0) (p : List ℕ) (ms : List Moment) → AllByOthers running ms → AllByRecursion (IsLeftByProgram p) ms
+left_by running p [] all = tt
+left_by running p (Wrote Program path content stamp ∷ ms) all = absurd all.0
+left_by running p (Wrote (Command job) path content stamp ∷ ms) all = (tt, left_by running p ms all.1)
+left_by running p (Wrote Someone path content stamp ∷ ms) all = (tt, left_by running p ms all.1)
+left_by running p (Happened event ∷ ms) all = absurd all.0
+
+-- so it did behind a moment of a call that only looked
+left_then : (running : ℕ → Type 0) (p : List ℕ) (old new earlier later : List Moment) → OthersWrote running old new → new ≡ old ++ (earlier ++ later)
+    → AllByRecursion (IsLeftByProgram p) later
+left_then running p old new earlier later wrote grows =
+    left_by running p later
+    (all_parts (IsByOthers running) earlier later
+    (subst (λ (ms : List Moment). AllByOthers running ms) (same_rest old wrote.more (earlier ++ later) (sym wrote.grows ∙ grows)) wrote.all)).1
+
 -- it was read at this moment of a call, behind a look
-pub entered_at : (k : Counts) (base : Option (List ℕ)) (x0 x1 x2 : World) (seen text : List ℕ) (content : Option (List ℕ)) (running : ℕ → Type 0) → OthersWrote running x0.history x1.history
+pub entered_at : (k : Counts) (base : Option (List ℕ)) (x0 x1 x2 : World) (seen text : List ℕ) (content : Option (List ℕ)) (running still_running : ℕ → Type 0)
+    → OthersWrote running x0.history x1.history → OthersWrote still_running x1.history x2.history
     → (sees : Sees (λ history. content_of (file_at history seen)) content x1.history x2.history) → k.own.seen ≡ seen
-    → content_or_empty (file_at (x1.history ++ sees.earlier) seen) ≡ text → IsEntryOf text k base → EntersAt k base x0.history x2.history
-entered_at k base x0 x1 x2 seen text content running before sees here held entry =
+    → content_or_empty (file_at (x1.history ++ sees.earlier) seen) ≡ text → IsEntryOf text k base → EntersAt (known_of k) base x0.history x2.history
+entered_at k base x0 x1 x2 seen text content running still_running before wrote sees here held entry =
     let joined : x1.history ++ sees.earlier ≡ x0.history ++ (before.more ++ sees.earlier) =
     ap (λ (h : List Moment). h ++ sees.earlier) before.grows ∙ append_assoc x0.history before.more sees.earlier in
     let text_is : content_or_empty (file_at (x0.history ++ (before.more ++ sees.earlier)) k.own.seen) ≡ text =
@@ -101,4 +128,12 @@ entered_at k base x0 x1 x2 seen text content running before sees here held entry
         };
         whole = subst (λ (t : List ℕ). BaseIsWhole t (noted_of k.notes) base) (sym text_is) entry.whole;
       };
+      left = left_then still_running k.own.seen x1.history x2.history sees.earlier sees.later wrote sees.grows;
     }
+
+-- what was read of notes, where it is what the beginning knows
+pub enters_first : (tells : Bool) (b : Begun) (entry : Entry) (world : World) → IsTrue tells → b.knows ≡ known_of entry.counts → world.history ≡ b.first
+    → EntersSince tells entry b.asked world → EntersAt b.knows (option_map (λ text. text.items) entry.base) b.asked b.first
+enters_first tells b entry world is knows first enters =
+    subst (λ (k : Knowing). EntersAt k (option_map (λ text. text.items) entry.base) b.asked b.first) (sym knows)
+    (subst (λ (h : List Moment). EntersAt (known_of entry.counts) (option_map (λ text. text.items) entry.base) b.asked h) first (enters is))

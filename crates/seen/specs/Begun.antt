@@ -5,7 +5,7 @@ use Rattle.seen_law.specs.Retold.{BeginsSo, retold}
 use Rattle.seen_true.specs.Counting.{telling}
 use Rattle.seen_true.specs.Going.{Entered, since}
 
--- what was known, what had happened on the site, and what was told of that
+-- what was known, what had happened on the site when the build was asked for and when it began, and what was told of that
 abbrev pub Begun : Type 0
 Begun = Entered
 
@@ -13,6 +13,7 @@ Begun = Entered
 abbrev pub plainly_begun : Begun
 plainly_begun = record {
   knows = record { noted = λ p. None; is_output = λ p. false; is_own = λ p. false; number = 0; makes = λ job. []; seen = [] };
+  asked = [];
   first = [];
   before = [];
 }

@@ -1,15 +1,14 @@
 -- What is known when a build begins, in the words of the laws of notes, and what may be noted.
-use Rattle.std.specs.Prelude.{◌≡◌, ℕ, Bool, is_some, List, ◌++◌, Option, Some}
+use Rattle.std.specs.Prelude.{◌≡◌, ℕ, Bool, is_some, List, Option, Some}
 use Rattle.log_text.specs.declared.tail.Tail.{Tail}
 use Rattle.log_text.specs.Text.{IsRead}
-use Rattle.model.specs.declared.event.Moment.{Moment}
 use Rattle.model.specs.World.{World}
 use Rattle.seen_log.specs.declared.note.Note.{Note}
 use Rattle.seen_log.specs.Log.{noted_in_force}
 use Rattle.seen_log.specs.Record.{forms}
 use Rattle.seen_true.specs.Counting.{Knowing, telling}
 use Rattle.seen_true.specs.Laws.{found_number}
-use Rattle.seen_true.specs.Going.{BaseIsWhole, EntersBy, Notes}
+use Rattle.seen_true.specs.Going.{BaseIsWhole, Notes}
 use Rattle.seen.specs.declared.answer.Looked.{Looked}
 use Rattle.seen.specs.declared.counts.Counts.{Counts}
 use Rattle.seen.specs.Beginning.{noted_of, past_of, telling_of}
@@ -39,13 +38,6 @@ pub record IsEntryOf (text : List ℕ) (k : Counts) (base : Option (List ℕ)) :
   pub read : IsRead forms text records tail
   pub is : (p : List ℕ) → noted_of k.notes p ≡ noted_in_force records p
   pub whole : BaseIsWhole text (noted_of k.notes) base
-
--- it was so at some moment of a call
-pub record EntersAt (k : Counts) (base : Option (List ℕ)) (old new : List Moment) : Type 0 where
-  pub earlier : List Moment
-  pub later : List Moment
-  pub grows : new ≡ old ++ (earlier ++ later)
-  pub enters : EntersBy (known_of k) base (old ++ earlier)
 
 -- ---- numbers
 

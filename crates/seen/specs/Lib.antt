@@ -8,7 +8,6 @@ pub mod Begun
 pub mod Starts
 pub mod Looking
 pub mod Reading
-pub mod Entering
 pub mod Asking
 pub mod Told
 pub mod Between
@@ -16,3 +15,4 @@ pub mod Noting
 pub mod First
 pub mod Going
 pub mod Known
+pub mod Entering

@@ -1,5 +1,8 @@
 //! The program's own files beside the build log.
 
+ghost use Rattle.std.specs.Prelude.{◌≡◌, IfOk, string_bytes};
+ghost use Rattle.model.specs.Records.{file_in};
+
 use std::alloc::{AllocError, Global};
 
 /// The last part of the path of a build log.
@@ -29,6 +32,17 @@ fn last_part(path: &str) -> &str {
     match path.rsplit_once('/') {
         Some((_, last)) => last,
         None => path,
+    }
+}
+
+/// The path of the file of this name in the folder; the empty folder is the working folder.
+pub fn within(alloc: Global, folder: &str, name: &str) -> Result<String, AllocError>
+    ensures { IfOk result (λ path. string_bytes path ≡ file_in folder.now name.now) }
+{
+    match folder {
+        "" => String::from_str(alloc, name),
+        "/" => format!(in alloc; "/{name}"),
+        _ => format!(in alloc; "{folder}/{name}"),
     }
 }
 

@@ -1,19 +1,19 @@
 //! The file of the notes, as a build finds it.
 
-ghost use Rattle.std.specs.Prelude.{◌≡◌, [], ℕ, List, false, true, None, IfOk, IsTrue, replicate};
+ghost use Rattle.std.specs.Prelude.{◌≡◌, [], ℕ, List, false, true, None, IfOk, length, replicate};
 ghost use Rattle.std.specs.Option.{option_map};
 ghost use Rattle.log_text.specs.Text.{IsRead};
 ghost use Rattle.log_text.specs.declared.tail.Tail.TheVariants.{Whole};
-ghost use Rattle.model.specs.Calls.{KeepsWait, OnlyLooks};
 ghost use Rattle.seen_log.specs.declared.note.Note.{Note};
 ghost use Rattle.seen_log.specs.Keeping.{Keeps};
 ghost use Rattle.seen_log.specs.Log.{noted_in_force};
 ghost use Rattle.seen_log.specs.Record.{forms};
 ghost use Rattle.seen_true.specs.Going.{BaseIsWhole};
 ghost use Rattle.seen.specs.Asking.{Asks};
-ghost use Rattle.seen.specs.Entering.{IsUnbegun};
-ghost use Rattle.seen.specs.Known.{EntersAt, IsEntryOf};
-ghost use Rattle.seen.specs.Makers.{AreJobs};
+ghost use Rattle.seen.specs.Entering.{EntersSince, IsUnbegun};
+ghost use Rattle.seen.specs.Known.{IsEntryOf};
+ghost use Rattle.seen.specs.Makers.{AreJobs, listing, pairs_of};
+ghost use Rattle.seen.specs.Own.{AreOwnIn};
 
 use crate::counts::Counts;
 use crate::judging::next_number;
@@ -34,54 +34,34 @@ pub struct Entry {
     /// The text that takes the place of what the file of the notes holds before a line is put behind it, where one is to: the file is absent,
     /// empty, torn, damaged or of version 1, or it wants compaction.
     pub base: Option<Vec<u8>>,
-    /// Whether it could not be read, so that the build cannot begin.
-    pub lost: bool,
 }
 
-/// What is known when a build begins whose build log is at this path, by the notes beside it and by the build file.
-pub fn enter<S: Measured>(alloc: Global, site: &mut S, manifest: &Manifest, log: &str) -> Entry
-    requires { (S.world site.old).stopped ≡ false }
-    ensures looks { OnlyLooks S.tells (S.world site.old) (S.world site.new) }
-    ensures waits { KeepsWait (S.world site.old) (S.world site.new) }
-    ensures unbegun { IsUnbegun result.counts }
-    ensures enters { IsTrue S.tells → result.lost ≡ false → EntersAt result.counts (option_map (λ text. text.items) result.base) (S.world site.old).history (S.world site.new).history }
-{
-    match read_entry(alloc, site, manifest, log) {
-        Ok(entry) => entry,
-        Err(_) => lost_entry(alloc),
-    }
-}
-
-/// Where it could not be read.
-fn lost_entry(alloc: Global) -> Entry
-    ensures unbegun { IsUnbegun result.counts }
-    ensures lost { result.lost ≡ true }
-{
-    Entry {
-        counts: Counts::none(alloc),
-        base: None,
-        lost: true,
-    }
-}
-
-/// The same, or why it could not be read.
-pub fn read_entry<S: Measured>(
+/// What is known when a build begins whose logs lie in this folder, by the notes beside them and by the build file; or why it cannot begin. The empty
+/// folder is the working folder.
+///
+/// Others may write the notes behind the moment at which they are read, before the build begins ([`Seen::over`]): so a build knows when this was
+/// called, too.
+///
+/// [`Seen::over`]: crate::Seen::over
+pub fn enter<S: Measured>(
     alloc: Global,
     site: &mut S,
     manifest: &Manifest,
-    log: &str,
+    folder: &str,
 ) -> Result<Entry, SiteFault>
     requires { (S.world site.old).stopped ≡ false }
     ensures asks { Asks S.tells (S.world site.old) (S.world site.new) result }
     ensures unbegun { IfOk result (λ entry. IsUnbegun entry.counts) }
-    ensures enters { IsTrue S.tells → IfOk result (λ entry. EntersAt entry.counts (option_map (λ text. text.items) entry.base) (S.world site.old).history (S.world site.new).history) }
+    ensures own { IfOk result (λ entry. AreOwnIn folder.now entry.counts.own) }
+    ensures lists { IfOk result (λ entry. pairs_of entry.counts.makers.listed.items ≡ listing manifest.now (length manifest.now.lines)) }
+    ensures enters { IfOk result (λ entry. EntersSince S.tells entry (S.world site.old).history (S.world site.new)) }
 {
     let makers = Makers::of(alloc, manifest)?;
-    read_by(alloc, site, makers, log)
+    let own = Own::within(alloc, folder)?;
+    read_with(alloc, site, makers, own)
 }
 
-/// The same, where commands make this.
-#[tactic(auto, using(crate::proofs::Answered::asks_more, crate::proofs::Answered::asks_fail, crate::proofs::Answered::asks_no_room, crate::proofs::Answered::asks_no_memory))]
+/// The same, where commands make this, and the build log is at this path.
 pub fn read_by<S: Measured>(
     alloc: Global,
     site: &mut S,
@@ -90,10 +70,26 @@ pub fn read_by<S: Measured>(
 ) -> Result<Entry, SiteFault>
     requires { (S.world site.old).stopped ≡ false }
     ensures asks { Asks S.tells (S.world site.old) (S.world site.new) result }
-    ensures unbegun { AreJobs makers → makers.table.entries ≡ [] → IfOk result (λ entry. IsUnbegun entry.counts) }
-    ensures enters { IsTrue S.tells → IfOk result (λ entry. EntersAt entry.counts (option_map (λ text. text.items) entry.base) (S.world site.old).history (S.world site.new).history) }
 {
     let own = Own::beside(alloc, log)?;
+    read_with(alloc, site, makers, own)
+}
+
+/// The same, where these are the program's own files.
+#[tactic(auto, using(crate::proofs::Answered::asks_more, crate::proofs::Answered::asks_fail, crate::proofs::Answered::asks_no_room, crate::proofs::Answered::asks_no_memory))]
+fn read_with<S: Measured>(
+    alloc: Global,
+    site: &mut S,
+    makers: Makers,
+    own: Own,
+) -> Result<Entry, SiteFault>
+    requires { (S.world site.old).stopped ≡ false }
+    ensures asks { Asks S.tells (S.world site.old) (S.world site.new) result }
+    ensures unbegun { AreJobs makers → makers.table.entries ≡ [] → IfOk result (λ entry. IsUnbegun entry.counts) }
+    ensures own { IfOk result (λ entry. entry.counts.own ≡ own) }
+    ensures makers { IfOk result (λ entry. entry.counts.makers ≡ makers) }
+    ensures enters { IfOk result (λ entry. EntersSince S.tells entry (S.world site.old).history (S.world site.new)) }
+{
     let start = last_start(site, &own)?;
     let content = site.read(own.seen.as_str())?;
     match content {
@@ -122,6 +118,7 @@ fn entry_of(
     text: &[u8],
 ) -> Result<Entry, AllocError>
     ensures unbegun { AreJobs makers → makers.table.entries ≡ [] → IfOk result (λ entry. IsUnbegun entry.counts) }
+    ensures makers { IfOk result (λ entry. entry.counts.makers ≡ makers) }
     ensures own { IfOk result (λ entry. entry.counts.own ≡ own) }
     ensures text { IfOk result (λ entry. IsEntryOf text.now entry.counts (option_map (λ text. text.items) entry.base)) }
 {
@@ -140,7 +137,6 @@ fn entry_of(
             first_start: None,
         },
         base,
-        lost: false,
     })
 }
 

@@ -1,9 +1,10 @@
 //! The program's own files beside the build log.
 
-ghost use Rattle.std.specs.Prelude.{◌≡◌, bytes_eq};
-ghost use Rattle.seen.specs.Own.{is_own};
+ghost use Rattle.std.specs.Prelude.{◌≡◌, IfOk, bytes_eq};
+ghost use Rattle.model.specs.Records.{file_in};
+ghost use Rattle.seen.specs.Own.{AreOwnIn, is_own};
 
-use crate::names::{DEPS_LOG, LOG, SEEN, TICK, beside};
+use crate::names::{DEPS_LOG, LOG, SEEN, TICK, beside, within};
 use std::alloc::{AllocError, Global};
 use text::Path;
 
@@ -17,6 +18,22 @@ pub struct Own {
 }
 
 impl Own {
+    /// Those that lie in this folder; the empty folder is the working folder.
+    pub fn within(alloc: Global, folder: &str) -> Result<Own, AllocError>
+        ensures { IfOk result (AreOwnIn folder.now) }
+    {
+        let log = path_in(alloc, folder, LOG)?;
+        let deps_log = path_in(alloc, folder, DEPS_LOG)?;
+        let tick = path_in(alloc, folder, TICK)?;
+        let seen = path_in(alloc, folder, SEEN)?;
+        Ok(Own {
+            log,
+            deps_log,
+            tick,
+            seen,
+        })
+    }
+
     /// Those that lie beside the file at the path.
     pub fn beside(alloc: Global, file: &str) -> Result<Own, AllocError> {
         Ok(Own {
@@ -55,6 +72,15 @@ impl Own {
     }
 }
 
+/// The path of the file of this name in the folder.
+fn path_in(alloc: Global, folder: &str, name: &str) -> Result<Path, AllocError>
+    ensures { IfOk result (λ path. path ≡ file_in folder.now name.now) }
+{
+    let path = within(alloc, folder, name)?;
+    Ok(Path::from_string(path))
+}
+
+/// The path of the file of this name beside that one.
 fn own_path(alloc: Global, file: &str, name: &str) -> Result<Path, AllocError> {
     Ok(Path::from_string(beside(alloc, file, name)?))
 }

@@ -77,7 +77,7 @@ pub struct Retold<S: Measured, B: Beginning> {
 impl<S: Measured, B: Beginning> Retold<S, B> {
     ghost use Rattle.std.specs.Prelude.{◌≡◌, [], false, true, IfOk, IsTrue, None, OnErr, OnOk, Some};
     ghost use Rattle.std.specs.Option.{option_map};
-    ghost use Rattle.seen_true.specs.Going.{EntersBy, Notes, NotesStand};
+    ghost use Rattle.seen_true.specs.Going.{Notes, NotesStand};
     ghost use Rattle.model.specs.Calls.{Appends, HasCause, KeepsWait, OnlyLooks, Sees, Writes};
     ghost use Rattle.model.specs.World.{content_of, file_at, stamp_of};
     ghost use Rattle.seen_law.specs.Laws.{IsPlain, IsTold};
@@ -85,24 +85,25 @@ impl<S: Measured, B: Beginning> Retold<S, B> {
     ghost use Rattle.seen.specs.Known.{MayLeave, MaySee, known_of};
     ghost use Rattle.seen.specs.Noting.{Grows, MayReplace, PutsLines};
     ghost use Rattle.seen.specs.Begun.{BeginsTold};
-    ghost use Rattle.seen.specs.Entering.{IsUnbegun};
+    ghost use Rattle.seen.specs.Entering.{EntersSince, IsUnbegun};
     ghost use Rattle.seen.specs.Looking.{KnowsSame, looked_by};
     ghost use Rattle.seen.specs.Own.{is_own};
 
     /// The site over this one, for one build, by what is known when it begins, and with the text that takes the place of the notes before a line is put
     /// behind them, where one is to.
-    pub fn over(alloc: Global, site: S, known: Counts, base: Option<Vec<u8>>) -> Retold<S, B>
-        requires unbegun { IsUnbegun known }
-        requires knows { IsTrue S.tells → B.begun.knows ≡ known_of known }
+    pub fn over(alloc: Global, site: S, entry: Entry) -> Retold<S, B>
+        requires unbegun { IsUnbegun entry.counts }
+        requires knows { IsTrue S.tells → B.begun.knows ≡ known_of entry.counts }
         requires first { IsTrue S.tells → (S.world site).history ≡ B.begun.first }
         requires begins { IsTrue S.tells → BeginsTold B.begun }
-        requires enters { IsTrue S.tells → EntersBy B.begun.knows (option_map (λ text. text.items) base) B.begun.first }
+        requires enters { EntersSince S.tells entry B.begun.asked (S.world site) }
         ensures site { result.site ≡ site }
     {
         enters_noted();
+        let Entry { counts, base } = entry;
         Retold {
             site,
-            known,
+            known: counts,
             noted: Known::new(alloc),
             base,
             torn: false,

@@ -1,14 +1,13 @@
 //! A site over a site.
 
 ghost use Rattle.std.specs.Prelude.{◌≡◌, [], false, IsTrue, OnErr, OnOk};
-ghost use Rattle.std.specs.Option.{option_map};
 ghost use Rattle.model.specs.Calls.{Appends, AppendsOrNot, HasCause, KeepsWait};
 ghost use Rattle.model.specs.World.{World};
 ghost use Rattle.seen.specs.Asking.{Asks};
-ghost use Rattle.seen_true.specs.Going.{EntersBy, NotesStand};
+ghost use Rattle.seen_true.specs.Going.{NotesStand};
 ghost use Rattle.seen.specs.Begun.{BeginsTold, told_world};
 ghost use Rattle.seen.specs.Known.{known_of};
-ghost use Rattle.seen.specs.Entering.{IsUnbegun};
+ghost use Rattle.seen.specs.Entering.{EntersSince, IsUnbegun};
 
 use crate::beginning::Beginning;
 use crate::lines::{Told, told_by};
@@ -56,15 +55,14 @@ impl<S: Measured, B: Beginning> Seen<S, B> {
         requires knows { IsTrue S.tells → B.begun.knows ≡ known_of entry.counts }
         requires first { IsTrue S.tells → (S.world site).history ≡ B.begun.first }
         requires begins { IsTrue S.tells → BeginsTold B.begun }
-        requires enters { IsTrue S.tells → EntersBy B.begun.knows (option_map (λ text. text.items) entry.base) B.begun.first }
+        requires enters { EntersSince S.tells entry B.begun.asked (S.world site) }
         ensures { result.retold.site ≡ site }
     {
-        let Entry { counts, base, lost } = entry;
         Seen {
             alloc,
-            retold: Retold::over(alloc, site, counts, base),
+            retold: Retold::over(alloc, site, entry),
             next: None,
-            lost,
+            lost: false,
         }
     }
 
@@ -100,7 +98,7 @@ impl<S: Measured, B: Beginning> Seen<S, B> {
         ensures { Asks S.tells (told_world S.tells B.begun (S.world self.old.retold.site)) (told_world S.tells B.begun (S.world self.new.retold.site)) result }
     {
         let makers = self.next.take().unwrap_or(Makers::new(self.alloc));
-        let Entry { counts, base, .. } = self.retold.enter(self.alloc, makers, log)?;
+        let Entry { counts, base } = self.retold.enter(self.alloc, makers, log)?;
         self.retold.begin(self.alloc, counts, base);
         Ok(())
     }

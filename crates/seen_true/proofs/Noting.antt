@@ -1,5 +1,5 @@
 -- From one build to the next, and what a site keeps.
-use Rattle.std.proofs.Common.{◌≡◌, inl, inr, ℕ, true, false, List, [], ◌++◌, Option, Some, None, drop, length, refl, sym, ◌∙◌, ap, subst, append_assoc, append-nil}
+use Rattle.std.proofs.Common.{◌≡◌, inl, inr, ℕ, true, false, List, [], ◌∷◌, ◌++◌, Option, Some, None, drop, length, refl, sym, ◌∙◌, ap, subst, append_assoc, append-nil}
 use Rattle.std.specs.List.{AllByRecursion}
 use Rattle.std.proofs.Math.Logic.{∥∥₁_map}
 use Rattle.std.proofs.Math.Seq.{drop-append_seam, drop-length}
@@ -7,7 +7,9 @@ use Rattle.log_text.specs.declared.form.Version.TheVariants.{Two}
 use Rattle.log_text.specs.Form.{IsAppended}
 use Rattle.log_text.specs.Laws.{FrontOfLines, OneReading}
 use Rattle.model.specs.declared.event.Moment.{Moment}
-use Rattle.model.specs.World.{World, file_at}
+use Rattle.model.specs.declared.event.Moment.TheVariants.{Wrote, Happened}
+use Rattle.model.specs.declared.event.Writer.TheVariants.{Program, Command, Someone}
+use Rattle.model.specs.World.{World, IsNotAt, file_at}
 use Rattle.log_text.specs.Text.{IsRead}
 use Rattle.model.specs.Calls.{content_or_empty, AppendsOrNot, Appends, OnlyLooks, Writes, WritesOrNot}
 use Rattle.theory.proofs.Lists.{all_parts, same_rest}
@@ -18,12 +20,12 @@ use Rattle.seen_log.specs.declared.note.Note.{Note}
 use Rattle.seen_log.specs.declared.note.Noted.{Noted}
 use Rattle.seen_log.specs.Record.{forms, noting}
 use Rattle.seen_law.specs.Retold.{BeginsSo, stamp_told, under}
-use Rattle.seen_true.specs.Counting.{telling}
+use Rattle.seen_true.specs.Counting.{Knowing, telling}
 use Rattle.seen_true.specs.Soundly.{written_in}
 use Rattle.seen_true.specs.Notes.{Course, IsTrueNote, IsWhole, NotesAreKept, NotesAreTrue, Sighting, grown, note_of, notes_text, real, told}
 use Rattle.seen_true.specs.Laws.{found_number, number_of}
-use Rattle.seen_true.specs.Calls.{EndsTrue, IsCallIn, IsLeftByOthers, KeepsOn}
-use Rattle.seen_true.specs.Going.{AbsenceNotes, BaseIsWhole, CallsNote, CallsStand, Entered, EntersBy, EntersNoted, EntersStay, Found, FoundInCall, LinesNote, NextIsNoted, NoneInCall, NoteCallsNote, Notes, NotesStand, course, since}
+use Rattle.seen_true.specs.Calls.{EndsTrue, IsCallIn, IsLeftByOthers, IsLeftByProgram, KeepsOn}
+use Rattle.seen_true.specs.Going.{AbsenceNotes, BaseIsWhole, CallsNote, CallsStand, Entered, EntersAt, EntersBy, EntersNoted, EntersStay, Found, FoundInCall, LinesNote, NextIsNoted, NoneInCall, NoteCallsNote, Notes, NotesStand, course, entering, since, since_asked}
 use Rattle.seen_true.proofs.Keeping.{entry_law, line_law}
 use Rattle.seen_true.proofs.Truth.{away_law, look_law, told_law}
 use Rattle.seen_true.proofs.Ending.{ending_law}
@@ -80,10 +82,13 @@ module _ (e : Entered) (old new : World) (goes_on : old.history ≡ e.first ++ s
     goes_so : new.history ≡ real (grown (course e old) ms)
     goes_so = grows ∙ (ap (λ (h : List Moment). h ++ ms) goes_on ∙ append_assoc e.first (since e old) ms)
 
+    asked_is : since_asked e new ≡ since_asked e old ++ ms
+    asked_is = ap (λ (l : List Moment). entering e ++ l) (since_is ms goes_so) ∙ sym (append_assoc (entering e) (since e old) ms)
+
     -- where nobody else writes the notes until the end of the call, nobody does in it
-    module _ (left : AllByRecursion (IsLeftByOthers e.knows.seen) (since e new)) where
-      left_parts : AllByRecursion (IsLeftByOthers e.knows.seen) (since e old) × AllByRecursion (IsLeftByOthers e.knows.seen) ms
-      left_parts = all_parts (IsLeftByOthers e.knows.seen) (since e old) ms (subst (λ (l : List Moment). AllByRecursion (IsLeftByOthers e.knows.seen) l) (since_is ms goes_so) left)
+    module _ (left : AllByRecursion (IsLeftByOthers e.knows.seen) (since_asked e new)) where
+      left_parts : AllByRecursion (IsLeftByOthers e.knows.seen) (since_asked e old) × AllByRecursion (IsLeftByOthers e.knows.seen) ms
+      left_parts = all_parts (IsLeftByOthers e.knows.seen) (since_asked e old) ms (subst (λ (l : List Moment). AllByRecursion (IsLeftByOthers e.knows.seen) l) asked_is left)
 
       is_call : IsCallIn (course e old) old new
       is_call = record {
@@ -302,7 +307,47 @@ lines_note_law true e base lines more world p kind stamp size notes found = (
 
 -- ---- when a site is made that notes
 
-module _ (e : Entered) (base : Option (List ℕ)) (world : World) (is : world.history ≡ e.first) (begins : BeginsSo (telling e.knows) e.first e.before) (enters : EntersBy e.knows base e.first) where
+-- what neither the program nor anybody else writes
+not_at : (p : List ℕ) (ms : List Moment) → AllByRecursion (IsLeftByProgram p) ms → AllByRecursion (IsLeftByOthers p) ms → AllByRecursion (IsNotAt p) ms
+not_at p [] program others = tt
+not_at p (Wrote Program path content stamp ∷ ms) program others = (program.0, not_at p ms program.1 others.1)
+not_at p (Wrote (Command job) path content stamp ∷ ms) program others = (others.0, not_at p ms program.1 others.1)
+not_at p (Wrote Someone path content stamp ∷ ms) program others = (others.0, not_at p ms program.1 others.1)
+not_at p (Happened event ∷ ms) program others = (tt, not_at p ms program.1 others.1)
+
+-- what was read of them is what they tell where nothing was written there since
+still : (k : Knowing) (base : Option (List ℕ)) (history later : List Moment) → AllByRecursion (IsNotAt k.seen) later → EntersBy k base history → EntersBy k base (history ++ later)
+still k base history later apart enters = record {
+  reads = record {
+    records = enters.reads.records;
+    tail = enters.reads.tail;
+    read = subst (λ (text : List ℕ). IsRead forms text enters.reads.records enters.reads.tail) (sym text_same) enters.reads.read;
+    is = enters.reads.is;
+  };
+  whole = subst (λ (text : List ℕ). BaseIsWhole text k.noted base) (sym text_same) enters.whole;
+}
+  where
+    text_same : content_or_empty (file_at (history ++ later) k.seen) ≡ content_or_empty (file_at history k.seen)
+    text_same = ap content_or_empty (file_stays k.seen history later apart)
+
+module _ (e : Entered) (base : Option (List ℕ)) (enters : EntersAt e.knows base e.asked e.first) (left : AllByRecursion (IsLeftByOthers e.knows.seen) (entering e)) where
+  entering_is : entering e ≡ enters.earlier ++ enters.later
+  entering_is = ap (λ (h : List Moment). drop (length e.asked) h) enters.grows ∙ drop-append_seam e.asked (enters.earlier ++ enters.later)
+
+  left_later : AllByRecursion (IsLeftByOthers e.knows.seen) enters.later
+  left_later =
+      (all_parts (IsLeftByOthers e.knows.seen) enters.earlier enters.later
+      (subst (λ (l : List Moment). AllByRecursion (IsLeftByOthers e.knows.seen) l) entering_is left)).1
+
+  stays_so : EntersBy e.knows base e.first
+  stays_so =
+      subst (λ (h : List Moment). EntersBy e.knows base h) (append_assoc e.asked enters.earlier enters.later ∙ sym enters.grows)
+      (still e.knows base (e.asked ++ enters.earlier) enters.later (not_at e.knows.seen enters.later enters.left left_later) enters.enters)
+
+pub stay_law : EntersStay
+stay_law e base enters left = stays_so e base enters left
+
+module _ (e : Entered) (base : Option (List ℕ)) (begins : BeginsSo (telling e.knows) e.first e.before) (enters : EntersBy e.knows base e.first) where
   abbrev none_yet : Course
   none_yet = record { knows = e.knows; first = e.first; before = e.before; more = [] }
 
@@ -321,29 +366,22 @@ module _ (e : Entered) (base : Option (List ℕ)) (world : World) (is : world.hi
   kept_then : NotesAreKept none_yet base []
   kept_then = kept_by base enters.whole
 
+module _ (e : Entered) (base : Option (List ℕ)) (world : World) (is : world.history ≡ e.first) (begins : BeginsSo (telling e.knows) e.first e.before)
+    (enters : EntersAt e.knows base e.asked e.first) where
   nothing_since : since e world ≡ []
   nothing_since = ap (λ (h : List Moment). drop (length e.first) h) is ∙ drop-length e.first
+
+  kept_so : AllByRecursion (IsLeftByOthers e.knows.seen) (since_asked e world) → NotesAreKept (course e world) base []
+  kept_so left =
+      let so = stays_so e base enters (all_parts (IsLeftByOthers e.knows.seen) (entering e) (since e world) left).0 in
+      subst (λ (ms : List Moment). NotesAreKept (record { knows = e.knows; first = e.first; before = e.before; more = ms }) base []) (sym nothing_since) (kept_then e base begins so)
 
   enters_so : Notes true e base [] world
   enters_so = record {
     goes_on = λ tells. is ∙ (sym (append-nil e.first) ∙ ap (λ (ms : List Moment). e.first ++ ms) (sym nothing_since));
-    kept = λ tells left. ∣ subst (λ (ms : List Moment). NotesAreKept (record { knows = e.knows; first = e.first; before = e.before; more = ms }) base []) (sym nothing_since) kept_then ∣₁;
+    kept = λ tells left. ∣ kept_so left ∣₁;
   }
 
 pub enters_law : EntersNoted
 enters_law false e base world is begins enters = none_told e base [] world
 enters_law true e base world is begins enters = enters_so e base world (is refl) (begins refl) (enters refl)
-
-pub stay_law : EntersStay
-stay_law k base history later apart enters = record {
-  reads = record {
-    records = enters.reads.records;
-    tail = enters.reads.tail;
-    read = subst (λ (text : List ℕ). IsRead forms text enters.reads.records enters.reads.tail) (sym text_same) enters.reads.read;
-    is = enters.reads.is;
-  };
-  whole = subst (λ (text : List ℕ). BaseIsWhole text k.noted base) (sym text_same) enters.whole;
-}
-  where
-    text_same : content_or_empty (file_at (history ++ later) k.seen) ≡ content_or_empty (file_at history k.seen)
-    text_same = ap content_or_empty (file_stays k.seen history later apart)

@@ -16,6 +16,13 @@ IsLeftByOthers p (Wrote (Command job) path content stamp) = bytes_eq path p ≡ 
 IsLeftByOthers p (Wrote Someone path content stamp) = bytes_eq path p ≡ false
 IsLeftByOthers p (Happened event) = Unit {0}
 
+-- the program does not write the path
+abbrev pub IsLeftByProgram : List ℕ → Moment → Type 0
+IsLeftByProgram p (Wrote Program path content stamp) = bytes_eq path p ≡ false
+IsLeftByProgram p (Wrote (Command job) path content stamp) = Unit {0}
+IsLeftByProgram p (Wrote Someone path content stamp) = Unit {0}
+IsLeftByProgram p (Happened event) = Unit {0}
+
 abbrev pub NotesAreLeft : List ℕ → List Moment → List Moment → Type 0
 NotesAreLeft seen old new = AllSince (IsLeftByOthers seen) old new
 

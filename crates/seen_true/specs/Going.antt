@@ -4,7 +4,7 @@ use Rattle.std.specs.List.{AllByRecursion}
 use Rattle.model.specs.declared.act.Act.{Act}
 use Rattle.model.specs.declared.event.Moment.{Moment}
 use Rattle.model.specs.declared.graph.Edge.{Edge}
-use Rattle.model.specs.World.{World, File, IsIdle, IsNotAt, file_at}
+use Rattle.model.specs.World.{World, File, IsIdle, file_at}
 use Rattle.model.specs.Calls.{content_or_empty, OthersWrote, OnlyLooks, Writes, Appends, AppendsOrNot, Ticks, Starts, Finishes, IsRestart, WritesOrNot}
 use Rattle.model.specs.Outcome.{Behaviour}
 use Rattle.model.specs.Records.{LogFormat, OwnFiles}
@@ -21,7 +21,7 @@ use Rattle.seen_true.specs.Counting.{Knowing, no_size, telling}
 use Rattle.seen_true.specs.Soundly.{IsLaterThanRecords, written_in}
 use Rattle.seen_true.specs.Notes.{Course, IsWhole, NotesAreKept, NotesAreTrue, Stood, told}
 use Rattle.seen_true.specs.Others.{OthersWroteSo, OwnFit, ReadsNotes}
-use Rattle.seen_true.specs.Calls.{IsLeftByOthers}
+use Rattle.seen_true.specs.Calls.{IsLeftByOthers, IsLeftByProgram}
 use Rattle.seen_true.specs.Laws.{found_number, number_of}
 
 -- ---- from one build to the next
@@ -44,28 +44,37 @@ NextIsNoted =
 
 -- ---- what a site keeps
 
--- how a build began, and what it knew
+-- how a build began: what it knew, what had happened when it was asked for, before it read the notes, and what when it began, and what was told of that
 pub record Entered : Type 0 where
   pub knows : Knowing
+  pub asked : List Moment
   pub first : List Moment
   pub before : List Moment
+
+-- what happened while it read the notes, and until it began
+abbrev pub entering : Entered → List Moment
+entering e = drop (length e.asked) e.first
 
 -- what happened since
 abbrev pub since : Entered → World → List Moment
 since e world = drop (length e.first) world.history
 
+-- what happened since it was asked for
+abbrev pub since_asked : Entered → World → List Moment
+since_asked e world = entering e ++ since e world
+
 abbrev pub course : Entered → World → Course
 course e world = record { knows = e.knows; first = e.first; before = e.before; more = since e world }
 
--- The history goes on; and where nobody else wrote the notes since, they are kept.
+-- The history goes on; and where nobody else wrote the notes since the build was asked for, they are kept.
 pub record Notes (tells : Bool) (e : Entered) (base : Option (List ℕ)) (lines : List ℕ) (world : World) : Type 0 where
   pub goes_on : IsTrue tells → world.history ≡ e.first ++ since e world
-  pub kept : IsTrue tells → AllByRecursion (IsLeftByOthers e.knows.seen) (since e world) → ∥ NotesAreKept (course e world) base lines ∥₁
+  pub kept : IsTrue tells → AllByRecursion (IsLeftByOthers e.knows.seen) (since_asked e world) → ∥ NotesAreKept (course e world) base lines ∥₁
 
 -- the same where nothing can be put behind them any more
 pub record NotesStand (tells : Bool) (e : Entered) (world : World) : Type 0 where
   pub goes_on : IsTrue tells → world.history ≡ e.first ++ since e world
-  pub kept : IsTrue tells → AllByRecursion (IsLeftByOthers e.knows.seen) (since e world) → ∥ NotesAreTrue (course e world) ∥₁
+  pub kept : IsTrue tells → AllByRecursion (IsLeftByOthers e.knows.seen) (since_asked e world) → ∥ NotesAreTrue (course e world) ∥₁
 
 -- every call that does not write the notes keeps them, on every site
 abbrev pub CallsNote : Type 0
@@ -170,13 +179,21 @@ pub record EntersBy (k : Knowing) (base : Option (List ℕ)) (history : List Mom
   pub reads : ReadsNotes k history
   pub whole : BaseIsWhole (content_or_empty (file_at history k.seen)) k.noted base
 
+-- It was so at some moment between these two, and behind that moment the program did not write the notes.
+pub record EntersAt (k : Knowing) (base : Option (List ℕ)) (asked first : List Moment) : Type 0 where
+  pub earlier : List Moment
+  pub later : List Moment
+  pub grows : first ≡ asked ++ (earlier ++ later)
+  pub enters : EntersBy k base (asked ++ earlier)
+  pub left : AllByRecursion (IsLeftByProgram k.seen) later
+
 -- where what is told counts so, the notes are true, and nothing is to be put behind them yet
 abbrev pub EntersNoted : Type 0
 EntersNoted =
     (tells : Bool) (e : Entered) (base : Option (List ℕ)) (world : World) → (IsTrue tells → world.history ≡ e.first)
-    → (IsTrue tells → BeginsSo (telling e.knows) e.first e.before) → (IsTrue tells → EntersBy e.knows base e.first) → Notes tells e base [] world
+    → (IsTrue tells → BeginsSo (telling e.knows) e.first e.before) → (IsTrue tells → EntersAt e.knows base e.asked e.first) → Notes tells e base [] world
 
--- it is so still where nothing was written there since
+-- it is so when the build begins where nobody else wrote the notes meanwhile
 abbrev pub EntersStay : Type 0
 EntersStay =
-    (k : Knowing) (base : Option (List ℕ)) (history later : List Moment) → AllByRecursion (IsNotAt k.seen) later → EntersBy k base history → EntersBy k base (history ++ later)
+    (e : Entered) (base : Option (List ℕ)) → EntersAt e.knows base e.asked e.first → AllByRecursion (IsLeftByOthers e.knows.seen) (entering e) → EntersBy e.knows base e.first

@@ -145,7 +145,7 @@ pub fn enters_noted()
     ensures { EntersNoted }
 {}
 
-/// What was read of them is what they tell while nobody writes them.
+/// What was read of them when it was asked for is what they tell as it begins, where nobody else wrote them meanwhile.
 pub fn enters_stay()
     ensures { EntersStay }
 {}

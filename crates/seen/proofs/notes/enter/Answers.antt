@@ -1,9 +1,18 @@
-use Rattle.std.proofs.Common.{◌∙◌, sym}
-use Rattle.std.proofs.lemmas.Bool.{false≢true}
+use Rattle.std.proofs.Common.{◌≡◌, ◌∙◌, ap, subst, sym}
+use Rattle.seen.specs.declared.makers.Makers.{Makers}
+use Rattle.seen.specs.declared.own.Own.{Own}
+use Rattle.seen.specs.Makers.{pairs_of}
+use Rattle.seen.specs.Own.{AreOwnIn}
+use Rattle.seen.proofs.Folders.{if_ok_then}
 use Rattle.seen.proofs.notes.enter.Goals as goal
 
-pub returns-in-Ok-clause-enters : goal.returns-in-Ok-clause-enters
-returns-in-Ok-clause-enters g c = λ is found. c.in-Ok.ensures.enters is
+pub returns-clause-own : goal.returns-clause-own
+returns-clause-own g c =
+    if_ok_then c.read_with.result c.read_with.ensures.own
+    (λ entry is. subst (λ (own : Own). AreOwnIn c.args.folder.now own) (sym is) c.in_ok-own.ensures)
 
-pub returns-in-Err-clause-enters : goal.returns-in-Err-clause-enters
-returns-in-Err-clause-enters g c = λ is found. absurd (false≢true (sym found ∙ c.lost_entry.ensures.lost))
+-- what was listed is handed on
+pub returns-clause-lists : goal.returns-clause-lists
+returns-clause-lists g c =
+    if_ok_then c.read_with.result c.read_with.ensures.makers
+    (λ entry is. ap (λ (m : Makers). pairs_of m.listed.items) is ∙ c.in_ok-makers.ensures.lists)

@@ -1,0 +1,10 @@
+pub mod Made
+pub mod Over
+pub mod Beginning
+pub mod Entering
+pub mod Counting
+pub mod Sourced
+pub mod Fitting
+pub mod Following
+pub mod Empty
+pub mod Keeping

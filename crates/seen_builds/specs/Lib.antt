@@ -1,0 +1,6 @@
+pub mod Makes
+pub mod From
+pub mod Runs
+pub mod Claims
+pub mod Fresh
+pub mod Kept
