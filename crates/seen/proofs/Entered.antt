@@ -1,7 +1,6 @@
 -- What is known of notes when a build begins.
 use Rattle.std.proofs.Common.{◌≡◌, inl, inr, ℕ, true, List, [], ◌++◌, Option, Some, None, refl, sym, ◌∙◌, ap, subst, append_assoc}
 use Rattle.std.specs.Option.{option_map}
-use Rattle.indexmap.specs.IndexMap.{get_by_text}
 use Rattle.log_text.specs.declared.form.Version.TheVariants.{Two}
 use Rattle.log_text.specs.declared.tail.Tail.{Tail}
 use Rattle.log_text.specs.declared.tail.Tail.TheVariants.{Whole}
@@ -13,7 +12,7 @@ use Rattle.seen_log.specs.declared.log.Log.{Log}
 use Rattle.seen_log.specs.declared.note.Last.{Last}
 use Rattle.seen_log.specs.declared.note.Note.{Note}
 use Rattle.seen_log.specs.declared.note.Noted.{Noted}
-use Rattle.seen_log.specs.Keeping.{IsLast, Keeps}
+use Rattle.seen_log.specs.Keeping.{IsLast, Keeps, last_of}
 use Rattle.seen_log.specs.Log.{noted_in_force}
 use Rattle.seen_log.specs.Record.{forms}
 use Rattle.seen_true.specs.Notes.{IsWhole}
@@ -29,7 +28,7 @@ last_noted records p None is = sym is
 last_noted records p (Some last) is = sym is.0
 
 pub noted_so : (records : List Note) (log : Log) → Keeps records log → (p : List ℕ) → noted_of log p ≡ noted_in_force records p
-noted_so records log keeps p = last_noted records p (get_by_text log.last p) (keeps.last p)
+noted_so records log keeps p = last_noted records p (last_of log p) (keeps.last p)
 
 -- ---- the text behind which lines are put
 
