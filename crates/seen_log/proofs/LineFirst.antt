@@ -5,7 +5,7 @@ use Rattle.std.proofs.lemmas.List.{length-append}
 use Rattle.std.proofs.lemmas.List.Concat.{flat_map-append}
 use Rattle.log_text.specs.declared.form.Version.TheVariants.{Two}
 use Rattle.log_text.specs.Form.{lines_text, record_line}
-use Rattle.log_text.specs.Line.{field_and_tab, fields_text, IsPlain}
+use Rattle.log_text.specs.Line.{field_and_tab, fields_text, line_text, IsPlain}
 use Rattle.seen_log.specs.declared.note.Note.{Note}
 use Rattle.seen_log.specs.declared.note.Noted.{Noted}
 use Rattle.seen_log.specs.Record.{fields_of, forms, letter, noting, AreNumbersFirst}
@@ -59,6 +59,13 @@ first_line_is text named field told ended left path noted e f plain numbers end 
     e
     ∙ (ap (λ (l : List ℕ). letter noted.kind ∷ 9 ∷ l) behind
     ∙ (ap (λ (l : List ℕ). l ++ tail) (sym (letter_field noted.kind)) ∙ record_before (noting path noted) left))
+
+-- a line that was cut from the text, by its fields
+pub cut_line_is : (text line left after : List ℕ) (fields : List (List ℕ)) (r : Note) → text ≡ line ++ 10 ∷ left → line ≡ line_text fields → fields ≡ fields_of r → after ≡ left → text ≡ record_line (forms Two) r ++ after
+cut_line_is text line left after fields r e spelled is same =
+    e
+    ∙ (sym (append_assoc line (10 ∷ []) left)
+    ∙ (λ i. ((spelled ∙ ap line_text is) i ++ 10 ∷ []) ++ sym same i))
 
 -- ---- lines
 

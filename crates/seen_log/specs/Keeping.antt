@@ -5,7 +5,8 @@ use Rattle.indexmap.specs.IndexMap.{get_by}
 use Rattle.seen_log.specs.declared.note.Last.{Last}
 use Rattle.seen_log.specs.declared.note.Note.{Note}
 use Rattle.seen_log.specs.declared.log.Log.{Log}
-use Rattle.seen_log.specs.Record.{noting}
+use Rattle.log_text.specs.Keeping.{KeepsAlso}
+use Rattle.seen_log.specs.Record.{noting, IsLineFirst}
 use Rattle.seen_log.specs.Log.{IsLog, compaction, greatest_of, noted_in_force, noteds}
 
 -- what is kept for a path tells what is in force, and where that stands
@@ -34,3 +35,7 @@ LogGrows log place old new = IsLog old (map entry_note (take place log.last.entr
 -- the text is the whole log of some records, and what is kept stands for these
 abbrev pub KeepsAll : List ℕ → Log → Type 0
 KeepsAll text log = (records : List Note) × IsLog text records × Keeps records log
+
+-- the text begins with the line of a record, which was put at the end, and this stands behind it
+abbrev pub TakesLine : List ℕ → List ℕ → Log → Log → Type 0
+TakesLine text rest old new = (r : Note) × IsLineFirst text r rest × KeepsAlso Keeps r old new

@@ -2,20 +2,21 @@
 
 ghost use Rattle.std.specs.Prelude.{◌≡◌, ◌<◌, ◌++◌, [], IfOk, IfSome, OnOk, OnErr, length};
 ghost use Rattle.log_text.specs.declared.form.Version.TheVariants.{Two};
-ghost use Rattle.log_text.specs.Answered.{IfYes};
+ghost use Rattle.log_text.specs.Answered.{IfFound, IfYes};
 ghost use Rattle.log_text.specs.Keeping.{IsParsed, KeepsAlso, KeepsLines, KeepsSame, OfKept};
 ghost use Rattle.log_text.specs.Text.{header};
 ghost use Rattle.seen_log.specs.Record.{forms, noting};
 ghost use Rattle.seen_log.specs.Log.{counts_of, greatest_of, noted_in_force, to_pass};
 
 use crate::note::{Kind, Last, Note, Noted};
-use crate::record::{line_in, note_line, plain_by, said_by};
+use crate::record::{last_of, line_in, note_line, plain_by, said_by};
 use crate::room::arena;
 use bumpalo::Bump;
 use indexmap::IndexMap;
-use log_text::{Field, Records, Tail, Version, parts_are_decided};
+use log_text::{Field, Records, Tail, Version, fields, parts_are_decided};
 use std::alloc::{AllocError, Global};
 use std::str::from_utf8;
+use text::cut;
 
 /// How long a line is at least, by and large: room is made at once for as many records as a text of such lines holds.
 const LINE: usize = 64;
@@ -127,12 +128,12 @@ impl Records for Log {
 }
 
 impl Log {
-    ghost use Rattle.seen_log.specs.Keeping.{Keeps, KeepsAll, IsLast, LogGrows, last_of};
+    ghost use Rattle.seen_log.specs.Keeping.{Keeps, KeepsAll, IsLast, LogGrows, TakesLine, last_of};
 
     /// What the text of a log tells, and how it ends. A damaged one tells nothing.
     ///
-    /// Each byte is looked at a few times, and each path is looked up once. A text that is the whole log of records, no path of which has a byte
-    /// that is written as two, is copied once and read from front to back; any other is read by its lines, behind what of it was read so.
+    /// Each byte is looked at a few times, and each path is looked up once. The text of a whole log in version 2 is copied at once, and read from
+    /// front to back. Any other is read line by line, once it is seen to be no such text, and each path is copied.
     pub fn parse(alloc: Global, bytes: &[u8]) -> Result<(Log, Tail), AllocError>
         ensures { IfOk result (λ read. IsParsed forms Keeps bytes.now read.0 read.1) }
     {
@@ -143,8 +144,8 @@ impl Log {
         log_text::parse::<Log>(alloc, bytes)
     }
 
-    /// Puts the records of a text in version 2 at the end, and says whether it is the whole log of some that are read in a short way. Where it is
-    /// not, or memory is refused, nothing is said of what is kept.
+    /// Puts the records of a text at the end if it is their whole log in version 2, and says whether it is. Where it is not, or memory is refused,
+    /// nothing is said of what is kept.
     fn take_all(&mut self, alloc: Global, bytes: &[u8]) -> Result<bool, AllocError>
         requires { Keeps [] self.old }
         ensures { IfYes result (KeepsAll bytes.now self.new) }
@@ -158,7 +159,7 @@ impl Log {
         let arena = self.arena(alloc)?;
         let text = arena.try_alloc_str(text)?;
         self.make_room(text.len());
-        let is_whole = self.take_lines(text)?;
+        let is_whole = self.take_lines(alloc, text)?;
         Ok(is_whole)
     }
 
@@ -171,18 +172,63 @@ impl Log {
         }
     }
 
-    /// Puts the records of these lines at the end, and says whether each is one's and read in a short way. Where one is not, or memory is refused,
-    /// nothing is said of what is kept.
-    fn take_lines(&mut self, lines: &'static str) -> Result<bool, AllocError>
+    /// Puts the records of these lines at the end, and says whether each is one's. Where one is not, or memory is refused, nothing is said of what
+    /// is kept.
+    fn take_lines(&mut self, alloc: Global, lines: &'static str) -> Result<bool, AllocError>
         requires { Keeps [] self.old }
         ensures { IfYes result (KeepsLines (forms Two) Keeps lines.now self.new) }
     {
         let mut rest = lines;
-        'lines: while let Some((path, noted, after)) = line_in(rest) {
-            self.note_in(path, noted)?;
+        'lines: while !rest.is_empty() {
+            let Some(after) = self.take_line(alloc, rest)? else {
+                return Ok(false);
+            };
             rest = after;
         }
-        Ok(rest.is_empty())
+        Ok(true)
+    }
+
+    /// Puts the record of the line in front at the end, if it is one's, and gives what stands behind it. Where it is not, or memory is refused,
+    /// nothing is said of what is kept.
+    #[inline(always)]
+    fn take_line(
+        &mut self,
+        alloc: Global,
+        text: &'static str,
+    ) -> Result<Option<&'static str>, AllocError>
+        ensures { IfFound result (λ after. TakesLine text.now after.now self.old self.new) }
+    {
+        if let Some((path, noted, after)) = line_in(text) {
+            self.note_in(path, noted)?;
+            return Ok(Some(after));
+        }
+        let found = self.take_escaped(alloc, text)?;
+        Ok(found)
+    }
+
+    /// The same, where a byte of the path may be written as two.
+    #[inline(never)]
+    fn take_escaped(
+        &mut self,
+        alloc: Global,
+        text: &'static str,
+    ) -> Result<Option<&'static str>, AllocError>
+        ensures { IfFound result (λ after. TakesLine text.now after.now self.old self.new) }
+    {
+        let Some((line, left)) = cut(text.as_bytes(), b'\n') else {
+            return Ok(None);
+        };
+        let Some(after) = last_of(text, left.len()) else {
+            return Ok(None);
+        };
+        let Some(fields) = fields(alloc, line)? else {
+            return Ok(None);
+        };
+        let Some((path, noted)) = said_by(fields.as_slice()) else {
+            return Ok(None);
+        };
+        self.note(alloc, path, noted)?;
+        Ok(Some(after))
     }
 
     /// Puts at the end that this is noted of the path. Where memory is refused, the log stands for the same records as before.

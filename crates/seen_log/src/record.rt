@@ -146,7 +146,7 @@ fn path_at(text: &str, len: usize) -> Option<&str>
 
 /// The last bytes of a text, so many.
 #[inline(always)]
-fn last_of(text: &str, len: usize) -> Option<&str>
+pub(crate) fn last_of(text: &str, len: usize) -> Option<&str>
     ensures { IfSome result (λ last. (front back : List ℕ) → text.now ≡ front ++ back → length back ≡ len → last.now ≡ back) }
 {
     let before = text.len().checked_sub(len)?;
