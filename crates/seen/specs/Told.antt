@@ -28,9 +28,13 @@ IsTold fields (Done start outputs) = (after : List (List ℕ)) × NamesFirst 100
 IsTold fields (Read start paths) = (outputs : List (List ℕ)) × (after : List (List ℕ)) × NamesFirst 114 fields outputs after × ListsPaths after start paths.now
 IsTold fields Nothing = Unit {0}
 
--- the line begins with this kind, says that it names one output, and names this one
+-- the bytes begin with the number 1, and with this output behind it
+abbrev pub NamesOne : List ℕ → List ℕ → Type 0
+NamesOne output bytes = (rest : List ℕ) × (bytes ≡ field_and_tab (49 ∷ []) ++ (field_and_tab output ++ rest))
+
+-- the line begins with this kind, and names this output alone
 abbrev pub BeginsWithOne : ℕ → List ℕ → List ℕ → Type 0
-BeginsWithOne kind output line = (rest : List ℕ) × (line ≡ field_and_tab (kind ∷ []) ++ (field_and_tab (49 ∷ []) ++ (field_and_tab output ++ rest)))
+BeginsWithOne kind output line = (counted : List ℕ) × (line ≡ field_and_tab (kind ∷ []) ++ counted) × NamesOne output counted
 
 -- what is told of this line is what it says
 abbrev pub IsOneIn : List ℕ → One → Type 0

@@ -2,7 +2,7 @@
 
 ghost use Rattle.std.specs.Prelude.{IfSome};
 ghost use Rattle.text.specs.Marks.{Lacks};
-ghost use Rattle.seen.specs.Told.{IsOneIn, IsTold, ListsPaths, StartsSo};
+ghost use Rattle.seen.specs.Told.{IsOneIn, IsTold, ListsPaths, NamesOne, StartsSo};
 
 use log_text::{Field, Version, number_of, plain_field, split_counted, split_outputs};
 
@@ -35,18 +35,28 @@ pub fn one_in(line: &[u8]) -> Option<One<'_>>
     ensures { IfSome result (IsOneIn line.now) }
 {
     let (kind, counted) = plain_field(line)?;
-    let (count, named) = plain_field(counted)?;
+    if kind == "b" {
+        let output = one_output(counted)?;
+        return Some(One::Begun(output));
+    }
+    if kind == "d" {
+        let output = one_output(counted)?;
+        return Some(One::Done(output));
+    }
+    None
+}
+
+/// The output that stands in front behind the number of outputs, where that is 1.
+fn one_output(bytes: &[u8]) -> Option<&str>
+    requires { Lacks 10 bytes.now }
+    ensures { IfSome result (λ output. NamesOne output.now bytes.now) }
+{
+    let (count, named) = plain_field(bytes)?;
     if count != "1" {
         return None;
     }
     let (output, _) = plain_field(named)?;
-    if kind == "b" {
-        return Some(One::Begun(output));
-    }
-    if kind == "d" {
-        return Some(One::Done(output));
-    }
-    None
+    Some(output)
 }
 
 /// What the record of these fields tells.
