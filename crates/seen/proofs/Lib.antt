@@ -12,4 +12,4 @@ pub mod Growing
 pub mod Putting
 pub mod Kept
 pub mod Entered
-pub mod Lines
+pub mod OneOutput

@@ -1,4 +1,4 @@
-use Rattle.seen.proofs.Lines.{begins_so}
+use Rattle.seen.proofs.OneOutput.{begins_so}
 use Rattle.seen.proofs.lines.one_in.Goals as goal
 
 pub returns-then-eq : goal.returns-then-eq

@@ -1,6 +1,6 @@
 use Rattle.std.proofs.Common.{◌++◌, List, ℕ, sym, ap, ◌∙◌}
 use Rattle.log_text.specs.Line.{field_and_tab}
-use Rattle.seen.proofs.Lines.{one_of}
+use Rattle.seen.proofs.OneOutput.{one_of}
 use Rattle.seen.proofs.lines.one_output.Goals as goal
 
 pub returns : goal.returns
