@@ -1,5 +1,6 @@
 -- The line of a record in front of others, read from front to back.
-use Rattle.std.proofs.Common.{◌≡◌, ◌+◌, ℕ, decimal, List, [], ◌∷◌, ◌++◌, take, drop, length, refl, sym, ap, ◌∙◌, append_assoc, append-nil, arith}
+use Rattle.std.proofs.Common.{◌≡◌, ◌+◌, ℕ, decimal, List, [], ◌∷◌, ◌++◌, Option, Some, take, drop, length, refl, sym, ap, ◌∙◌, subst, append_assoc, append-nil, arith}
+use Rattle.std.specs.Prelude.{IfSome}
 use Rattle.std.proofs.Math.Seq.{take-append_seam, drop-append_seam}
 use Rattle.std.proofs.lemmas.List.{length-append}
 use Rattle.std.proofs.lemmas.List.Concat.{flat_map-append}
@@ -80,3 +81,7 @@ lines_more lines rest after records r e f =
 
 pub lines_all : (lines rest : List ℕ) (records : List Note) → lines ≡ lines_text (forms Two) records ++ rest → rest ≡ [] → lines ≡ lines_text (forms Two) records
 lines_all lines rest records e none = e ∙ (ap (λ (l : List ℕ). lines_text (forms Two) records ++ l) none ∙ append-nil (lines_text (forms Two) records))
+
+-- what holds of what was found
+pub at_some : {X : Type 0} (P : X → Type 0) (found : Option X) (x : X) → found ≡ Some x → IfSome found P → P x
+at_some P found x is holds = subst (λ o. IfSome o P) is holds

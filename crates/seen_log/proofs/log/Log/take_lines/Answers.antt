@@ -1,7 +1,7 @@
 use Rattle.std.proofs.Common.{◌≡◌, [], ◌∷◌, ◌++◌, refl, sym, ◌∙◌}
 use Rattle.std.proofs.lemmas.Bool.{eqb-true}
 use Rattle.std.proofs.lemmas.List.{nil_from_length}
-use Rattle.seen_log.proofs.LineFirst.{lines_all, lines_more}
+use Rattle.seen_log.proofs.LineFirst.{at_some, lines_all, lines_more}
 use Rattle.seen_log.proofs.Writing.{HaveLines-push}
 use Rattle.seen_log.proofs.log.Log.take_lines.Goals as goal
 
@@ -11,7 +11,7 @@ lines-init c = ([], refl, tt, c.requires)
 pub lines-preserved : goal.lines-preserved
 lines-preserved c =
     let records = c.lines.invariant.0 in
-    let taken = c.in_ok-take_line.ensures in (
+    let taken = at_some _ c.in_ok-after.field-0 c.in-Some.after c.in-Some.is c.in_ok-after.ensures in (
       records ++ taken.0 ∷ [],
       lines_more c.args.lines.now c.lines.rest.now c.in-Some.after.now records taken.0 c.lines.invariant.1 taken.1.0,
       HaveLines-push records taken.0 c.lines.invariant.2 taken.1.1,
