@@ -1,11 +1,11 @@
 -- What is as noted counts as before, whatever else is known.
 use Rattle.std.proofs.Common.{◌≡◌, ℕ, Bool, true, false, if◌then◌else◌, ◌&&◌, not, max, is_some, List, Option, Some, None, refl, sym, ◌∙◌, ap}
 use Rattle.std.specs.Option.{option_map}
-use Rattle.indexmap.specs.IndexMap.{get_by_text}
 use Rattle.model.specs.Graph.{has}
 use Rattle.seen_law.specs.Retold.{stamp_told}
 use Rattle.seen_log.specs.declared.note.Last.{Last}
 use Rattle.seen_log.specs.declared.note.Noted.{Noted}
+use Rattle.seen_log.specs.Keeping.{last_of}
 use Rattle.seen_log.specs.Log.{counts_of}
 use Rattle.seen.specs.declared.answer.Looked.{Looked}
 use Rattle.seen.specs.declared.counts.Counts.{Counts}
@@ -73,7 +73,7 @@ counted_so noted (Some found) how started is =
 
 -- so it is seen of a path of which this is kept
 pub already_there : (k : Counts) (p : List ℕ) (found : Option Measure) (last : Option Last) (noted : Option Noted) (how : Judged)
-    → last ≡ get_by_text k.notes.last p → noted ≡ option_map (λ it. it.noted) last → Some how ≡ already noted found
+    → last ≡ last_of k.notes p → noted ≡ option_map (λ it. it.noted) last → Some how ≡ already noted found
     → record { counts = how.counts; found = found; last = last; how = how } ≡ looked_there k p found
 already_there k p found last noted how last_is noted_is is =
     let counts = counted_so noted found how (started_by k.starts.items (maker_of k.makers p)) (sym is) in

@@ -18,7 +18,7 @@ use Rattle.seen_log.specs.declared.log.Log.{Log}
 use Rattle.seen_log.specs.declared.note.Last.{Last}
 use Rattle.seen_log.specs.declared.note.Note.{Note}
 use Rattle.seen_log.specs.declared.note.Noted.{Noted}
-use Rattle.seen_log.specs.Keeping.{IsLast, Keeps}
+use Rattle.seen_log.specs.Keeping.{IsLast, Keeps, last_of}
 use Rattle.seen_log.specs.Log.{noted_in_force}
 use Rattle.seen_log.specs.Record.{forms}
 use Rattle.seen_true.specs.Notes.{IsWhole}
@@ -39,7 +39,7 @@ last_noted records p None is = sym is
 last_noted records p (Some last) is = sym is.0
 
 pub noted_so : (records : List Note) (log : Log) → Keeps records log → (p : List ℕ) → noted_of log p ≡ noted_in_force records p
-noted_so records log keeps p = last_noted records p (get_by_text log.last p) (keeps.last p)
+noted_so records log keeps p = last_noted records p (last_of log p) (keeps.last p)
 
 -- ---- the text behind which lines are put
 

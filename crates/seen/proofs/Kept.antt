@@ -4,7 +4,6 @@ use Rattle.std.specs.Prelude.{IsTrue, IfOk, OnErr, OnOk, bytes_eq}
 use Rattle.std.proofs.Math.Logic.{∥∥₁_map}
 use Rattle.std.proofs.lemmas.Bool.{cases_Bool, cond-true, cond-false, false≢true}
 use Rattle.std.proofs.lemmas.Slice.Eq.{bytes_eq-Decides}
-use Rattle.indexmap.specs.IndexMap.{get_by_text}
 use Rattle.model.specs.declared.act.Act.{Act}
 use Rattle.model.specs.declared.event.Finished.{Finished}
 use Rattle.model.specs.declared.fault.SiteFault.{SiteFault}
@@ -16,6 +15,7 @@ use Rattle.seen_log.specs.declared.note.Kind.{Kind}
 use Rattle.seen_log.specs.declared.note.Kind.TheVariants.{Made, Source}
 use Rattle.seen_log.specs.declared.note.Last.{Last}
 use Rattle.seen_log.specs.declared.note.Noted.{Noted}
+use Rattle.seen_log.specs.Keeping.{last_of}
 use Rattle.seen_log.specs.Log.{counts_of}
 use Rattle.seen_law.specs.Retold.{stamp_told, under}
 use Rattle.seen_law.specs.Laws.{started_so}
@@ -316,7 +316,7 @@ module _ (b : Begun) (x y : World) (k : Counts) (p : List ℕ) (finds : FoundInC
 
     there_may : (held : Option File) → file_at (x.history ++ earlier) p ≡ held → is_own k.own p ≡ false → MaySee true b y p (looked_there k p (measured_at held))
     there_may None none other base lines more is notes =
-        away_may none (judged (past_of k.notes k.makers k.first_start p) k.number (placed_by (has k.made p) None)).number (get_by_text k.notes.last p) base lines more is notes
+        away_may none (judged (past_of k.notes k.makers k.first_start p) k.number (placed_by (has k.made p) None)).number (last_of k.notes p) base lines more is notes
     there_may (Some file) there other base lines more is notes =
         line_may file there (judged (past_of k.notes k.makers k.first_start p) k.number (placed_by (has k.made p) (Some (measure_of file)))).kind
         (judged (past_of k.notes k.makers k.first_start p) k.number (placed_by (has k.made p) (Some (measure_of file)))).number k.first_start other owns (number_there file) base lines more is notes

@@ -13,3 +13,4 @@ pub mod Putting
 pub mod Kept
 pub mod Entered
 pub mod Folders
+pub mod OneOutput

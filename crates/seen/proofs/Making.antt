@@ -1,5 +1,6 @@
 -- Which edge makes a path, and which paths are in a table.
-use Rattle.std.proofs.Common.{◌≡◌, String, ◌<◌, ◌≤◌, ◌+◌, ℕ, zero, suc, Bool, true, false, ◌||◌, if◌then◌else◌, List, [], ◌∷◌, ◌++◌, take, length, get_or, Option, Some, None, is_some, slice_get, bytes_eq, string_bytes, nat_lt, refl, sym, ap, subst, ◌∙◌, append_assoc}
+use Rattle.std.proofs.Common.{◌≡◌, ◌<◌, ◌≤◌, ◌+◌, ℕ, zero, suc, Bool, true, false, ◌||◌, if◌then◌else◌, List, [], ◌∷◌, ◌++◌, take, length, get_or, Option, Some, None, is_some, slice_get, bytes_eq, nat_lt, refl, sym, ap, subst, ◌∙◌, append_assoc}
+use Rattle.std.specs.Borrow.{Bor}
 use Rattle.std.specs.Prelude.{MatchOption}
 use Rattle.std.specs.List.{cons_option}
 use Rattle.std.specs.Option.{option_map, option_or}
@@ -41,19 +42,19 @@ if_or : (here : Bool) (job : ℕ) (rest later : Option ℕ) → option_or (if he
 if_or true job rest later = refl
 if_or false job rest later = refl
 
-maker_last : (os : List Output) (o : Output) (p : List ℕ) → maker_in (os ++ o ∷ []) p ≡ option_or (maker_in os p) (if bytes_eq (string_bytes o.text) p then Some o.job else None)
+maker_last : (os : List Output) (o : Output) (p : List ℕ) → maker_in (os ++ o ∷ []) p ≡ option_or (maker_in os p) (if bytes_eq o.text.now p then Some o.job else None)
 maker_last [] o p = refl
 maker_last (x ∷ os) o p =
-    ap (λ (rest : Option ℕ). if bytes_eq (string_bytes x.text) p then Some x.job else rest) (maker_last os o p)
-    ∙ sym (if_or (bytes_eq (string_bytes x.text) p) x.job (maker_in os p) (if bytes_eq (string_bytes o.text) p then Some o.job else None))
+    ap (λ (rest : Option ℕ). if bytes_eq x.text.now p then Some x.job else rest) (maker_last os o p)
+    ∙ sym (if_or (bytes_eq x.text.now p) x.job (maker_in os p) (if bytes_eq o.text.now p then Some o.job else None))
 
 -- the last one is found in the table as it was in the list
-pub moved : (rest listed : List Output) (o : Output) (p : List ℕ) (was now : Option ℕ) → listed ≡ rest ++ o ∷ [] → now ≡ (if bytes_eq (string_bytes o.text) p then Some o.job else was)
+pub moved : (rest listed : List Output) (o : Output) (p : List ℕ) (was now : Option ℕ) → listed ≡ rest ++ o ∷ [] → now ≡ (if bytes_eq o.text.now p then Some o.job else was)
     → option_or (maker_in rest p) now ≡ option_or (maker_in listed p) was
 moved rest listed o p was now is_listed is_now =
     ap (λ (it : Option ℕ). option_or (maker_in rest p) it) is_now
     ∙ sym (ap (λ (m : Option ℕ). option_or m was) (ap (λ (l : List Output). maker_in l p) is_listed ∙ maker_last rest o p)
-    ∙ or_same (maker_in rest p) was (bytes_eq (string_bytes o.text) p) o.job)
+    ∙ or_same (maker_in rest p) was (bytes_eq o.text.now p) o.job)
 
 -- nothing is listed any more
 pub in_table : (listed : List Output) (p : List ℕ) (table before : Option ℕ) → option_or (maker_in listed p) table ≡ before → listed ≡ [] → table ≡ before
@@ -88,7 +89,7 @@ module _ (all : List Output) (job : ℕ) (p : List ℕ) where
   -- of a path that another edge makes, or none, nothing is made
   made_not : (os : List Output) → is_job job (maker_in all p) ≡ false → has (made_in all os job) p ≡ false
   made_not [] none = refl
-  made_not (o ∷ os) none = not_with (string_bytes o.text) (made_in all os job) none (made_not os none)
+  made_not (o ∷ os) none = not_with o.text.now (made_in all os job) none (made_not os none)
 
   -- what is there stays there
   with_more : (text : List ℕ) (rest : List (List ℕ)) → has rest p ≡ true → has (rest_with (is_job job (maker_in all text)) text rest) p ≡ true
@@ -117,7 +118,7 @@ module _ (all : List Output) (job : ℕ) (p : List ℕ) where
       none : None ≡ Some found → ⊥
       none e = cc
   made_here (o ∷ os) found is makes =
-      found_in (bytes_eq (string_bytes o.text) p) (string_bytes o.text) (made_in all os job) o.job (maker_in os p) found refl is makes (λ so. made_here os found so makes)
+      found_in (bytes_eq o.text.now p) o.text.now (made_in all os job) o.job (maker_in os p) found refl is makes (λ so. made_here os found so makes)
 
 some_job : (job : ℕ) (maker : Option ℕ) → is_job job maker ≡ true → (found : ℕ) × (maker ≡ Some found)
 some_job job None makes = absurd (false≢true makes)
@@ -138,7 +139,7 @@ or_none (Some job) = refl
 pub made_of : (makers : Makers) → makers.table.entries ≡ [] → (job : ℕ) (p : List ℕ) → has (made_in makers.listed.items makers.listed.items job) p ≡ is_job job (maker_of makers p)
 made_of makers none job p =
     made_has makers.listed.items job p
-    ∙ ap (is_job job) (sym (ap (λ (es : List (String _ × ℕ)). option_or (maker_in makers.listed.items p) (lookup (λ k. bytes_eq p (string_bytes k)) es)) none ∙ or_none (maker_in makers.listed.items p)))
+    ∙ ap (is_job job) (sym (ap (λ (es : List (Bor (List ℕ) × ℕ)). option_or (maker_in makers.listed.items p) (lookup (λ k. bytes_eq p k.now) es)) none ∙ or_none (maker_in makers.listed.items p)))
 
 -- ---- edges
 
@@ -168,13 +169,13 @@ are_jobs jobs [] p job all is = absurd (none is)
     none e = cc
 are_jobs jobs (o ∷ os) p job all is =
     let parts = below_rest (nat_lt o.job jobs) (are_below jobs os) all in
-    here_or (bytes_eq (string_bytes o.text) p) o.job jobs job (maker_in os p) (ltb-true o.job jobs parts.0) (λ rest. are_jobs jobs os p job parts.1 rest) is
+    here_or (bytes_eq o.text.now p) o.job jobs job (maker_in os p) (ltb-true o.job jobs parts.0) (λ rest. are_jobs jobs os p job parts.1 rest) is
 
 -- so they are in a table without entries
 pub jobs_of_listed : (makers : Makers) → makers.table.entries ≡ [] → are_below makers.jobs makers.listed.items ≡ true → (p : List ℕ) (job : ℕ) → maker_of makers p ≡ Some job → job < makers.jobs
 jobs_of_listed makers none all p job is =
     are_jobs makers.jobs makers.listed.items p job all
-    (sym (ap (λ (es : List (String _ × ℕ)). option_or (maker_in makers.listed.items p) (lookup (λ k. bytes_eq p (string_bytes k)) es)) none ∙ or_none (maker_in makers.listed.items p)) ∙ is)
+    (sym (ap (λ (es : List (Bor (List ℕ) × ℕ)). option_or (maker_in makers.listed.items p) (lookup (λ k. bytes_eq p k.now) es)) none ∙ or_none (maker_in makers.listed.items p)) ∙ is)
 
 -- ---- what is listed
 
@@ -191,14 +192,14 @@ module _ (paths : List (List ℕ)) (job : ℕ) where
       ∙ ap (λ (it : Option (List ℕ)). texts_with paths job (take i numbers) ++ cons_option (with_job it) []) is)
 
   -- its text is listed
-  pub text_more : (numbers : List ℕ) (i d : ℕ) (os : List Output) (o : Output) (before : List (List ℕ × ℕ)) → i < length numbers → slice_get paths (get_or numbers i d) ≡ Some (string_bytes o.text) → o.job ≡ job
+  pub text_more : (numbers : List ℕ) (i d : ℕ) (os : List Output) (o : Output) (before : List (List ℕ × ℕ)) → i < length numbers → slice_get paths (get_or numbers i d) ≡ Some o.text.now → o.job ≡ job
       → pairs_of os ≡ before ++ texts_with paths job (take i numbers) → pairs_of (os ++ o ∷ []) ≡ before ++ texts_with paths job (take (i + 1) numbers)
   text_more numbers i d os o before below is same so_far =
-      map_push (λ (o : Output). (string_bytes o.text, o.job)) os o
-      ∙ (ap (λ (l : List (List ℕ × ℕ)). l ++ (string_bytes o.text, o.job) ∷ []) so_far
-      ∙ (ap (λ (j : ℕ). (before ++ texts_with paths job (take i numbers)) ++ (string_bytes o.text, j) ∷ []) same
-      ∙ (append_assoc before (texts_with paths job (take i numbers)) ((string_bytes o.text, job) ∷ [])
-      ∙ sym (ap (λ (l : List (List ℕ × ℕ)). before ++ l) (path_more numbers i d (Some (string_bytes o.text)) below is)))))
+      map_push (λ (o : Output). (o.text.now, o.job)) os o
+      ∙ (ap (λ (l : List (List ℕ × ℕ)). l ++ (o.text.now, o.job) ∷ []) so_far
+      ∙ (ap (λ (j : ℕ). (before ++ texts_with paths job (take i numbers)) ++ (o.text.now, j) ∷ []) same
+      ∙ (append_assoc before (texts_with paths job (take i numbers)) ((o.text.now, job) ∷ [])
+      ∙ sym (ap (λ (l : List (List ℕ × ℕ)). before ++ l) (path_more numbers i d (Some o.text.now) below is)))))
 
   -- or it has none
   pub none_more : (numbers : List ℕ) (i d : ℕ) (listed before : List (List ℕ × ℕ)) → i < length numbers → slice_get paths (get_or numbers i d) ≡ None

@@ -3,13 +3,13 @@ use Rattle.std.proofs.Common.{◌≡◌, ◌⊎◌, ◌<◌, inl, inr, ℕ, Bool
 use Rattle.std.specs.Prelude.{IfOk, OnOk, Result, Ok, Err, bytes_eq}
 use Rattle.std.specs.Option.{option_map}
 use Rattle.std.proofs.lemmas.Bool.{cases_Bool, cond-true, cond-false}
-use Rattle.indexmap.specs.IndexMap.{get_by_text}
 use Rattle.model.specs.Graph.{has}
 use Rattle.model.specs.World.{File, content_of, stamp_of}
 use Rattle.seen_law.specs.Retold.{Telling, stamp_told, told_file, under}
 use Rattle.seen_law.specs.Laws.{IsPlain, IsTold}
 use Rattle.seen_log.specs.declared.note.Kind.TheVariants.{Source}
 use Rattle.seen_log.specs.declared.note.Noted.{Noted}
+use Rattle.seen_log.specs.Keeping.{last_of}
 use Rattle.seen_log.specs.Log.{counts_of}
 use Rattle.seen.specs.declared.answer.Looked.{Looked}
 use Rattle.seen.specs.declared.counts.Counts.{Counts}
@@ -129,7 +129,7 @@ module _ (k : Counts) (p : List ℕ) where
 same_counts : (old new : Counts) → KnowsSame old new → (p : List ℕ) (file : File) → counts_at old.notes old.makers old.own old.number p file ≡ counts_at new.notes new.makers new.own new.number p file
 same_counts old new same p file =
     λ i. if is_own (sym same.own i) p then Some file.stamp
-    else (judged (record { noted = option_map (λ last. last.noted) (get_by_text (sym same.notes i).last p); is_output = is_some (sym (same.makers p) i); since = None }) (sym same.number i) (Some (measure_of file))).counts
+    else (judged (record { noted = option_map (λ last. last.noted) (last_of (sym same.notes i) p); is_output = is_some (sym (same.makers p) i); since = None }) (sym same.number i) (Some (measure_of file))).counts
 
 module _ (b : Begun) (old new : Counts) (same : KnowsSame old new) where
   pub counted_same : ((p : List ℕ) (file : File) → (telling b.knows).counts p file ≡ counts_at old.notes old.makers old.own old.number p file)

@@ -1,11 +1,11 @@
 -- What counts when a build begins, by what is known then.
 use Rattle.std.specs.Prelude.{ℕ, if◌then◌else◌, is_some, List, Option, Some, None, bytes_eq, slice_get}
 use Rattle.std.specs.Option.{option_map}
-use Rattle.indexmap.specs.IndexMap.{get_by_text}
 use Rattle.model.specs.World.{File}
 use Rattle.seen_law.specs.Retold.{Telling}
 use Rattle.seen_log.specs.declared.log.Log.{Log}
 use Rattle.seen_log.specs.declared.note.Noted.{Noted}
+use Rattle.seen_log.specs.Keeping.{last_of}
 use Rattle.seen.specs.declared.judging.Past.{Past}
 use Rattle.seen.specs.declared.makers.Makers.{Makers}
 use Rattle.seen.specs.declared.own.Own.{Own}
@@ -18,7 +18,7 @@ use Rattle.seen.specs.Own.{is_own}
 
 -- what is noted of the path
 abbrev pub noted_of : Log → List ℕ → Option Noted
-noted_of notes p = option_map (λ last. last.noted) (get_by_text notes.last p)
+noted_of notes p = option_map (λ last. last.noted) (last_of notes p)
 
 -- what is known of it, in a build whose first start was this
 abbrev pub past_of : Log → Makers → (since : Option ℕ) → List ℕ → Past

@@ -1,7 +1,7 @@
 -- What is seen of a path in a build.
 use Rattle.std.specs.Prelude.{◌≡◌, ◌⊎◌, ℕ, Bool, true, false, if◌then◌else◌, List, Option, Some, None, bytes_eq}
-use Rattle.indexmap.specs.IndexMap.{get_by_text}
 use Rattle.model.specs.Graph.{has}
+use Rattle.seen_log.specs.Keeping.{last_of}
 use Rattle.seen.specs.declared.answer.Looked.{Looked}
 use Rattle.seen.specs.declared.counts.Counts.{Counts}
 use Rattle.seen.specs.declared.judging.Judged.{Judged}
@@ -22,7 +22,7 @@ abbrev pub looked_there : Counts → List ℕ → Option Measure → Looked
 looked_there k p found = record {
   counts = counted_by (judged_there k p found) (started_by k.starts.items (maker_of k.makers p)) found;
   found = found;
-  last = get_by_text k.notes.last p;
+  last = last_of k.notes p;
   how = judged_there k p found;
 }
 

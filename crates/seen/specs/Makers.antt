@@ -1,8 +1,8 @@
 -- Which edge makes a path, by the build file.
-use Rattle.std.specs.Prelude.{◌≡◌, ℕ, zero, suc, ◌<◌, ◌==◌, Bool, true, false, if◌then◌else◌, List, [], ◌∷◌, ◌++◌, map, get_or, slice_get, Option, Some, None, bytes_eq, string_bytes, nat_lt}
+use Rattle.std.specs.Prelude.{◌≡◌, ℕ, zero, suc, ◌<◌, ◌==◌, Bool, true, false, if◌then◌else◌, List, [], ◌∷◌, ◌++◌, map, get_or, slice_get, Option, Some, None, bytes_eq, nat_lt}
 use Rattle.std.specs.List.{filter_map}
 use Rattle.std.specs.Option.{option_or, option_map}
-use Rattle.indexmap.specs.IndexMap.{get_by_text}
+use Rattle.indexmap.specs.IndexMap.{get_by}
 use Rattle.paths.specs.Commands.{no_action}
 use Rattle.paths.specs.Lists.{line_at, line_outputs}
 use Rattle.paths.specs.declared.line.Line.{Line}
@@ -15,11 +15,11 @@ use Rattle.seen.specs.declared.makers.Makers.{Makers}
 -- the edge of the first output with this text
 abbrev pub maker_in : List Output → List ℕ → Option ℕ
 maker_in [] p = None
-maker_in (o ∷ os) p = if bytes_eq (string_bytes o.text) p then Some o.job else maker_in os p
+maker_in (o ∷ os) p = if bytes_eq o.text.now p then Some o.job else maker_in os p
 
 -- by what is listed, and else by the table
 abbrev pub maker_of : Makers → List ℕ → Option ℕ
-maker_of makers p = option_or (maker_in makers.listed.items p) (get_by_text makers.table p)
+maker_of makers p = option_or (maker_in makers.listed.items p) (get_by (λ k. bytes_eq p k.now) makers.table)
 
 -- each path is made by the same edge
 abbrev pub MakesSame : Makers → Makers → Type 0
@@ -37,7 +37,7 @@ is_job job (Some it) = it == job
 -- what an edge makes by these outputs
 abbrev pub made_in : (all listed : List Output) → ℕ → List (List ℕ)
 made_in all [] job = []
-made_in all (o ∷ os) job = if is_job job (maker_in all (string_bytes o.text)) then string_bytes o.text ∷ made_in all os job else made_in all os job
+made_in all (o ∷ os) job = if is_job job (maker_in all o.text.now) then o.text.now ∷ made_in all os job else made_in all os job
 
 -- all of these are of edges before this one
 abbrev pub are_below : ℕ → List Output → Bool
@@ -66,4 +66,4 @@ listing manifest (suc count) = listing manifest count ++ listing_at manifest cou
 
 -- what is listed: each text, and the number of its edge
 abbrev pub pairs_of : List Output → List (List ℕ × ℕ)
-pairs_of outputs = map (λ o. (string_bytes o.text, o.job)) outputs
+pairs_of outputs = map (λ o. (o.text.now, o.job)) outputs

@@ -34,8 +34,8 @@ pub struct Counts {
 
 impl Counts {
     ghost use Rattle.std.specs.Prelude.{◌≡◌, false, IfOk};
-    ghost use Rattle.indexmap.specs.IndexMap.{get_by_text};
     ghost use Rattle.model.specs.Graph.{has};
+    ghost use Rattle.seen_log.specs.Keeping.{last_of};
     ghost use Rattle.seen.specs.Answered.{counted_by};
     ghost use Rattle.seen.specs.Beginning.{started_by};
     ghost use Rattle.seen.specs.Entering.{IsUnbegun};
@@ -57,6 +57,7 @@ impl Counts {
     }
 
     /// How what was found at the path counts, once a build has begun; before, it counts as it is.
+    #[inline(always)]
     pub fn look_by(
         &mut self,
         is_begun: bool,
@@ -74,6 +75,7 @@ impl Counts {
     }
 
     /// How what was found at the path counts.
+    #[inline(always)]
     fn look_at(&mut self, path: &str, found: Option<Measure>) -> Result<Looked, AllocError>
         ensures looked { IfOk result (λ looked. looked ≡ looked_at self.old path.now found) }
         ensures same { KnowsSame self.old self.new }
@@ -86,6 +88,7 @@ impl Counts {
 
     /// The same, of a path that is none of the program's own. Of what is as noted nothing else is asked: so a path is looked up once, and no
     /// output is where nothing changed.
+    #[inline(always)]
     fn look_there(&mut self, path: &str, found: Option<Measure>) -> Result<Looked, AllocError>
         ensures looked { IfOk result (λ looked. looked ≡ looked_there self.old path.now found) }
         ensures same { KnowsSame self.old self.new }
@@ -103,13 +106,14 @@ impl Counts {
     }
 
     /// The same, where that does not tell it.
+    #[inline(never)]
     fn look_further(
         &mut self,
         path: &str,
         last: Option<Last>,
         found: Option<Measure>,
     ) -> Result<Looked, AllocError>
-        requires { last ≡ get_by_text self.old.notes.last path.now }
+        requires { last ≡ last_of self.old.notes path.now }
         ensures looked { IfOk result (λ looked. looked ≡ looked_there self.old path.now found) }
         ensures same { KnowsSame self.old self.new }
     {

@@ -45,6 +45,7 @@ impl Known {
 
     /// Notes what was seen of a path, where it is to be noted and was not asked for before in this build.
     #[tactic(auto, using(crate::proofs::Growing::settled_yes, crate::proofs::Growing::settled_not, crate::proofs::Growing::grows_none))]
+    #[inline(always)]
     pub fn note(&mut self, path: &str, looked: &Looked) -> Result<(), AllocError>
         ensures noted { OnOk result (UnlessSettled (is_settled self.old path.now looked.now.last) looked.now path.now self.old.lines.items self.new.lines.items) }
         ensures grows { OnOk result (Grows self.old.lines.items self.new.lines.items) }
@@ -56,6 +57,7 @@ impl Known {
     }
 
     /// The same, where it was not asked for before.
+    #[inline(always)]
     fn note_first(&mut self, path: &str, looked: &Looked) -> Result<(), AllocError>
         ensures lines { OnOk result (SeenOf looked.now.found looked.now.how looked.now.last path.now self.old.lines.items self.new.lines.items) }
         ensures grows { OnOk result (Grows self.old.lines.items self.new.lines.items) }
@@ -73,6 +75,7 @@ impl Known {
     }
 
     /// Notes what was found where this was noted before, as it is judged, or that it is absent.
+    #[inline(always)]
     fn note_seen(
         &mut self,
         path: &str,
@@ -91,6 +94,7 @@ impl Known {
 
     /// Notes what was found at the path under this number, as of this kind, if it is to be noted.
     #[tactic(auto, using(crate::proofs::Growing::grows_none))]
+    #[inline(always)]
     fn note_found(
         &mut self,
         path: &str,
@@ -119,6 +123,7 @@ impl Known {
     }
 
     /// Nothing was found where this was noted before: what comes back there is another than it was, also under its old stamp.
+    #[inline(never)]
     fn note_away(
         &mut self,
         path: &str,
@@ -185,18 +190,18 @@ impl Known {
         )
     }
 
-    /// A line that notes this of the path, or none where memory is refused.
+    /// A line that notes this of the path. Where memory is refused, a part of it may stand there.
     #[tactic(auto, using(crate::proofs::Growing::notes_grow))]
+    #[inline(never)]
     fn push(&mut self, path: &str, noted: Noted) -> Result<(), AllocError>
         ensures notes { OnOk result (Notes path.now noted self.old.lines.items self.new.lines.items) }
         ensures grows { OnOk result (Grows self.old.lines.items self.new.lines.items) }
     {
-        let mut line = Vec::new(self.alloc);
-        note_line(&mut line, path, noted)?;
-        self.lines.extend_from_slice(line.as_slice())
+        note_line(&mut self.lines, path, noted)
     }
 
     /// Whether the path, of which this was noted before, was noted or asked for in this build.
+    #[inline(always)]
     pub fn is_settled(&self, path: &str, last: Option<Last>) -> bool
         ensures { result ≡ is_settled self.now path.now last }
     {
@@ -207,6 +212,7 @@ impl Known {
     }
 
     /// Whether the path was noted in this build.
+    #[inline(never)]
     fn is_fresh(&self, path: &str) -> bool
         ensures { result ≡ has self.now.fresh path.now }
     {
@@ -276,6 +282,7 @@ fn mark(asked: &mut Vec<bool>, place: usize) -> Result<(), AllocError> {
 }
 
 /// The path was noted in this build, if it was.
+#[inline(never)]
 fn add(alloc: Global, fresh: &mut Paths, path: &str, is_noted: bool) -> Result<(), AllocError> {
     if is_noted {
         fresh.add(alloc, path)?;

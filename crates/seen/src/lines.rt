@@ -1,9 +1,10 @@
 //! What the records of a build tell that go behind its logs.
 
 ghost use Rattle.std.specs.Prelude.{IfSome};
-ghost use Rattle.seen.specs.Told.{IsTold, ListsPaths, StartsSo};
+ghost use Rattle.text.specs.Marks.{Lacks};
+ghost use Rattle.seen.specs.Told.{IsOneIn, IsTold, ListsPaths, NamesOne, StartsSo};
 
-use log_text::{Field, Version, number_of, split_counted, split_outputs};
+use log_text::{Field, Version, number_of, plain_field, split_counted, split_outputs};
 
 /// What a record tells that goes behind a log.
 #[derive(Clone, Copy)]
@@ -16,6 +17,46 @@ pub enum Told<'f, 'a> {
     Read(u64, &'f [Field<'a>]),
     /// It is no record.
     Nothing,
+}
+
+/// What a record that names one output tells of it.
+#[derive(Clone, Copy)]
+pub enum One<'a> {
+    /// The command that makes it is about to start.
+    Begun(&'a str),
+    /// The command that makes it has ended well.
+    Done(&'a str),
+}
+
+/// The same, read from the front of its line, where it names one and no byte of that is written as two: so no list of fields is made, and what
+/// stands behind the output is not looked at.
+pub fn one_in(line: &[u8]) -> Option<One<'_>>
+    requires { Lacks 10 line.now }
+    ensures { IfSome result (IsOneIn line.now) }
+{
+    let (kind, counted) = plain_field(line)?;
+    if kind == "b" {
+        let output = one_output(counted)?;
+        return Some(One::Begun(output));
+    }
+    if kind == "d" {
+        let output = one_output(counted)?;
+        return Some(One::Done(output));
+    }
+    None
+}
+
+/// The output that stands in front behind the number of outputs, where that is 1.
+fn one_output(bytes: &[u8]) -> Option<&str>
+    requires { Lacks 10 bytes.now }
+    ensures { IfSome result (λ output. NamesOne output.now bytes.now) }
+{
+    let (count, named) = plain_field(bytes)?;
+    if count != "1" {
+        return None;
+    }
+    let (output, _) = plain_field(named)?;
+    Some(output)
 }
 
 /// What the record of these fields tells.

@@ -12,7 +12,7 @@ use std::alloc::{AllocError, Global};
 /// An output of a command, and the number of its edge.
 #[derive(Drop)]
 pub struct Output {
-    pub text: String<&'static Bump>,
+    pub text: &'static str,
     pub job: usize,
 }
 
@@ -20,7 +20,7 @@ pub struct Output {
 /// since the last build, none is.
 #[derive(Drop)]
 pub struct Makers {
-    pub table: IndexMap<String<&'static Bump>, usize>,
+    pub table: IndexMap<&'static str, usize>,
     pub listed: Vec<Output>,
     /// One past the number of the last edge: they are counted from 1.
     pub jobs: usize,
@@ -124,7 +124,7 @@ fn list_outputs(
     for output in manifest.lines.outputs(edge) {
         if let Some(text) = manifest.paths.get(*output) {
             listed.push(Output {
-                text: String::from_str(arena, text)?,
+                text: arena.try_alloc_str(text)?,
                 job: edge.job(),
             })?;
         }

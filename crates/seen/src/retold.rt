@@ -200,6 +200,7 @@ impl<S: Measured, B: Beginning> Retold<S, B> {
     }
 
     /// Looks at the path.
+    #[inline(always)]
     pub fn look(&mut self, path: &str) -> Result<Looked, SiteFault>
         ensures looks { OnlyLooks S.tells (told_world S.tells B.begun (S.world self.old.site)) (told_world S.tells B.begun (S.world self.new.site)) }
         ensures cause { HasCause (told_world S.tells B.begun (S.world self.old.site)) (told_world S.tells B.begun (S.world self.new.site)) result }
@@ -225,6 +226,7 @@ impl<S: Measured, B: Beginning> Retold<S, B> {
     }
 
     /// Looks at the path, and notes what was seen, where it is to be noted and was not asked for before in this build.
+    #[inline(always)]
     pub fn see(&mut self, path: &str) -> Result<Looked, SiteFault>
         ensures looks { OnlyLooks S.tells (told_world S.tells B.begun (S.world self.old.site)) (told_world S.tells B.begun (S.world self.new.site)) }
         ensures cause { HasCause (told_world S.tells B.begun (S.world self.old.site)) (told_world S.tells B.begun (S.world self.new.site)) result }
@@ -461,6 +463,7 @@ impl<S: Measured, B: Beginning> Site for Retold<S, B> {
 
     ghost outcome = { S.outcome };
 
+    #[inline(never)]
     fn stat(&mut self, path: &str) -> Result<Option<u64>, SiteFault> {
         let looked = self.look(path)?;
         Ok(looked.counts)

@@ -8,9 +8,10 @@ ghost use Rattle.seen_true.specs.Going.{NotesStand};
 ghost use Rattle.seen.specs.Begun.{BeginsTold, told_world};
 ghost use Rattle.seen.specs.Known.{known_of};
 ghost use Rattle.seen.specs.Entering.{EntersSince, IsUnbegun};
+ghost use Rattle.text.specs.Marks.{Lacks};
 
 use crate::beginning::Beginning;
-use crate::lines::{Told, told_by};
+use crate::lines::{One, Told, one_in, told_by};
 use crate::makers::Makers;
 use crate::measure::Measured;
 use crate::names::{is_build_log, is_log};
@@ -141,6 +142,22 @@ impl<S: Measured, B: Beginning> Seen<S, B> {
         let Some((line, _)) = cut(bytes, b'\n') else {
             return Ok(());
         };
+        match one_in(line) {
+            Some(One::Begun(output)) => self.note_made(path, output),
+            Some(One::Done(output)) => self.ask_left(output),
+            None => self.ask_by_fields(path, line),
+        }
+    }
+
+    /// The same of the record of this line, by all its fields.
+    #[tactic(auto, using(crate::proofs::Answered::asks_none, crate::proofs::Answered::refused_asks, crate::proofs::Growing::grows_none, crate::proofs::Putting::ok_never))]
+    #[inline(never)]
+    fn ask_by_fields(&mut self, path: &str, line: &[u8]) -> Result<(), SiteFault>
+        requires { Lacks 10 line.now }
+        ensures asks { Asks S.tells (told_world S.tells B.begun (S.world self.old.retold.site)) (told_world S.tells B.begun (S.world self.new.retold.site)) result }
+        ensures grows { OnOk result (Grows self.old.retold.noted.lines.items self.new.retold.noted.lines.items) }
+        ensures own { self.new.retold.known.own ≡ self.old.retold.known.own }
+    {
         match fields(self.alloc, line) {
             Ok(Some(fields)) => self.note_record(path, fields.as_slice()),
             Ok(None) => Ok(()),
@@ -176,6 +193,19 @@ impl<S: Measured, B: Beginning> Seen<S, B> {
             }
         }
         Ok(())
+    }
+
+    /// The command that makes this output is about to start.
+    #[tactic(auto, using(crate::proofs::Answered::asks_none, crate::proofs::Answered::refused_asks, crate::proofs::Growing::grows_none, crate::proofs::Putting::ok_never))]
+    fn note_made(&mut self, path: &str, output: &str) -> Result<(), SiteFault>
+        ensures asks { Asks S.tells (told_world S.tells B.begun (S.world self.old.retold.site)) (told_world S.tells B.begun (S.world self.new.retold.site)) result }
+        ensures noted { self.new.retold.noted ≡ self.old.retold.noted }
+        ensures own { self.new.retold.known.own ≡ self.old.retold.known.own }
+    {
+        match self.retold.make(self.alloc, output) {
+            Ok(()) => Ok(()),
+            Err(_) => Err(self.retold.refuse(path)),
+        }
     }
 
     /// Looks at these outputs, of a command that has ended well, and notes them as they count.
@@ -254,6 +284,8 @@ impl<S: Measured, B: Beginning> Site for Seen<S, B> {
 
     ghost outcome = { S.outcome };
 
+    // a call of its own, so that who asks for very many paths in a loop keeps what that loop holds in registers
+    #[inline(never)]
     fn stat(&mut self, path: &str) -> Result<Option<u64>, SiteFault> {
         let looked = self.retold.see(path)?;
         Ok(looked.counts)

@@ -1,5 +1,5 @@
 -- Numbers that are read digit by digit.
-use Rattle.std.proofs.Common.{◌≡◌, ◌<◌, ◌≤◌, ◌^◌, ◌+◌, ◌*◌, ◌/◌, ◌%◌, ℕ, decimal, List, [], ◌∷◌, ◌++◌, sym, ap, ◌∙◌, subst, arith, append_assoc}
+use Rattle.std.proofs.Common.{◌≡◌, ◌<◌, ◌≤◌, ◌^◌, ◌+◌, ◌*◌, ◌/◌, ◌%◌, ℕ, decimal, List, [], ◌∷◌, ◌++◌, sym, ap, ◌∙◌, arith, append_assoc}
 use Rattle.std.specs.Str.{IsUtf8}
 use Rattle.std.specs.Str.Parse.{AllDigits}
 use Rattle.std.proofs.lemmas.Str.Parse.{digit_from_value}
@@ -7,7 +7,7 @@ use Rattle.std.proofs.lemmas.Fmt.{decimal_digit, decimal_step, decimal_is_IsNume
 use Rattle.std.proofs.lemmas.Str.{IsUtf8-from_ascii}
 use Rattle.text.specs.Marks.{Lacks}
 use Rattle.log_text.specs.Line.{field_and_tab, IsPlain}
-use Rattle.seen_log.proofs.InFront.{Lacks-back, field_in_front}
+use Rattle.seen_log.proofs.InFront.{field_in_front}
 
 -- how far a number has been read: it is not 0, and rest is left
 pub record IsReadTo (bytes : List ℕ) (number : ℕ) (rest : List ℕ) : Type 0 where
@@ -56,6 +56,3 @@ joined bytes rest after number e tab = e ∙ ap (λ (l : List ℕ). decimal numb
 -- digits and a tab are the field of their number
 pub number_field : (bytes rest after : List ℕ) (number : ℕ) → number < 2 ^ 64 → bytes ≡ decimal number ++ rest → rest ≡ 9 ∷ after → bytes ≡ field_and_tab (decimal number) ++ after
 number_field bytes rest after number below e tab = joined bytes rest after number e tab ∙ field_in_front (decimal number) after (decimal_plain number below)
-
-pub lacks_behind : (bytes rest after : List ℕ) (number : ℕ) → Lacks 10 bytes → bytes ≡ decimal number ++ rest → rest ≡ 9 ∷ after → Lacks 10 after
-lacks_behind bytes rest after number lacks e tab = (Lacks-back 10 (decimal number) (9 ∷ after) (subst (Lacks 10) (joined bytes rest after number e tab) lacks)).1

@@ -4,14 +4,6 @@ use Rattle.std.proofs.lemmas.Bool.Decides.{nat_tests}
 use Rattle.text.specs.Marks.{Lacks}
 use Rattle.log_text.specs.Line.{escaped, field_text, field_and_tab, IsPlain}
 
-pub Lacks-front : (mark : ℕ) (xs ys : List ℕ) → Lacks mark (xs ++ ys) → Lacks mark xs
-Lacks-front mark [] ys all = tt
-Lacks-front mark (x ∷ xs) ys all = (all.0, Lacks-front mark xs ys all.1)
-
-pub Lacks-back : (mark : ℕ) (xs ys : List ℕ) → Lacks mark (xs ++ ys) → Lacks mark ys
-Lacks-back mark [] ys all = all
-Lacks-back mark (x ∷ xs) ys all = Lacks-back mark xs ys all.1
-
 escaped-plain : (b : ℕ) → b ≢ 92 → b ≢ 9 → b ≢ 10 → escaped b ≡ b ∷ []
 escaped-plain b x y z = grind (arith, nat_tests)
 

@@ -6,3 +6,4 @@ pub mod Digits
 pub mod InForce
 pub mod Keeping
 pub mod Writing
+pub mod LineFirst

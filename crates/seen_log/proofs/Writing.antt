@@ -1,6 +1,7 @@
 -- A log is written line by line.
-use Rattle.std.proofs.Common.{◌≡◌, ◌+◌, ℕ, List, [], ◌∷◌, ◌++◌, map, take, refl, sym, ap, ◌∙◌, subst, append_assoc, append-nil, slice_get, Some, zero, suc, arith, String, Result, Ok, Err}
+use Rattle.std.proofs.Common.{◌≡◌, ◌+◌, ℕ, List, [], ◌∷◌, ◌++◌, map, take, refl, sym, ap, ◌∙◌, subst, append_assoc, append-nil, slice_get, Some, zero, suc, arith, Result, Ok, Err}
 use Rattle.std.specs.Prelude.{OnOk}
+use Rattle.std.specs.Borrow.{Bor}
 use Rattle.std.proofs.lemmas.List.Concat.{flat_map-append}
 use Rattle.log_text.specs.declared.form.Version.TheVariants.{Two}
 use Rattle.log_text.specs.Form.{HasLine, HaveLines, record_line, lines_text, IsAppended}
@@ -11,7 +12,7 @@ use Rattle.seen_log.specs.Record.{forms}
 use Rattle.seen_log.specs.Log.{IsLog}
 use Rattle.seen_log.specs.Keeping.{entry_note}
 
-HaveLines-push : (records : List Note) (r : Note) → HaveLines (forms Two) records → HasLine (forms Two) r → HaveLines (forms Two) (records ++ r ∷ [])
+pub HaveLines-push : (records : List Note) (r : Note) → HaveLines (forms Two) records → HasLine (forms Two) r → HaveLines (forms Two) (records ++ r ∷ [])
 HaveLines-push [] r have is = (is, tt)
 HaveLines-push (q ∷ rs) r have is = (have.0, HaveLines-push rs r have.1 is)
 
@@ -27,14 +28,14 @@ pub log_of_none : (text : List ℕ) → text ≡ header (forms Two) → IsLog te
 log_of_none text is = record { lines = is ∙ sym (append-nil (header (forms Two))); fit = tt }
 
 -- the first entries, and the next one
-next_entries : {Y : Type 0} (es : List (String Y × Last)) (i : ℕ) (e : String Y × Last) → slice_get es i ≡ Some e → map entry_note (take (i + 1) es) ≡ map entry_note (take i es) ++ entry_note e ∷ []
+next_entries : (es : List (Bor (List ℕ) × Last)) (i : ℕ) (e : Bor (List ℕ) × Last) → slice_get es i ≡ Some e → map entry_note (take (i + 1) es) ≡ map entry_note (take i es) ++ entry_note e ∷ []
 next_entries [] i e at = cc
-next_entries {Y} (f ∷ es) zero e at = let same : f ≡ e = cc in ap (λ (u : String Y × Last). entry_note u ∷ []) same
+next_entries (f ∷ es) zero e at = let same : f ≡ e = cc in ap (λ (u : Bor (List ℕ) × Last). entry_note u ∷ []) same
 next_entries (f ∷ es) (suc i) e at =
     ap (λ (m : ℕ). map entry_note (take m (f ∷ es))) (let same : suc i + 1 ≡ suc (i + 1) = omega arith in same)
     ∙ ap (λ (l : List Note). entry_note f ∷ l) (next_entries es i e at)
 
-pub entry_behind : {Y : Type 0} (es : List (String Y × Last)) (i : ℕ) (e : String Y × Last) (old new : List ℕ) → slice_get es i ≡ Some e → IsAppended (forms Two) (entry_note e) old new
+pub entry_behind : (es : List (Bor (List ℕ) × Last)) (i : ℕ) (e : Bor (List ℕ) × Last) (old new : List ℕ) → slice_get es i ≡ Some e → IsAppended (forms Two) (entry_note e) old new
     → IsLog old (map entry_note (take i es)) → IsLog new (map entry_note (take (i + 1) es))
 entry_behind es i e old new at line log = subst (IsLog new) (sym (next_entries es i e at)) (line_behind old new (map entry_note (take i es)) (entry_note e) log line)
 

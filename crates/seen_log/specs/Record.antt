@@ -2,8 +2,8 @@
 use Rattle.std.specs.Prelude.{◌≡◌, ◌<◌, ◌^◌, ℕ, List, [], ◌∷◌, ◌++◌, decimal, codes}
 use Rattle.log_text.specs.declared.form.Version.{Version}
 use Rattle.log_text.specs.declared.form.Version.TheVariants.{One, Two}
-use Rattle.log_text.specs.Form.{Form, HasLine}
-use Rattle.log_text.specs.Line.{line_text}
+use Rattle.log_text.specs.Form.{Form, HasLine, record_line}
+use Rattle.log_text.specs.Line.{field_and_tab, line_text}
 use Rattle.seen_log.specs.declared.note.Kind.{Kind}
 use Rattle.seen_log.specs.declared.note.Kind.TheVariants.{Source, Made, Turned}
 use Rattle.seen_log.specs.declared.note.Note.{Note}
@@ -73,3 +73,12 @@ IsNoRecord fields = (other : Note) → IsLow other.noted → fields ≡ fields_o
 -- the line, without its line feed, is that of this record, in either version
 abbrev pub IsLineOfNote : List ℕ → Note → Type 0
 IsLineOfNote line r = (line ≡ line_text (fields_of r)) × ((version : Version) → HasLine (forms version) r)
+
+-- the text begins with the line of this record, which has one in version 2, and this stands behind its line feed
+abbrev pub IsLineFirst : List ℕ → Note → List ℕ → Type 0
+IsLineFirst text r rest = (text ≡ record_line (forms Two) r ++ rest) × HasLine (forms Two) r
+
+-- the bytes begin with the fields of these numbers, and this stands behind them
+abbrev pub AreNumbersFirst : List ℕ → Numbers → List ℕ → Type 0
+AreNumbersFirst bytes numbers rest =
+    bytes ≡ field_and_tab (decimal numbers.stamp) ++ (field_and_tab (decimal numbers.size) ++ (field_and_tab (decimal numbers.number) ++ rest))

@@ -1,22 +1,30 @@
 //! What is kept of the log.
 
-ghost use Rattle.std.specs.Prelude.{◌≡◌, ◌<◌, IfOk, OnOk, OnErr, length};
-ghost use Rattle.log_text.specs.Keeping.{IsParsed, KeepsAlso, KeepsSame, OfKept};
+ghost use Rattle.std.specs.Prelude.{◌≡◌, ◌<◌, ◌++◌, [], IfOk, IfSome, OnOk, OnErr, length};
+ghost use Rattle.log_text.specs.declared.form.Version.TheVariants.{Two};
+ghost use Rattle.log_text.specs.Answered.{IfFound, IfYes};
+ghost use Rattle.log_text.specs.Keeping.{IsParsed, KeepsAlso, KeepsLines, KeepsSame, OfKept};
+ghost use Rattle.log_text.specs.Text.{header};
 ghost use Rattle.seen_log.specs.Record.{forms, noting};
 ghost use Rattle.seen_log.specs.Log.{counts_of, greatest_of, noted_in_force, to_pass};
 
 use crate::note::{Kind, Last, Note, Noted};
-use crate::record::{note_line, plain_by, said_by};
+use crate::record::{last_of, line_in, note_line, plain_by, said_by};
 use crate::room::arena;
 use bumpalo::Bump;
 use indexmap::IndexMap;
-use log_text::{Field, Records, Tail, Version, parts_are_decided};
+use log_text::{Field, Records, Tail, Version, fields, parts_are_decided};
 use std::alloc::{AllocError, Global};
+use std::str::from_utf8;
+use text::cut;
+
+/// How long a line is at least, by and large: room is made at once for as many records as a text of such lines holds.
+const LINE: usize = 64;
 
 /// What is noted of each path, which is kept once.
 #[derive(Drop)]
 pub struct Log {
-    pub last: IndexMap<String<&'static Bump>, Last>,
+    pub last: IndexMap<&'static str, Last>,
     /// Where the texts of the paths are, once there are some.
     arena: Option<&'static Bump>,
     /// How many records there were.
@@ -120,16 +128,107 @@ impl Records for Log {
 }
 
 impl Log {
-    ghost use Rattle.indexmap.specs.IndexMap.{get_by_text};
-    ghost use Rattle.seen_log.specs.Keeping.{Keeps, IsLast, LogGrows};
+    ghost use Rattle.seen_log.specs.Keeping.{Keeps, KeepsAll, IsLast, LogGrows, TakesLine, last_of};
 
     /// What the text of a log tells, and how it ends. A damaged one tells nothing.
     ///
-    /// Each byte is looked at a few times, and each path is looked up once and copied once.
+    /// Each byte is looked at a few times, and each path is looked up once. The text of a whole log in version 2 is copied at once, and read from
+    /// front to back. Any other is read line by line, once it is seen to be no such text, and each path is copied.
     pub fn parse(alloc: Global, bytes: &[u8]) -> Result<(Log, Tail), AllocError>
         ensures { IfOk result (λ read. IsParsed forms Keeps bytes.now read.0 read.1) }
     {
+        let mut log = Log::new(alloc);
+        if log.take_all(alloc, bytes)? {
+            return Ok((log, Tail::Whole));
+        }
         log_text::parse::<Log>(alloc, bytes)
+    }
+
+    /// Puts the records of a text at the end if it is their whole log in version 2, and says whether it is. Where it is not, or memory is refused,
+    /// nothing is said of what is kept.
+    fn take_all(&mut self, alloc: Global, bytes: &[u8]) -> Result<bool, AllocError>
+        requires { Keeps [] self.old }
+        ensures { IfYes result (KeepsAll bytes.now self.new) }
+    {
+        let Some(lines) = behind_first(bytes) else {
+            return Ok(false);
+        };
+        let Ok(text) = from_utf8(lines) else {
+            return Ok(false);
+        };
+        let arena = self.arena(alloc)?;
+        let text = arena.try_alloc_str(text)?;
+        self.make_room(text.len());
+        let is_whole = self.take_lines(alloc, text)?;
+        Ok(is_whole)
+    }
+
+    /// Room for as many records as a text of this length may hold. A refusal is let pass, since each record asks again.
+    fn make_room(&mut self, len: usize)
+        ensures { KeepsSame Keeps self.old self.new }
+    {
+        match self.last.reserve(len / LINE) {
+            Ok(()) | Err(_) => {}
+        }
+    }
+
+    /// Puts the records of these lines at the end, and says whether each is one's. Where one is not, or memory is refused, nothing is said of what
+    /// is kept.
+    fn take_lines(&mut self, alloc: Global, lines: &'static str) -> Result<bool, AllocError>
+        requires { Keeps [] self.old }
+        ensures { IfYes result (KeepsLines (forms Two) Keeps lines.now self.new) }
+    {
+        let mut rest = lines;
+        'lines: while !rest.is_empty() {
+            let Some(after) = self.take_line(alloc, rest)? else {
+                return Ok(false);
+            };
+            rest = after;
+        }
+        Ok(true)
+    }
+
+    /// Puts the record of the line in front at the end, if it is one's, and gives what stands behind it. Where it is not, or memory is refused,
+    /// nothing is said of what is kept.
+    #[inline(always)]
+    fn take_line(
+        &mut self,
+        alloc: Global,
+        text: &'static str,
+    ) -> Result<Option<&'static str>, AllocError>
+        ensures { IfFound result (λ after. TakesLine text.now after.now self.old self.new) }
+    {
+        if let Some((path, noted, after)) = line_in(text) {
+            self.note_in(path, noted)?;
+            return Ok(Some(after));
+        }
+        let found = self.take_escaped(alloc, text)?;
+        Ok(found)
+    }
+
+    /// The same, where a byte of the path may be written as two.
+    #[inline(never)]
+    fn take_escaped(
+        &mut self,
+        alloc: Global,
+        text: &'static str,
+    ) -> Result<Option<&'static str>, AllocError>
+        ensures { IfFound result (λ after. TakesLine text.now after.now self.old self.new) }
+    {
+        let Some((line, left)) = cut(text.as_bytes(), b'\n') else {
+            return Ok(None);
+        };
+        let Some(after) = last_of(text, left.len()) else {
+            return Ok(None);
+        };
+        let Some(fields) = fields(alloc, line)? else {
+            return Ok(None);
+        };
+        let Some((path, noted)) = said_by(fields.as_slice()) else {
+            return Ok(None);
+        };
+        self.note(alloc, path, noted)?;
+        Ok(Some(after))
     }
 
     /// Puts at the end that this is noted of the path. Where memory is refused, the log stands for the same records as before.
@@ -138,18 +237,19 @@ impl Log {
         ensures err { OnErr result (KeepsSame Keeps self.old self.new) }
     {
         let arena = self.arena(alloc)?;
-        self.note_in(arena, path, noted)
+        let path = arena.try_alloc_str(path)?;
+        self.note_in(path, noted)
     }
 
-    /// The same, of a path whose text is to be there.
-    fn note_in(&mut self, arena: &'static Bump, path: &str, noted: Noted) -> Result<(), AllocError>
+    /// The same, of a path whose text stays.
+    #[inline(always)]
+    fn note_in(&mut self, path: &'static str, noted: Noted) -> Result<(), AllocError>
         ensures ok { OnOk result (KeepsAlso Keeps (noting path.now noted) self.old self.new) }
         ensures err { OnErr result (KeepsSame Keeps self.old self.new) }
     {
         let place = self.records;
         let records = place.checked_add(1).ok_or(AllocError)?;
-        let key = String::from_str(arena, path)?;
-        self.last.insert(key, Last { place, noted })?;
+        self.last.insert(path, Last { place, noted })?;
         self.records = records;
         self.greatest = self.greatest.max(to_pass(noted));
         Ok(())
@@ -168,9 +268,10 @@ impl Log {
     }
 
     /// What is in force for a path, and the place of its record among all. It takes no memory.
+    #[inline(always)]
     pub fn last(&self, path: &str) -> Option<Last>
         ensures kept { OfKept Keeps self.now (λ all. IsLast all path.now result) }
-        ensures is { result ≡ get_by_text self.now.last path.now }
+        ensures is { result ≡ last_of self.now path.now }
     {
         self.last.get(path).copied()
     }
@@ -198,10 +299,17 @@ impl Log {
         ensures { OnOk result (LogGrows self.now place text.old.items text.new.items) }
     {
         match self.last.get_index(place) {
-            Some((path, last)) => note_line(text, path.as_str(), last.noted),
+            Some((path, last)) => note_line(text, *path, last.noted),
             None => Ok(()),
         }
     }
+}
+
+/// What stands behind the first line of a log in version 2.
+fn behind_first(bytes: &[u8]) -> Option<&[u8]>
+    ensures { IfSome result (λ lines. bytes.now ≡ header (forms Two) ++ lines.now) }
+{
+    bytes.strip_prefix(b"nj-seen 2\n")
 }
 
 /// The stamp that counts for what is as noted.

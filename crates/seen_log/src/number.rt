@@ -2,17 +2,15 @@
 
 ghost use Rattle.std.specs.Prelude.{◌≡◌, ◌<◌, ◌^◌, ◌+◌, ◌*◌, ◌∷◌, [], ◌++◌, IfSome, IsTrue, decimal};
 ghost use Rattle.std.specs.Str.{IsUtf8};
-ghost use Rattle.text.specs.Marks.{Lacks};
 ghost use Rattle.log_text.specs.Line.{field_and_tab};
 ghost use Rattle.seen_log.specs.Digits.{AreDigits, IsDigit};
 
 /// The number whose field stands in front, and what stands behind its tab.
+#[inline(always)]
 pub(crate) fn number_in(bytes: &[u8]) -> Option<(u64, &[u8])>
-    requires { Lacks 10 bytes.now }
     ensures number { IfSome result (λ parts. bytes.now ≡ field_and_tab (decimal parts.0) ++ parts.1.now) }
     ensures utf8 { IfSome result (λ parts. IsUtf8 (decimal parts.0)) }
     ensures low { IfSome result (λ parts. parts.0 < 2 ^ 64) }
-    ensures line_feed { IfSome result (λ parts. Lacks 10 parts.1.now) }
 {
     let (number, rest) = decimal_in(bytes)?;
     let after = behind_tab(rest)?;
@@ -20,6 +18,7 @@ pub(crate) fn number_in(bytes: &[u8]) -> Option<(u64, &[u8])>
 }
 
 /// The number whose digits stand in front, and what stands behind the last of them.
+#[inline(always)]
 fn decimal_in(bytes: &[u8]) -> Option<(u64, &[u8])>
     ensures digits { IfSome result (λ parts. bytes.now ≡ decimal parts.0 ++ parts.1.now) }
     ensures low { IfSome result (λ parts. parts.0 < 2 ^ 64) }

@@ -1,15 +1,15 @@
 //! The records of the log and their lines.
 
-ghost use Rattle.std.specs.Prelude.{◌≡◌, ◌∷◌, [], ◌++◌, IfSome, IfNone, OnOk};
+ghost use Rattle.std.specs.Prelude.{◌≡◌, ◌≤◌, ◌∷◌, [], ◌++◌, ℕ, List, IfSome, IfNone, OnOk, length, take, drop};
 ghost use Rattle.text.specs.Marks.{Lacks};
-ghost use Rattle.log_text.specs.Line.{AreTexts, field_and_tab, fields_text};
-ghost use Rattle.seen_log.specs.Record.{AreNoted, AreNotNoted, IsLineOfNote, IsLow, IsNoKind, IsNoRecord, Tell, letter, noted_fields, noting};
+ghost use Rattle.log_text.specs.Line.{AreTexts, IsPlain, field_and_tab, fields_text};
+ghost use Rattle.seen_log.specs.Record.{AreLow, AreNoted, AreNotNoted, AreNumbersFirst, IsLineFirst, IsLineOfNote, IsLow, IsNoKind, IsNoRecord, Tell, letter, noted_fields, noting, number_fields};
 ghost use Rattle.seen_log.specs.Log.{Notes};
 
 use crate::note::{Kind, Noted, Numbers};
 use crate::number::number_in;
 use log_text::{Field, end_line, number_of, push_number, push_text, without_dot};
-use memchr::memchr2;
+use memchr::memchr3;
 use std::alloc::AllocError;
 use std::str::from_utf8;
 
@@ -79,9 +79,83 @@ fn numbers_by(fields: &[Field<'_>]) -> Option<Numbers>
     }
 }
 
-/// The same of a line, where no byte of the path is written as two. It is read from front to back, number by number.
+/// What the line in front says, with its line feed, if it is a record's and no byte of its path is written as two: the path, what is noted of it,
+/// and what stands behind the line. It is read from front to back, and its end is not searched for.
+#[inline(always)]
+pub(crate) fn line_in(text: &str) -> Option<(&str, Noted, &str)>
+    ensures { IfSome result (λ said. IsLineFirst text.now (noting said.0.now said.1) said.2.now) }
+{
+    let (kind, named) = kind_in(text.as_bytes())?;
+    let (field, told) = front_in(named)?;
+    let (numbers, ended) = numbers_in(told)?;
+    let left = behind_end(ended)?;
+    let path = path_at(text, field.len())?;
+    let rest = last_of(text, left.len())?;
+    Some((
+        path,
+        Noted {
+            kind,
+            stamp: numbers.stamp,
+            size: numbers.size,
+            number: numbers.number,
+        },
+        rest,
+    ))
+}
+
+/// The numbers whose fields stand in front, and what stands behind them.
+#[inline(always)]
+fn numbers_in(bytes: &[u8]) -> Option<(Numbers, &[u8])>
+    ensures found { IfSome result (λ parts. AreNumbersFirst bytes.now parts.0 parts.1.now) }
+    ensures utf8 { IfSome result (λ parts. AreTexts (number_fields parts.0)) }
+    ensures low { IfSome result (λ parts. AreLow parts.0) }
+{
+    let (stamp, sized) = number_in(bytes)?;
+    let (size, numbered) = number_in(sized)?;
+    let (number, rest) = number_in(numbered)?;
+    Some((
+        Numbers {
+            stamp,
+            size,
+            number,
+        },
+        rest,
+    ))
+}
+
+/// What stands behind the end of a line in front, and behind its line feed.
+#[inline(always)]
+fn behind_end(bytes: &[u8]) -> Option<&[u8]>
+    ensures { IfSome result (λ after. bytes.now ≡ 46 ∷ 10 ∷ after.now) }
+{
+    match bytes {
+        [b'.', b'\n', after @ ..] => Some(after),
+        _ => None,
+    }
+}
+
+/// As many bytes of a text as this, behind its first two.
+#[inline(always)]
+fn path_at(text: &str, len: usize) -> Option<&str>
+    ensures { IfSome result (λ path. path.now ≡ take len (drop 2 text.now)) }
+{
+    let (_, named) = text.split_at_checked(2)?;
+    let (path, _) = named.split_at_checked(len)?;
+    Some(path)
+}
+
+/// The last bytes of a text, so many.
+#[inline(always)]
+pub(crate) fn last_of(text: &str, len: usize) -> Option<&str>
+    ensures { IfSome result (λ last. (front back : List ℕ) → text.now ≡ front ++ back → length back ≡ len → last.now ≡ back) }
+{
+    let before = text.len().checked_sub(len)?;
+    let (_, last) = text.split_at_checked(before)?;
+    Some(last)
+}
+
+/// The same of a line without its line feed. It is read from front to back, number by number.
 pub(crate) fn plain_by(line: &[u8]) -> Option<(&str, Noted)>
-    requires { Lacks 10 line.now }
     ensures { IfSome result (λ said. IsLineOfNote line.now (noting said.0.now said.1)) }
 {
     let front = without_dot(line)?;
@@ -106,9 +180,7 @@ pub(crate) fn plain_by(line: &[u8]) -> Option<(&str, Noted)>
 
 /// The text of the field in front, and what stands behind its tab, where no byte of the text is written as two.
 fn path_in(bytes: &[u8]) -> Option<(&str, &[u8])>
-    requires { Lacks 10 bytes.now }
-    ensures found { IfSome result (λ parts. bytes.now ≡ field_and_tab parts.0.now ++ parts.1.now) }
-    ensures line_feed { IfSome result (λ parts. Lacks 10 parts.1.now) }
+    ensures { IfSome result (λ parts. bytes.now ≡ field_and_tab parts.0.now ++ parts.1.now) }
 {
     let (field, after) = front_in(bytes)?;
     match from_utf8(field) {
@@ -117,13 +189,13 @@ fn path_in(bytes: &[u8]) -> Option<(&str, &[u8])>
     }
 }
 
-/// What stands before the first tab, if no backslash does, and what stands behind it.
+/// What stands before the first tab, if neither a backslash nor a line feed does, and what stands behind it.
+#[inline(always)]
 fn front_in(bytes: &[u8]) -> Option<(&[u8], &[u8])>
     ensures found { IfSome result (λ parts. bytes.now ≡ parts.0.now ++ 9 ∷ parts.1.now) }
-    ensures tab { IfSome result (λ parts. Lacks 9 parts.0.now) }
-    ensures backslash { IfSome result (λ parts. Lacks 92 parts.0.now) }
+    ensures plain { IfSome result (λ parts. IsPlain parts.0.now) }
 {
-    let place = memchr2(b'\t', b'\\', bytes)?;
+    let place = memchr3(b'\\', b'\t', b'\n', bytes)?;
     if bytes[place] != b'\t' {
         return None;
     }
@@ -131,6 +203,7 @@ fn front_in(bytes: &[u8]) -> Option<(&[u8], &[u8])>
 }
 
 /// The kind whose letter stands in front, with a tab, and what stands behind.
+#[inline(always)]
 fn kind_in(front: &[u8]) -> Option<(Kind, &[u8])>
     ensures { IfSome result (λ parts. front.now ≡ letter parts.0 ∷ 9 ∷ parts.1.now) }
 {

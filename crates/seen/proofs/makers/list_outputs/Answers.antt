@@ -1,9 +1,9 @@
-use Rattle.std.proofs.Common.{◌≡◌, ◌<◌, ◌++◌, ◌+◌, ◌∷◌, [], ◌∙◌, ℕ, suc, true, length, take, get_or, slice_get, List, Some, None, Vec, Global, ap, sym, subst, string_bytes}
+use Rattle.std.proofs.Common.{◌≡◌, ◌<◌, ◌++◌, ◌+◌, ◌∷◌, [], ◌∙◌, ℕ, suc, true, length, take, get_or, slice_get, List, Some, None, Vec, Global, ap, sym, subst}
 use Rattle.paths.specs.Lists.{line_at, line_outputs}
 use Rattle.seen.specs.Makers.{are_below, pairs_of, texts_with}
 use Rattle.seen.specs.declared.makers.Output.{Output}
 use Rattle.seen.proofs.Making.{below_more, none_more, text_more}
-use Rattle.seen.proofs.makers.list_outputs.Goals.{in-Some+in_ok-from_str+in_ok-push, in_default-get}
+use Rattle.seen.proofs.makers.list_outputs.Goals.{in-Some+in_ok-try_alloc_str+in_ok-push, in_default-get}
 use Rattle.seen.proofs.makers.list_outputs.Goals as goal
 
 pub loop-output-preserved : goal.loop-output-preserved
@@ -18,11 +18,11 @@ loop-output-preserved c =
     let below : i < length outputs = subst (λ (l : List ℕ). i < length l) its c.loop-output-test.true in
     let at : get_or outputs i n ≡ n = ap (λ (l : List ℕ). get_or l i n) (sym {A = List ℕ} its) ∙ sym c.output-item.is in
     elim c.match-get.branch [
-      | in-Some+in_ok-from_str+in_ok-push w ↦
-          let o : Output = record { text = w.in_ok-from_str.field-0; job = w.job.result } in
+      | in-Some+in_ok-try_alloc_str+in_ok-push w ↦
+          let o : Output = record { text = w.in_ok-try_alloc_str.field-0; job = w.job.result } in
           let grown : c.match-get.listed.items ≡ c.loop-output.listed.items ++ o ∷ [] = ap (λ (v : Vec Output Global). v.items) w.listed-is ∙ w.in_ok-push.ensures.items in
           let started : o.job ≡ job = w.job.ensures ∙ ap suc c.edge-edge.ensures in
-          let text : slice_get paths (get_or outputs i n) ≡ Some (string_bytes o.text) = ap (slice_get paths) at ∙ (sym w.in-Some.ensures ∙ ap (λ (t : List ℕ). Some t) (sym w.in_ok-from_str.ensures.ok)) in
+          let text : slice_get paths (get_or outputs i n) ≡ Some o.text.now = ap (slice_get paths) at ∙ (sym w.in-Some.ensures ∙ ap (λ (t : List ℕ). Some t) (sym w.in_ok-try_alloc_str.ensures)) in
           record {
             below = λ jobs low all.
                 subst (λ (os : List Output). are_below jobs os ≡ true) (sym {A = List Output} grown)
