@@ -1,4 +1,4 @@
-use Rattle.std.proofs.Common.{rules, ◌≡◌, ◌∷◌, ◌++◌, [], List, ℕ, sym, ap, ◌∙◌}
+use Rattle.std.proofs.Common.{rules, ◌≡◌, ◌∷◌, ◌++◌, [], List, ℕ, refl, sym, ap, ◌∙◌}
 use Rattle.std.specs.Str.{IsUtf8}
 use Rattle.log_text.specs.declared.form.Version.TheVariants.{Two}
 use Rattle.log_text.specs.Form.{record_line}
@@ -18,9 +18,10 @@ returns c =
     let told = c.in_ok-field.told.now in
     let left = c.in_ok-left.left.now in
     let path = c.in_ok-path.path.now in
-    let same : path ≡ field = part_is text named field told path _ 9 _ c.in_ok-path.ensures c.len-field.ensures c.in_ok-kind.ensures c.in_ok-field.ensures.found in
-    let spelled = first_line_is text named field told c.in_ok-numbers.ended.now left path noted c.in_ok-kind.ensures c.in_ok-field.ensures.found c.in_ok-field.ensures.plain c.in_ok-numbers.ensures.found c.in_ok-left.ensures same in
-    let rest : c.in_ok-rest.rest.now ≡ left = c.in_ok-rest.ensures (record_line (forms Two) (noting path noted)) left spelled c.len-left.ensures in
+    let begins = sym c.as_bytes.ensures.value ∙ c.in_ok-kind.ensures in
+    let same : path ≡ field = part_is text named field told path _ 9 _ c.in_ok-path.ensures refl begins c.in_ok-field.ensures.found in
+    let spelled = first_line_is text named field told c.in_ok-numbers.ended.now left path noted begins c.in_ok-field.ensures.found c.in_ok-field.ensures.plain c.in_ok-numbers.ensures.found c.in_ok-left.ensures same in
+    let rest : c.in_ok-rest.rest.now ≡ left = c.in_ok-rest.ensures (record_line (forms Two) (noting path noted)) left spelled refl in
     let utf8 : IsUtf8 path = search rules in (
       spelled ∙ ap (λ (l : List ℕ). record_line (forms Two) (noting path noted) ++ l) (sym rest),
       record {
