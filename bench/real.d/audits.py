@@ -24,7 +24,6 @@ END = re.compile(r"nj: audit: (\d+) of (\d+) commands of the cone looked at, (\d
 KNOWN = [
     ("cmake", r".*: takes .*, which build lines name as .*, and as .* \(a path is the only name of its file\), commands: \d+",
      "CMake names what a custom command makes by its path in the folder, and from the root"),
-    ("cmake-terminal", r"listed\.txt: reads (listed|by)\.txt, its own output, as an earlier run left it.*", "`cmake -E touch` leaves what stands in the file"),
     ("cmake-terminal", r"listed\.txt: writes listed\.d, which is neither its output nor scratch.*",
      "CMake makes another depfile of the one that the command wrote, which stays"),
     ("cmake-terminal", r"CMakeFiles/each_time: did not write CMakeFiles/each_time, .*", "the output of a custom target is a name, and no file"),

@@ -5,6 +5,7 @@ use Rattle.model.specs.Graph.{has}
 use Rattle.paths.specs.Numbers.{HaveOnePlace}
 use Rattle.trace.specs.declared.fact.Deed.{Deed}
 use Rattle.audit.specs.declared.used.Use.{Use}
+use Rattle.audit.specs.declared.seen.By.{By}
 use Rattle.audit.specs.declared.seen.Whole.{Whole}
 use Rattle.audit.specs.Uses.{unused, with_deed}
 use Rattle.audit.specs.Seen.{Sums, again_at, put_last, use_again, with_all_done, with_done, with_untouched}
@@ -57,8 +58,8 @@ none_left : (sums : Sums) (wholes : List Whole) → with_all_done sums wholes []
 none_left sums [] = refl
 none_left sums (whole ∷ wholes) = refl
 
-pub done_early : (sums : Sums) (wholes : List Whole) (reals : List Bool) (n : ℕ) → length reals ≤ n → with_all_done sums (drop n wholes) (drop n reals) ≡ sums
-done_early sums wholes reals n at = ap (λ (rs : List Bool). with_all_done sums (drop n wholes) rs) (past_all reals n at) ∙ none_left sums (drop n wholes)
+pub done_early : (sums : Sums) (wholes : List Whole) (bys : List By) (n : ℕ) → length bys ≤ n → with_all_done sums (drop n wholes) (drop n bys) ≡ sums
+done_early sums wholes bys n at = ap (λ (bs : List By). with_all_done sums (drop n wholes) bs) (past_all bys n at) ∙ none_left sums (drop n wholes)
 
 pub touched_next : (sums : Sums) (paths : List (List ℕ)) (n : ℕ) (path : List ℕ) → slice_get paths n ≡ Some path
     → with_untouched sums (drop n paths) ≡ with_untouched (if has sums.paths path then sums else put_last sums path unused) (drop (n + 1) paths)

@@ -23,9 +23,13 @@ unfoldable pub is_order_only : Place → Use → Bool
 is_order_only place used =
     (((counts place && looks used) && not (place.input || place.reported)) && not (place.output || place.side)) && place.order_only
 
--- it is an output of its own that was read before it was written
+-- it is an output of its own that was read before it was made anew
 abbrev pub is_read_itself : Place → Use → Bool
-is_read_itself place used = place.output && used.reads
+is_read_itself place used = place.output && used.takes
+
+-- it is an output of its own that was written into, so that a part of what stood there may be left
+abbrev pub is_kept : Place → Use → Bool
+is_kept place used = (place.output && used.keeps) && not used.takes
 
 -- what is read is a source, or made above
 unfoldable pub is_not_above : Place → Use → Bool
@@ -53,8 +57,9 @@ spoils_stray place =
 abbrev pub is_scratch : Use → Bool
 is_scratch used = used.gone && not used.removes
 
+-- an output was not written, or is gone
 unfoldable pub is_unwritten : Place → Use → Bool
-is_unwritten place used = (place.output && not place.restat) && not used.writes
+is_unwritten place used = place.output && (used.gone || not (place.restat || used.writes))
 
 -- ---- what is told
 
@@ -63,9 +68,10 @@ when is finding = if is then finding ∷ [] else []
 
 unfoldable pub found_read : Place → Use → List Finding
 found_read place used =
-    (((when (is_unreported place used) found.Unreported
+    ((((when (is_unreported place used) found.Unreported
     ++ when (is_order_only place used) found.OrderOnly)
     ++ when (is_read_itself place used) found.Itself)
+    ++ when (is_kept place used) found.Kept)
     ++ when (is_not_above place used) found.NotAbove)
     ++ when (is_listed place used) found.Listed
 

@@ -9,6 +9,8 @@ use Rattle.trace.specs.declared.fact.Deed.TheVariants.{Connected}
 use Rattle.audit.specs.declared.seen.Uses.{Uses}
 use Rattle.audit.specs.declared.used.Use.{Use}
 use Rattle.audit.specs.declared.seen.Whole.{Whole}
+use Rattle.audit.specs.declared.seen.By.{By}
+use Rattle.audit.specs.declared.seen.By.TheVariants.{Name, Kernel, Both}
 use Rattle.audit.specs.Uses.{unused, with_deed}
 
 abbrev pub IsPath : List ℕ → List ℕ → Type 0
@@ -35,6 +37,7 @@ pub record IsWholeOf (fact : Fact) (whole : Whole) : Type 0 where
   pub deed : whole.deed ≡ fact.deed
   pub path : IsCanonical fact.path whole.path
   pub real : IsRealOf fact.real whole.real
+  pub up : whole.up ≡ fact.up
 
 abbrev pub AreWhole : List Fact → List Whole → Type 0
 AreWhole = AllZip IsWholeOf
@@ -80,12 +83,17 @@ abbrev pub path_by : Whole → Bool → List ℕ
 path_by whole false = whole.path
 path_by whole true = unwrap_or whole.real whole.path
 
--- these things were done, one after another, each by the path that is asked for
-abbrev pub with_all_done : Sums → List Whole → List Bool → Sums
-with_all_done sums [] reals = sums
+-- one thing more was done, by the path that is asked for, or by both
+abbrev pub with_taken : Sums → Whole → By → Sums
+with_taken sums whole Name = with_done sums (path_by whole false) whole.deed
+with_taken sums whole Kernel = with_done sums (path_by whole true) whole.deed
+with_taken sums whole Both = with_done (with_done sums (path_by whole false) whole.deed) (path_by whole true) whole.deed
+
+-- these things were done, one after another, each by the path that is asked for, or by both
+abbrev pub with_all_done : Sums → List Whole → List By → Sums
+with_all_done sums [] bys = sums
 with_all_done sums (whole ∷ wholes) [] = sums
-with_all_done sums (whole ∷ wholes) (real ∷ reals) =
-    with_all_done (with_done sums (path_by whole real) whole.deed) wholes reals
+with_all_done sums (whole ∷ wholes) (by ∷ bys) = with_all_done (with_taken sums whole by) wholes bys
 
 -- the paths at which nothing was done go last
 abbrev pub with_untouched : Sums → List (List ℕ) → Sums

@@ -1,7 +1,7 @@
 //! What breaks a premise.
 
 ghost use Rattle.std.specs.Prelude.{◌≡◌, ◌++◌, OnOk, IfOk, []};
-ghost use Rattle.audit.specs.Findings.{counts, findings, found_read, found_removed, found_written, is_listed, is_not_above, is_order_only, is_read_itself, is_strange, is_unreported, is_unwritten, looks, spoils_known, spoils_made, spoils_stray, when};
+ghost use Rattle.audit.specs.Findings.{counts, findings, found_read, found_removed, found_written, is_kept, is_listed, is_not_above, is_order_only, is_read_itself, is_scratch, is_strange, is_unreported, is_unwritten, looks, spoils_known, spoils_made, spoils_stray, when};
 
 use crate::place::Place;
 use crate::used::Use;
@@ -17,6 +17,8 @@ pub enum Finding {
     OrderOnly,
     /// It reads an output that an earlier run of it left.
     Itself,
+    /// It writes into an output that an earlier run of it left.
+    Kept,
     /// It reads what another command makes that is not above it.
     NotAbove,
     /// It lists a folder.
@@ -43,6 +45,7 @@ impl Finding {
         match self {
             Finding::Unreported | Finding::OrderOnly | Finding::Itself | Finding::NotAbove =>
                 "reads",
+            Finding::Kept => "writes into",
             Finding::Listed => "lists",
             Finding::WritesMade | Finding::WritesKnown | Finding::WritesStray => "writes",
             Finding::RemovesMade | Finding::RemovesKnown | Finding::RemovesStray => "removes",
@@ -56,6 +59,7 @@ impl Finding {
             Finding::Unreported => ", which is neither an input nor in its depfile",
             Finding::OrderOnly => ", an order-only input that is not in its depfile",
             Finding::Itself => ", its own output, as an earlier run left it",
+            Finding::Kept => ", its own output, without emptying it first",
             Finding::NotAbove => ", which a command makes that is not above it",
             Finding::Listed => "/, and a file made there later would not be seen",
             Finding::WritesMade | Finding::RemovesMade => ", which another command makes",
@@ -69,9 +73,11 @@ impl Finding {
     /// Which premise is broken.
     pub fn premise(self) -> &'static str {
         match self {
-            Finding::Unreported | Finding::OrderOnly | Finding::Itself | Finding::Listed => {
-                "depends only on its inputs and on what it reports"
-            }
+            Finding::Unreported
+            | Finding::OrderOnly
+            | Finding::Itself
+            | Finding::Kept
+            | Finding::Listed => "depends only on its inputs and on what it reports",
             Finding::NotAbove => "reports only what is made above it",
             Finding::WritesMade
             | Finding::WritesKnown
@@ -115,6 +121,7 @@ fn push_read(found: &mut Items<Finding>, place: Place, used: Use) -> Result<(), 
     push_if(found, is_unreported(place, used), Finding::Unreported)?;
     push_if(found, is_order_only(place, used), Finding::OrderOnly)?;
     push_if(found, is_read_itself(place, used), Finding::Itself)?;
+    push_if(found, is_kept(place, used), Finding::Kept)?;
     push_if(found, is_not_above(place, used), Finding::NotAbove)?;
     push_if(found, is_listed(place, used), Finding::Listed)?;
     Ok(())
@@ -125,7 +132,6 @@ fn push_read(found: &mut Items<Finding>, place: Place, used: Use) -> Result<(), 
 fn push_written(found: &mut Items<Finding>, place: Place, used: Use) -> Result<(), AllocError>
     ensures { OnOk result (found.new ≡ found.old ++ found_written place used) }
 {
-    let is_scratch = used.gone && !used.removes;
     push_if(
         found,
         used.writes && spoils_made(place),
@@ -138,7 +144,7 @@ fn push_written(found: &mut Items<Finding>, place: Place, used: Use) -> Result<(
     )?;
     push_if(
         found,
-        used.writes && spoils_stray(place) && !is_scratch,
+        used.writes && spoils_stray(place) && !is_scratch(used),
         Finding::WritesStray,
     )?;
     Ok(())
@@ -208,7 +214,21 @@ fn is_order_only(place: Place, used: Use) -> bool
 fn is_read_itself(place: Place, used: Use) -> bool
     ensures { result ≡ is_read_itself place used }
 {
-    place.output && used.reads
+    place.output && used.takes
+}
+
+/// Whether a part of what stood at an output may be left there.
+fn is_kept(place: Place, used: Use) -> bool
+    ensures { result ≡ is_kept place used }
+{
+    place.output && used.keeps && !used.takes
+}
+
+/// Whether what it wrote it has removed, and nothing stood there before.
+fn is_scratch(used: Use) -> bool
+    ensures { result ≡ is_scratch used }
+{
+    used.gone && !used.removes
 }
 
 #[tactic(auto, unfolding(crate::specs::Findings::is_not_above))]
@@ -261,5 +281,5 @@ fn spoils_stray(place: Place) -> bool
 fn is_unwritten(place: Place, used: Use) -> bool
     ensures { result ≡ is_unwritten place used }
 {
-    place.output && !place.restat && !used.writes
+    place.output && (used.gone || !(place.restat || used.writes))
 }

@@ -10,5 +10,5 @@ mod used;
 pub use breach::{Breach, breaches};
 pub use finding::{Finding, findings};
 pub use place::{Around, Lists, Place, place_of};
-pub use seen::{Uses, Whole, canonical_at, connects, uses_of, wholes_of};
+pub use seen::{By, Uses, Whole, canonical_at, connects, uses_of, wholes_of};
 pub use used::Use;

@@ -6,7 +6,7 @@ ghost use Rattle.std.specs.Option.{option_map};
 ghost use Rattle.std.specs.Map.Iter.{deref};
 ghost use Rattle.model.specs.Graph.{has};
 ghost use Rattle.audit.specs.Uses.{unused};
-ghost use Rattle.audit.specs.Seen.{AreWhole, IsPath, IsWhole, IsWholeOf, again_at, is_connected, no_sums, path_by, put_last, sums_in, with_all_done, with_done, with_untouched};
+ghost use Rattle.audit.specs.Seen.{AreWhole, IsPath, IsWhole, IsWholeOf, again_at, is_connected, no_sums, path_by, put_last, sums_in, with_all_done, with_done, with_taken, with_untouched};
 
 use crate::used::Use;
 use lexer::{ReadFault, canonical};
@@ -23,6 +23,19 @@ pub struct Whole {
     pub path: Path,
     /// By which path the kernel has the file, where the trace tells it.
     pub real: Option<Path>,
+    /// The path went up behind a name before it was made canonical.
+    pub up: bool,
+}
+
+/// By which of its two paths a thing counts that was done.
+#[derive(Clone, Copy, Debug, PartialEq, Eq)]
+pub enum By {
+    /// By the one that was given.
+    Name,
+    /// By the one that the kernel has, if it is known.
+    Kernel,
+    /// By each of them.
+    Both,
 }
 
 /// The facts with their paths in canonical form; none where a path is no text.
@@ -47,11 +60,13 @@ fn whole_of(alloc: Global, fact: &Fact) -> Result<Option<Whole>, AllocError>
         return Ok(None);
     };
     let deed = fact.deed;
+    let up = fact.up;
     let Some(real) = &fact.real else {
         return Ok(Some(Whole {
             deed,
             path,
             real: None,
+            up,
         }));
     };
     match path_of(alloc, real)? {
@@ -59,6 +74,7 @@ fn whole_of(alloc: Global, fact: &Fact) -> Result<Option<Whole>, AllocError>
             deed,
             path,
             real: Some(real),
+            up,
         })),
         None => Ok(None),
     }
@@ -141,6 +157,20 @@ impl Uses {
         self.uses.get(place).copied()
     }
 
+    /// Takes in one thing more that was done, by the path that is asked for, or by both.
+    fn take_by(&mut self, alloc: Global, whole: &Whole, by: By) -> Result<(), AllocError>
+        ensures { OnOk result (sums_in self.new ≡ with_taken (sums_in self.old) whole.now by) }
+    {
+        match by {
+            By::Name => self.take(alloc, path_by(whole, false), whole.deed),
+            By::Kernel => self.take(alloc, path_by(whole, true), whole.deed),
+            By::Both => {
+                self.take(alloc, path_by(whole, false), whole.deed)?;
+                self.take(alloc, path_by(whole, true), whole.deed)
+            }
+        }
+    }
+
     /// Takes in one thing more that was done.
     fn take(&mut self, alloc: Global, path: &str, deed: Deed) -> Result<(), AllocError>
         ensures { OnOk result (sums_in self.new ≡ with_done (sums_in self.old) path.now deed) }
@@ -217,17 +247,17 @@ fn path_at(paths: &Paths, place: usize) -> Option<&str>
     }
 }
 
-/// What a command did, path by path: each thing by its path, or where that is asked for by the one that the kernel has, if it is known.
-pub fn uses_of(alloc: Global, wholes: &[Whole], reals: &[bool]) -> Result<Uses, AllocError>
-    ensures { IfOk result (λ uses. sums_in uses ≡ with_all_done no_sums wholes.now reals.now) }
+/// What a command did, path by path: each thing by its path, or by the one that the kernel has, if it is known, or by both, as is asked for.
+pub fn uses_of(alloc: Global, wholes: &[Whole], bys: &[By]) -> Result<Uses, AllocError>
+    ensures { IfOk result (λ uses. sums_in uses ≡ with_all_done no_sums wholes.now bys.now) }
 {
     let mut uses = Uses::none(alloc);
     for place in 0..wholes.len() {
-        let Some(by_real) = reals.get(place) else {
+        let Some(by) = bys.get(place) else {
             return Ok(uses);
         };
         let whole = &wholes[place];
-        uses.take(alloc, path_by(whole, *by_real), whole.deed)?;
+        uses.take_by(alloc, whole, *by)?;
     }
     Ok(uses)
 }

@@ -1,7 +1,7 @@
 //! What a command did at one path.
 
 ghost use Rattle.std.specs.Prelude.{◌≡◌, false};
-ghost use Rattle.audit.specs.Uses.{unused, with_deed};
+ghost use Rattle.audit.specs.Uses.{is_new, unused, with_deed};
 
 use trace::Deed;
 
@@ -22,6 +22,12 @@ pub struct Use {
     pub removes: bool,
     /// What it wrote last is gone.
     pub gone: bool,
+    /// It made anew what stands there.
+    pub own: bool,
+    /// It read what it had not made anew.
+    pub takes: bool,
+    /// It wrote into what stood there before, and has not made it anew since.
+    pub keeps: bool,
     /// A folder is there.
     pub is_folder: bool,
     /// It made that folder.
@@ -41,9 +47,19 @@ impl Use {
             writes: false,
             removes: false,
             gone: false,
+            own: false,
+            takes: false,
+            keeps: false,
             is_folder: false,
             made_folder: false,
         }
+    }
+
+    /// Whether nothing of an earlier run stands there.
+    fn is_new(self) -> bool
+        ensures { result ≡ is_new self }
+    {
+        self.own || self.misses || self.removes || self.gone
     }
 
     /// The same, and this deed after it.
@@ -53,6 +69,7 @@ impl Use {
         match deed {
             Deed::Read => Use {
                 reads: self.reads || !self.writes,
+                takes: self.takes || !self.is_new(),
                 ..self
             },
             Deed::Asked => Use {
@@ -67,7 +84,21 @@ impl Use {
                 lists: self.lists || !self.made_folder,
                 ..self
             },
-            Deed::Wrote => Use {
+            Deed::Wrote | Deed::Linked => Use {
+                writes: true,
+                gone: false,
+                own: true,
+                keeps: false,
+                ..self
+            },
+            Deed::Into => Use {
+                writes: true,
+                gone: false,
+                own: self.is_new(),
+                keeps: self.keeps || !self.is_new(),
+                ..self
+            },
+            Deed::Stamped => Use {
                 writes: true,
                 gone: false,
                 ..self
@@ -86,7 +117,7 @@ impl Use {
                 made_folder: true,
                 ..self
             },
-            Deed::Connected => self,
+            Deed::Sought | Deed::Connected => self,
         }
     }
 }

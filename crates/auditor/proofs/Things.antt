@@ -7,4 +7,4 @@ use Rattle.auditor.specs.Things.{IsGiven}
 -- all have the names that they had
 pub all_given : (wholes : List Whole) → AllZip IsGiven wholes wholes
 all_given [] = tt
-all_given (whole ∷ wholes) = (record { deed = refl; real = refl; path = λ is. refl }, all_given wholes)
+all_given (whole ∷ wholes) = (record { deed = refl; real = refl; up = refl; path = λ is. refl }, all_given wholes)

@@ -5,6 +5,7 @@ use Rattle.trace.specs.Lines.{told}
 use Rattle.audit.specs.declared.place.Lists.{Lists}
 use Rattle.audit.specs.declared.place.Around.{Around}
 use Rattle.audit.specs.Breaches.{breaches}
+use Rattle.audit.specs.declared.seen.By.{By}
 use Rattle.audit.specs.declared.seen.Whole.{Whole}
 use Rattle.audit.specs.Seen.{Sums, no_sums, with_all_done, with_untouched}
 use Rattle.auditor.specs.declared.tally.Counts.{Counts}
@@ -41,11 +42,11 @@ pub record IsCountedBy (scratch : Scratch) (lists : Lists) (sums : Sums) (old ne
   pub found : keeps ≡ true → breaches lists arounds sums ≡ []
   pub is : new ≡ with_one old keeps
 
--- what these things come to, each of them by one of its two paths, and at each output of the command
+-- what these things come to, each of them by one of its two paths or by both, and at each output of the command
 pub record AreSums (wholes : List Whole) (outputs : List (List ℕ)) (sums : Sums) : Type 0 where
-  pub reals : List Bool
-  pub each : length reals ≡ length wholes
-  pub are : sums ≡ with_untouched (with_all_done no_sums wholes reals) outputs
+  pub bys : List By
+  pub each : length bys ≡ length wholes
+  pub are : sums ≡ with_untouched (with_all_done no_sums wholes bys) outputs
 
 -- of a command that did these things
 pub record IsCountedOf (scratch : Scratch) (wholes : List Whole) (old new : Counts) : Type 0 where

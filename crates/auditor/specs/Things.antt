@@ -17,6 +17,7 @@ may_be_renamed _ = false
 pub record IsGiven (whole named : Whole) : Type 0 where
   pub deed : named.deed ≡ whole.deed
   pub real : named.real ≡ whole.real
+  pub up : named.up ≡ whole.up
   pub path : may_be_renamed whole.deed ≡ false → named.path ≡ whole.path
 
 -- that folders are there was put behind these things

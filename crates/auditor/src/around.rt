@@ -96,10 +96,10 @@ impl Names {
         self.makers.get(path).copied().flatten()
     }
 
-    /// Whether a record in force names the path as an output.
+    /// Whether a record in force names the path as an output, from the working folder or from the root.
     fn is_recorded(&self, path: &str) -> bool {
         match &self.log {
-            Some(log) => log.lookup(self.short(path)).is_some(),
+            Some(log) => { log.lookup(self.short(path)).is_some() || log.lookup(path).is_some() }
             None => false,
         }
     }

@@ -33,6 +33,7 @@ fn push_all(alloc: Global, folders: &Paths, wholes: &mut Items<Whole>) -> Result
                 deed: Deed::Folder,
                 path: Path::from_str(alloc, folders.get(number).unwrap_or(""))?,
                 real: None,
+                up: false,
             })?;
         }
     }
@@ -61,7 +62,7 @@ fn folders_in(
 
 /// Whether something was at the path of such a thing, before it or after it.
 fn was_there(deed: Deed) -> bool {
-    deed != Deed::Missed && deed != Deed::Connected
+    deed != Deed::Missed && deed != Deed::Sought && deed != Deed::Connected
 }
 
 /// The path that the kernel has, where it is known.

@@ -6,6 +6,7 @@ ghost use Rattle.auditor.specs.Things.{IsGiven, may_be_renamed};
 
 use crate::around::Names;
 use crate::scratch::Scratch;
+use crate::ways::counts_by_given;
 use audit::Whole;
 use indexmap::IndexMap;
 use std::alloc::{AllocError, Global};
@@ -44,7 +45,7 @@ fn renamed_all(
     Ok(renamed)
 }
 
-/// For the kernel's name of each file that was opened by another name which counts that name.
+/// For the kernel's name of each file that was opened by another name, by which that counts, the other name.
 fn given_names(
     alloc: Global,
     names: &Names,
@@ -54,7 +55,7 @@ fn given_names(
     let mut given = IndexMap::new(alloc);
     for whole in wholes {
         if let Some(real) = &whole.real {
-            if *real != whole.path && scratch.counts_by_name(names, whole.path.as_str()) {
+            if *real != whole.path && counts_by_given(names, scratch, whole) {
                 push_name(alloc, real.as_str(), whole.path.as_str(), &mut given)?;
             }
         }
@@ -83,17 +84,20 @@ fn renamed_by(
     ensures { IfOk result (IsGiven whole.now) }
 {
     let deed = whole.deed;
+    let up = whole.up;
     let Some(real) = &whole.real else {
         return Ok(Whole {
             deed,
             path: Path::from_str(alloc, name_by(given, deed, whole.path.as_str()))?,
             real: None,
+            up,
         });
     };
     Ok(Whole {
         deed,
         path: whole.path.clone()?,
         real: Some(real.clone()?),
+        up,
     })
 }
 

@@ -15,6 +15,7 @@ mod scratch;
 mod spelled;
 mod tally;
 mod twins;
+mod ways;
 
 pub use dyndeps::{dyndep_in, load};
 pub use outside::Outside;

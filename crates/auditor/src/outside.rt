@@ -47,7 +47,7 @@ impl Outside {
     pub fn take(&mut self, alloc: Global, names: &Names, uses: &Uses) -> Result<(), AllocError> {
         for place in 0..uses.len() {
             if let Some(path) = uses.path(place) {
-                if !names.counts(path) {
+                if path.starts_with('/') && !names.counts(path) {
                     self.take_at(alloc, path, uses.used(place).unwrap_or(Use::none()))?;
                 }
             }

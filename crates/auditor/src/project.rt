@@ -19,7 +19,8 @@ use crate::listed::{Declared, lists_of};
 use crate::scratch::Scratch;
 use crate::tally::Tally;
 use crate::twins::Twins;
-use audit::{Around, Breach, Lists, Use, Uses, Whole, breaches, connects, uses_of, wholes_of};
+use crate::ways::by_of;
+use audit::{Around, Breach, By, Lists, Use, Uses, Whole, breaches, connects, uses_of, wholes_of};
 use graph::Graph;
 use log_text::{BuildLog, DepsLog};
 use paths::{EdgeId, PathId, Paths};
@@ -222,22 +223,21 @@ impl Auditor {
     fn uses_in(&self, wholes: &[Whole], outputs: &Paths) -> Result<Uses, AllocError>
         ensures { IfOk result (λ uses. AreSums wholes.now outputs.now (sums_in uses)) }
     {
-        let reals = self.reals_of(wholes)?;
-        let mut uses = uses_of(self.alloc, wholes, reals.as_slice())?;
+        let bys = self.bys_of(wholes)?;
+        let mut uses = uses_of(self.alloc, wholes, bys.as_slice())?;
         uses.add_untouched(self.alloc, outputs)?;
         Ok(uses)
     }
 
-    /// By which path each of these counts: those that count by their names, but for scratch files, and the others by those that the kernel has.
-    fn reals_of(&self, wholes: &[Whole]) -> Result<Vec<bool>, AllocError>
-        ensures { IfOk result (λ reals. length reals.items ≡ length wholes.now) }
+    /// By which path each of these counts.
+    fn bys_of(&self, wholes: &[Whole]) -> Result<Vec<By>, AllocError>
+        ensures { IfOk result (λ bys. length bys.items ≡ length wholes.now) }
     {
-        let mut reals = Vec::with_capacity(self.alloc, wholes.len())?;
+        let mut bys = Vec::with_capacity(self.alloc, wholes.len())?;
         for whole in wholes {
-            let path = whole.path.as_str();
-            reals.push(!self.scratch.counts_by_name(&self.names, path))?;
+            bys.push(by_of(&self.names, &self.scratch, whole))?;
         }
-        Ok(reals)
+        Ok(bys)
     }
 
     /// Tells what breaks a premise, and answers how much it was.
@@ -341,13 +341,29 @@ impl Auditor {
         let mut count = 0usize;
         for place in 0..uses.len() {
             let path = uses.path(place).unwrap_or("");
-            if let Some(both) = self.twins.at(path) {
-                let path = self.names.short(path);
-                tally.spell(self.alloc, self.name_of(edge), path, both)?;
+            if let Some(spellings) = self.twins.at(path) {
+                self.tell_spelled(edge, path, spellings, tally)?;
                 count = count.saturating_add(1);
             }
         }
         Ok(count)
+    }
+
+    /// Takes in each pair in which build lines spell the file at this path, one on each line.
+    fn tell_spelled(
+        &self,
+        edge: EdgeId,
+        path: &str,
+        spellings: &str,
+        tally: &mut Tally,
+    ) -> Result<(), AllocError>
+        ensures { tally.new.counts ≡ tally.old.counts }
+    {
+        let path = self.names.short(path);
+        for both in spellings.split('\n') {
+            tally.spell(self.alloc, self.name_of(edge), path, both)?;
+        }
+        Ok(())
     }
 
     /// Notes of each file that was looked for and is not there, where a reported one of the same name was read after it: made later, it

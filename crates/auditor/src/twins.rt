@@ -5,7 +5,8 @@ use indexmap::IndexMap;
 use std::alloc::{AllocError, Global};
 use text::Path;
 
-/// Of each path that leads to the file of another one that is spelled otherwise in build lines, both of these spellings.
+/// Of each path that leads to the file of another one that is spelled otherwise in build lines, both of these spellings, and where there are
+/// more than two, each pair of the first one and another in which the path is.
 #[derive(Drop)]
 pub struct Twins {
     /// The first spelling of each file, by what tells it from others.
@@ -48,13 +49,15 @@ impl Twins {
     }
 
     fn spell(&mut self, alloc: Global, path: Path, both: &str) -> Result<(), AllocError> {
-        let _ = self
-            .spellings
-            .insert(path.into_string(), String::from_str(alloc, both)?)?;
+        let spellings = match self.spellings.get(path.as_str()) {
+            Some(others) => format!(in alloc; "{others}\n{both}")?,
+            None => String::from_str(alloc, both)?,
+        };
+        let _ = self.spellings.insert(path.into_string(), spellings)?;
         Ok(())
     }
 
-    /// How build lines spell the file at this path, if they do so in two ways.
+    /// How build lines spell the file at this path, if they do so in two ways: a line for each pair.
     pub fn at(&self, path: &str) -> Option<&str> {
         match self.spellings.get(path) {
             Some(both) => Some(both.as_str()),

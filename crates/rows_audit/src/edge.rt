@@ -1,7 +1,7 @@
 //! What breaks a premise of all that a command did.
 
 use crate::found::deed_of;
-use audit::{Around, Lists, Uses, Whole, breaches, uses_of};
+use audit::{Around, By, Lists, Uses, Whole, breaches, uses_of};
 use paths::Paths;
 use std::alloc::{AllocError, Global};
 use tables::{push_word, word};
@@ -37,34 +37,47 @@ fn listed(alloc: Global, paths: &str, name: &str) -> Result<Paths, AllocError> {
 }
 
 /// What was done path by path, and the outputs at which nothing was done. Behind an equals sign stands the path that the kernel has, by which a
-/// thing counts then.
+/// thing counts then; behind a plus one by which it counts too.
 fn uses_in(alloc: Global, deeds: &str, lists: &Lists) -> Result<Uses, AllocError> {
     let mut wholes = Items::new(alloc);
-    let mut reals = Vec::new(alloc);
+    let mut bys = Vec::new(alloc);
     for one in deeds.split(',') {
         if let Some((name, path)) = one.split_once(':') {
             if let Some(deed) = deed_of(name) {
-                reals.push(path.contains('='))?;
+                bys.push(by_in(path))?;
                 wholes.push(whole_of(alloc, deed, path)?)?;
             }
         }
     }
-    let mut uses = uses_of(alloc, wholes.as_slice(), reals.as_slice())?;
+    let mut uses = uses_of(alloc, wholes.as_slice(), bys.as_slice())?;
     uses.add_untouched(alloc, &lists.outputs)?;
     Ok(uses)
 }
 
+/// By which of the two paths in this text a thing counts.
+fn by_in(path: &str) -> By {
+    if path.contains('+') {
+        By::Both
+    } else if path.contains('=') {
+        By::Kernel
+    } else {
+        By::Name
+    }
+}
+
 fn whole_of(alloc: Global, deed: Deed, path: &str) -> Result<Whole, AllocError> {
-    match path.split_once('=') {
+    match path.split_once('=').or(path.split_once('+')) {
         Some((path, real)) => Ok(Whole {
             deed,
             path: Path::from_str(alloc, path)?,
             real: Some(Path::from_str(alloc, real)?),
+            up: false,
         }),
         None => Ok(Whole {
             deed,
             path: Path::from_str(alloc, path)?,
             real: None,
+            up: false,
         }),
     }
 }

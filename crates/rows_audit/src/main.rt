@@ -8,7 +8,7 @@
 //! words with commas between.
 //!
 //! `edge PATHS DEEDS` asks what breaks a premise of all that a command did: `output:b,input:a` and `read:a,wrote:b`. A path behind an equals
-//! sign is the one that the kernel has, by which that counts then.
+//! sign is the one that the kernel has, by which that counts then; behind a plus it counts by both.
 //!
 //! `tree FOLDER LINES` begins a tree: its working folder, from the root, and the lines of its build file. `log TEXT` and `deps TEXT` give it
 //! logs, `dyndep FILE TEXT` loads what a dyndep file of this name says. `audit TARGET..` tells how many commands these targets need, or else the

@@ -52,6 +52,10 @@ has_two doing.Moves = true
 has_two doing.Links = true
 has_two _ = false
 
+abbrev pub runs : Does → Bool
+runs doing.Runs = true
+runs _ = false
+
 abbrev pub opens : Does → Bool
 opens doing.Opens = true
 opens _ = false
@@ -97,14 +101,16 @@ opens_at name = bytes_eq name (codes "openat") || bytes_eq name (codes "openat2"
 abbrev pub lists : List ℕ → Bool
 lists name = bytes_eq name (codes "getdents") || bytes_eq name (codes "getdents64")
 
+abbrev pub makes : List ℕ → Bool
+makes name = bytes_eq name (codes "creat") || bytes_eq name (codes "mknod")
+
 abbrev pub changes : List ℕ → Bool
 changes name =
-    bytes_eq name (codes "truncate") || (bytes_eq name (codes "utime") || (bytes_eq name (codes "utimes") || (bytes_eq name (codes "mknod")
-    || (bytes_eq name (codes "setxattr") || (bytes_eq name (codes "lsetxattr") || (bytes_eq name (codes "removexattr")
-    || bytes_eq name (codes "lremovexattr")))))))
+    bytes_eq name (codes "utime") || (bytes_eq name (codes "utimes") || (bytes_eq name (codes "setxattr")
+    || (bytes_eq name (codes "lsetxattr") || (bytes_eq name (codes "removexattr") || bytes_eq name (codes "lremovexattr")))))
 
 abbrev pub changes_at : List ℕ → Bool
-changes_at name = bytes_eq name (codes "utimensat") || (bytes_eq name (codes "futimesat") || bytes_eq name (codes "mknodat"))
+changes_at name = bytes_eq name (codes "utimensat") || bytes_eq name (codes "futimesat")
 
 abbrev pub moves_at : List ℕ → Bool
 moves_at name = bytes_eq name (codes "renameat") || bytes_eq name (codes "renameat2")
@@ -129,8 +135,10 @@ row_of_look name =
 
 unfoldable pub row_of_change : List ℕ → Option Row
 row_of_change name =
-    option_or (option_or (option_or (option_or (option_or (option_or (option_or
-    (when (bytes_eq name (codes "creat")) doing.Creates by.Name)
+    option_or (option_or (option_or (option_or (option_or (option_or (option_or (option_or (option_or
+    (when (makes name) doing.Creates by.Name)
+    (when (bytes_eq name (codes "mknodat")) doing.Creates by.At))
+    (when (bytes_eq name (codes "truncate")) doing.Cuts by.Name))
     (when (changes name) doing.Changes by.Name))
     (when (changes_at name) doing.Changes by.At))
     (when (bytes_eq name (codes "mkdir")) doing.Folders by.Name))

@@ -1,5 +1,5 @@
 -- What a call did at its paths.
-use Rattle.std.specs.Prelude.{ℕ, ◌&&◌, ◌||◌, not, List, [], ◌∷◌, ◌++◌, Option, Some, None, option_map, option_and_then, codes, if◌then◌else◌}
+use Rattle.std.specs.Prelude.{ℕ, ◌&&◌, ◌||◌, not, Bool, List, [], ◌∷◌, ◌++◌, Option, Some, None, option_map, option_and_then, codes, if◌then◌else◌}
 use Rattle.std.specs.Str.{is_utf8}
 use Rattle.trace.specs.declared.calls.Row.{Row}
 use Rattle.trace.specs.declared.calls.Does.{Does}
@@ -8,13 +8,13 @@ use Rattle.trace.specs.declared.calls.Form.{Form}
 use Rattle.trace.specs.declared.ending.End.{End}
 use Rattle.trace.specs.declared.ending.End.TheVariants as ending
 use Rattle.trace.specs.declared.fact.Deed.{Deed}
-use Rattle.trace.specs.declared.fact.Deed.TheVariants.{Read, Wrote, Removed, Listed, Asked, Missed, Folder, Made}
+use Rattle.trace.specs.declared.fact.Deed.TheVariants.{Read, Wrote, Into, Stamped, Linked, Removed, Listed, Asked, Missed, Sought, Folder, Made}
 use Rattle.trace.specs.declared.fact.Fact.{Fact}
 use Rattle.trace.specs.declared.facts.Paths.{Paths}
 use Rattle.trace.specs.declared.parts.Call.{Call}
 use Rattle.trace.specs.Marks.{cut, has}
 use Rattle.trace.specs.Arguments.{behind, descriptor, first_argument, is_rooted, path_at}
-use Rattle.trace.specs.Calls.{ending_of, has_two, is_of_folders, leads, row_named}
+use Rattle.trace.specs.Calls.{ending_of, has_two, is_of_folders, leads, row_named, runs}
 
 -- ---- a call as it is written
 
@@ -77,8 +77,12 @@ paths_of call folder = paths_from call folder (arguments_for call.row.does call.
 
 -- ---- what was done there
 
+-- the path goes up behind a name
+abbrev pub goes_up : List ℕ → Bool
+goes_up path = has (codes "/..") path
+
 abbrev pub told : Deed → List ℕ → Option (List ℕ) → Fact
-told deed path real = record { deed = deed; path = path; real = real }
+told deed path real = record { deed = deed; path = path; real = real; up = goes_up path }
 
 abbrev pub fact : Deed → List ℕ → Fact
 fact deed path = told deed path None
@@ -90,15 +94,27 @@ looked arguments = if has (codes "S_IFDIR") arguments then Folder else Asked
 abbrev pub removed : List ℕ → Deed
 removed arguments = if has (codes "AT_REMOVEDIR") arguments then Folder else Removed
 
--- What a file is opened for by these flags. What is put behind what a file holds, or written over a part of it by who may read it too,
--- depends on what it held.
+-- by these flags a file is empty once it is opened
+abbrev pub empties : List ℕ → Bool
+empties arguments = has (codes "O_TRUNC") arguments || (has (codes "O_CREAT") arguments && has (codes "O_EXCL") arguments)
+
+-- these flags are those of `touch`, which writes nothing
+abbrev pub only_stamps : List ℕ → Bool
+only_stamps arguments = has (codes "O_NOCTTY") arguments && has (codes "O_NONBLOCK") arguments
+
+-- what is written by these flags may depend on what the file holds: it is put behind that, or may be read by who writes it
+abbrev pub goes_on : List ℕ → Bool
+goes_on arguments = has (codes "O_RDWR") arguments || (has (codes "O_WRONLY") arguments && has (codes "O_APPEND") arguments)
+
+-- What a file is opened for by these flags. Where it is not emptied, what is written there is written into what it held, or behind that.
 unfoldable pub deeds : List ℕ → Deed × Option Deed
 deeds arguments =
     if has (codes "O_DIRECTORY") arguments || has (codes "O_TMPFILE") arguments then (Folder, None)
     else (if has (codes "O_PATH") arguments then (Asked, None)
-    else (if has (codes "O_WRONLY") arguments && not (has (codes "O_APPEND") arguments) then (Wrote, None)
-    else (if has (codes "O_RDWR") arguments && (has (codes "O_TRUNC") arguments || has (codes "O_EXCL") arguments) then (Wrote, None)
-    else (if has (codes "O_WRONLY") arguments || has (codes "O_RDWR") arguments then (Read, Some Wrote) else (Read, None)))))
+    else (if empties arguments then (Wrote, None)
+    else (if goes_on arguments then (Read, Some Into)
+    else (if not (has (codes "O_WRONLY") arguments) then (Read, None)
+    else (if only_stamps arguments then (Stamped, None) else (Into, None))))))
 
 abbrev pub at_second : Option Deed → List ℕ → Option (List ℕ) → List Fact
 at_second None path real = []
@@ -113,7 +129,7 @@ with_moved facts paths = ((facts ++ fact Read paths.path ∷ []) ++ fact Removed
 
 -- and that one was given one more path
 abbrev pub with_linked : List Fact → Paths → List Fact
-with_linked facts paths = (facts ++ fact Read paths.path ∷ []) ++ told Wrote paths.other (Some paths.path) ∷ []
+with_linked facts paths = (facts ++ fact Read paths.path ∷ []) ++ told Linked paths.other (Some paths.path) ∷ []
 
 -- what a call did that ended well
 abbrev pub done_by : Does → Seen → Paths → List Fact
@@ -127,9 +143,10 @@ done_by doing.Folders call paths = fact Made paths.path ∷ []
 done_by doing.Clears call paths = fact Folder paths.path ∷ []
 done_by doing.Removes call paths = fact (removed call.arguments) paths.path ∷ []
 done_by doing.Moves call paths = fact Read paths.path ∷ fact Removed paths.path ∷ fact Wrote paths.other ∷ []
-done_by doing.Links call paths = fact Read paths.path ∷ told Wrote paths.other (Some paths.path) ∷ []
+done_by doing.Links call paths = fact Read paths.path ∷ told Linked paths.other (Some paths.path) ∷ []
 done_by doing.Leads call paths = fact Wrote paths.path ∷ []
-done_by doing.Changes call paths = fact Wrote paths.path ∷ []
+done_by doing.Cuts call paths = fact Into paths.path ∷ []
+done_by doing.Changes call paths = fact Stamped paths.path ∷ []
 done_by doing.Starts call paths = []
 done_by doing.Connects call paths = []
 done_by doing.Passes call paths = []
@@ -141,9 +158,14 @@ done call paths = done_by call.row.does call paths
 abbrev pub refused : Does → Deed
 refused does = if is_of_folders does then Folder else Asked
 
+-- What a call was that found nothing. A file may be there of which two paths were named, or that was to be run: the other path may lack its
+-- folder, and what runs it may be missing.
+abbrev pub missed : Does → Deed
+missed does = if has_two does || runs does then Sought else Missed
+
 abbrev pub ended_by : End → Seen → Paths → List Fact
 ended_by ending.Well call paths = done call paths
-ended_by ending.Missing call paths = fact Missed paths.path ∷ []
+ended_by ending.Missing call paths = fact (missed call.row.does) paths.path ∷ []
 ended_by ending.Refused call paths = fact (refused call.row.does) paths.path ∷ []
 ended_by ending.Void call paths = []
 ended_by ending.Open call paths = []

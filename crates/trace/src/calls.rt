@@ -1,7 +1,7 @@
 //! The calls of the system of which it is known what they do to files.
 
 ghost use Rattle.std.specs.Prelude.{◌≡◌};
-ghost use Rattle.trace.specs.Calls.{begins_one, changes, changes_at, connects, goes, has_two, is_of_folders, leads, lists, looks, looks_at, moves_at, opens, opens_at, passes, row_of_change, row_of_look, row_of_process, row_of_two, row_named, starts, when};
+ghost use Rattle.trace.specs.Calls.{begins_one, changes, changes_at, connects, goes, has_two, is_of_folders, leads, lists, looks, looks_at, makes, moves_at, opens, opens_at, passes, row_of_change, row_of_look, row_of_process, row_of_two, row_named, runs, starts, when};
 
 /// What a call does.
 #[derive(Clone, Copy, Debug, PartialEq, Eq)]
@@ -10,7 +10,7 @@ pub enum Does {
     Looks,
     /// It opens a file.
     Opens,
-    /// It makes a file that is empty, and opens it.
+    /// It makes a file that is empty, or empties one.
     Creates,
     /// It runs a file.
     Runs,
@@ -30,7 +30,9 @@ pub enum Does {
     Links,
     /// It makes a file that leads to the path of its first argument.
     Leads,
-    /// It makes a file, changes one or sets its stamp.
+    /// It gives a file another length, and leaves what stands in front of that.
+    Cuts,
+    /// It sets the stamp of a file, or what belongs to it beside its content.
     Changes,
     /// It starts a process.
     Starts,
@@ -64,6 +66,12 @@ impl Does {
         ensures { result ≡ has_two self }
     {
         matches!(self, Does::Moves | Does::Links)
+    }
+
+    pub fn runs(self) -> bool
+        ensures { result ≡ runs self }
+    {
+        matches!(self, Does::Runs)
     }
 
     pub fn opens(self) -> bool
@@ -145,7 +153,9 @@ fn row_of_look(name: &str) -> Option<Row>
 fn row_of_change(name: &str) -> Option<Row>
     ensures { result ≡ row_of_change name.now }
 {
-    when(name == "creat", Does::Creates, Form::Name)
+    when(makes(name), Does::Creates, Form::Name)
+        .or(when(name == "mknodat", Does::Creates, Form::At))
+        .or(when(name == "truncate", Does::Cuts, Form::Name))
         .or(when(changes(name), Does::Changes, Form::Name))
         .or(when(changes_at(name), Does::Changes, Form::At))
         .or(when(name == "mkdir", Does::Folders, Form::Name))
@@ -231,26 +241,25 @@ fn lists(name: &str) -> bool
     matches!(name, "getdents" | "getdents64")
 }
 
+fn makes(name: &str) -> bool
+    ensures { result ≡ makes name.now }
+{
+    matches!(name, "creat" | "mknod")
+}
+
 fn changes(name: &str) -> bool
     ensures { result ≡ changes name.now }
 {
     matches!(
         name,
-        "truncate"
-            | "utime"
-            | "utimes"
-            | "mknod"
-            | "setxattr"
-            | "lsetxattr"
-            | "removexattr"
-            | "lremovexattr"
+        "utime" | "utimes" | "setxattr" | "lsetxattr" | "removexattr" | "lremovexattr"
     )
 }
 
 fn changes_at(name: &str) -> bool
     ensures { result ≡ changes_at name.now }
 {
-    matches!(name, "utimensat" | "futimesat" | "mknodat")
+    matches!(name, "utimensat" | "futimesat")
 }
 
 fn moves_at(name: &str) -> bool

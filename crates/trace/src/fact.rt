@@ -7,8 +7,14 @@ use text::Bytes;
 pub enum Deed {
     /// It opened the file to read it, ran it, or gave it another path.
     Read,
-    /// It made the file, opened it to write, or set its stamp.
+    /// It made the file, or emptied it to write it.
     Wrote,
+    /// It opened the file to write into it, and left in it what stood there.
+    Into,
+    /// It set the stamp of the file, or what belongs to it beside its content.
+    Stamped,
+    /// It gave the file one more path, which is this one.
+    Linked,
     /// It removed the file, or gave it another path.
     Removed,
     /// It listed the folder.
@@ -17,6 +23,8 @@ pub enum Deed {
     Asked,
     /// It asked for a file that is not there.
     Missed,
+    /// It asked for a file that is not there, or lacks something else that was needed beside it.
+    Sought,
     /// It saw that a folder is there, or removed one.
     Folder,
     /// It made a folder.
@@ -32,4 +40,6 @@ pub struct Fact {
     pub path: Bytes,
     /// By which path the kernel has the file, where the trace tells it, or by which other one it had it before.
     pub real: Option<Bytes>,
+    /// The path goes up behind a name, which may be that of a link.
+    pub up: bool,
 }

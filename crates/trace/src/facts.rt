@@ -2,7 +2,7 @@
 
 ghost use Rattle.std.specs.Prelude.{◌≡◌, ◌++◌, ◌∷◌, [], IfOk, OnOk, option_map};
 ghost use Rattle.trace.specs.Arguments.{descriptor};
-ghost use Rattle.trace.specs.Facts.{arguments_for, call_seen, deeds, done, fact, facts_of, looked, opened, paths_of, refused, removed, told, with_linked, with_moved};
+ghost use Rattle.trace.specs.Facts.{arguments_for, call_seen, deeds, done, empties, fact, facts_of, goes_on, goes_up, looked, missed, only_stamps, opened, paths_of, refused, removed, told, with_linked, with_moved};
 
 use crate::arguments::{behind, descriptor, first_argument, is_rooted, path_at};
 use crate::calls::Does;
@@ -69,10 +69,21 @@ pub fn push_facts(
     }
     match ending_of(call.answer) {
         End::Well => push_done(alloc, call, paths, facts),
-        End::Missing => push(alloc, facts, Deed::Missed, path),
+        End::Missing => push(alloc, facts, missed(call.row.does), path),
         End::Refused => push(alloc, facts, refused(call.row.does), path),
         End::Void => Ok(()),
         End::Open => Ok(()),
+    }
+}
+
+/// What a call was that found nothing.
+fn missed(does: Does) -> Deed
+    ensures { result ≡ missed does }
+{
+    if does.has_two() || does.runs() {
+        Deed::Sought
+    } else {
+        Deed::Missed
     }
 }
 
@@ -107,7 +118,8 @@ fn push_done(
         Does::Lists => push(alloc, facts, Deed::Listed, path),
         Does::Removes => push(alloc, facts, removed(call.arguments), path),
         Does::Creates => push(alloc, facts, Deed::Wrote, path),
-        Does::Changes => push(alloc, facts, Deed::Wrote, path),
+        Does::Cuts => push(alloc, facts, Deed::Into, path),
+        Does::Changes => push(alloc, facts, Deed::Stamped, path),
         Does::Leads => push(alloc, facts, Deed::Wrote, path),
         Does::Moves => push_moved(alloc, paths, facts),
         Does::Links => push_linked(alloc, paths, facts),
@@ -155,8 +167,14 @@ fn push_linked(alloc: Global, paths: &Paths, facts: &mut Items<Fact>) -> Result<
     push(alloc, facts, Deed::Read, paths.path.as_slice())?;
     let path = Bytes::from_slice(alloc, paths.other.as_slice())?;
     let real = Some(Bytes::from_slice(alloc, paths.path.as_slice())?);
-    let deed = Deed::Wrote;
-    facts.push(Fact { deed, path, real })?;
+    let deed = Deed::Linked;
+    let up = goes_up(path.as_slice());
+    facts.push(Fact {
+        deed,
+        path,
+        real,
+        up,
+    })?;
     Ok(())
 }
 
@@ -177,7 +195,7 @@ fn push_opened(
     Ok(())
 }
 
-/// What a file is opened for by these flags: one thing, or two. What is put behind what a file holds depends on that.
+/// What a file is opened for by these flags: one thing, or two.
 #[tactic(auto, unfolding(crate::specs::Facts::deeds))]
 fn deeds(arguments: &[u8]) -> (Deed, Option<Deed>)
     ensures { result ≡ deeds arguments.now }
@@ -188,25 +206,62 @@ fn deeds(arguments: &[u8]) -> (Deed, Option<Deed>)
     if has(arguments, b"O_PATH") {
         return (Deed::Asked, None);
     }
-    if has(arguments, b"O_WRONLY") && !has(arguments, b"O_APPEND") {
+    if empties(arguments) {
         return (Deed::Wrote, None);
     }
-    if has(arguments, b"O_RDWR") && (has(arguments, b"O_TRUNC") || has(arguments, b"O_EXCL")) {
-        return (Deed::Wrote, None);
+    if goes_on(arguments) {
+        return (Deed::Read, Some(Deed::Into));
     }
-    if has(arguments, b"O_WRONLY") || has(arguments, b"O_RDWR") {
-        return (Deed::Read, Some(Deed::Wrote));
+    if !has(arguments, b"O_WRONLY") {
+        return (Deed::Read, None);
     }
-    (Deed::Read, None)
+    if only_stamps(arguments) {
+        return (Deed::Stamped, None);
+    }
+    (Deed::Into, None)
+}
+
+/// Whether a file is empty once it is opened by these flags.
+fn empties(arguments: &[u8]) -> bool
+    ensures { result ≡ empties arguments.now }
+{
+    has(arguments, b"O_TRUNC") || (has(arguments, b"O_CREAT") && has(arguments, b"O_EXCL"))
+}
+
+/// Whether what is written by these flags may depend on what the file holds.
+fn goes_on(arguments: &[u8]) -> bool
+    ensures { result ≡ goes_on arguments.now }
+{
+    has(arguments, b"O_RDWR") || (has(arguments, b"O_WRONLY") && has(arguments, b"O_APPEND"))
+}
+
+/// Whether these flags are those of `touch`, which writes nothing.
+fn only_stamps(arguments: &[u8]) -> bool
+    ensures { result ≡ only_stamps arguments.now }
+{
+    has(arguments, b"O_NOCTTY") && has(arguments, b"O_NONBLOCK")
+}
+
+/// Whether the path goes up behind a name.
+pub fn goes_up(path: &[u8]) -> bool
+    ensures { result ≡ goes_up path.now }
+{
+    has(path, b"/..")
 }
 
 /// Adds what was done at a path.
 fn push(alloc: Global, facts: &mut Items<Fact>, deed: Deed, path: &[u8]) -> Result<(), AllocError>
     ensures { OnOk result (facts.new ≡ facts.old ++ fact deed path.now ∷ []) }
 {
+    let up = goes_up(path);
     let path = Bytes::from_slice(alloc, path)?;
     let real = None;
-    facts.push(Fact { deed, path, real })?;
+    facts.push(Fact {
+        deed,
+        path,
+        real,
+        up,
+    })?;
     Ok(())
 }
 
@@ -220,8 +275,14 @@ fn push_real(
 ) -> Result<(), AllocError>
     ensures { OnOk result (facts.new ≡ facts.old ++ told deed path.now (descriptor answer.now) ∷ []) }
 {
+    let up = goes_up(path);
     let path = Bytes::from_slice(alloc, path)?;
     let real = descriptor(alloc, answer)?;
-    facts.push(Fact { deed, path, real })?;
+    facts.push(Fact {
+        deed,
+        path,
+        real,
+        up,
+    })?;
     Ok(())
 }

@@ -7,7 +7,7 @@ ghost use Rattle.trace.specs.Steps.{connected, folder_told, has_gone, has_own_ro
 use crate::arguments::{descriptor, first_argument};
 use crate::ending::ending_of;
 use crate::fact::{Deed, Fact};
-use crate::facts::{Paths, paths_of, push_facts};
+use crate::facts::{Paths, goes_up, paths_of, push_facts};
 use crate::marks::has;
 use crate::parts::Call;
 use crate::processes::{Known, copied};
@@ -107,6 +107,7 @@ fn connected(alloc: Global, known: &Known, call: &Call<'_>) -> Result<Step, Allo
             deed: Deed::Connected,
             path: Bytes::from_slice(alloc, b"/")?,
             real: None,
+            up: goes_up(b"/"),
         })?;
     }
     Ok(step)
