@@ -15,6 +15,11 @@ grows_none lines = ([], sym (append-nil lines))
 pub grows_then : (a b c : List ℕ) → Grows a b → Grows b c → Grows a c
 grows_then a b c first second = (first.0 ++ second.0, second.1 ∙ (ap (λ (l : List ℕ). l ++ second.0) first.1 ∙ append_assoc a first.0 second.0))
 
+-- where nothing is noted
+pub grows_same : {T E : Type 0} (r : Result T E) (old new : List ℕ) → new ≡ old → OnOk r (Grows old new)
+grows_same (Ok v) old new same = ([], same ∙ sym (append-nil old))
+grows_same (Err fault) old new same = tt
+
 -- a line that was put there
 pub notes_grow : {T E : Type 0} (r : Result T E) (path : List ℕ) (noted : Noted) (old new : List ℕ) → OnOk r (Notes path noted old new) → OnOk r (Grows old new)
 notes_grow (Ok v) path noted old new is = (_, is.text)

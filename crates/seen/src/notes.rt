@@ -70,6 +70,9 @@ pub fn read_by<S: Measured>(
 ) -> Result<Entry, SiteFault>
     requires { (S.world site.old).stopped ≡ false }
     ensures asks { Asks S.tells (S.world site.old) (S.world site.new) result }
+    ensures unbegun { AreJobs makers → makers.table.entries ≡ [] → IfOk result (λ entry. IsUnbegun entry.counts) }
+    ensures makers { IfOk result (λ entry. entry.counts.makers ≡ makers) }
+    ensures enters { IfOk result (λ entry. EntersSince S.tells entry (S.world site.old).history (S.world site.new)) }
 {
     let own = Own::beside(alloc, log)?;
     read_with(alloc, site, makers, own)

@@ -1,12 +1,13 @@
 -- What is known to be made, by what is listed of a build file.
-use Rattle.std.proofs.Common.{◌≡◌, ◌⊎◌, inl, inr, String, ℕ, zero, suc, Bool, true, false, if◌then◌else◌, List, [], ◌∷◌, ◌++◌, get_or, length, Option, Some, None, slice_get, bytes_eq, string_bytes, refl, sym, ◌∙◌, ap, subst}
+use Rattle.std.proofs.Common.{◌≡◌, ◌⊎◌, inl, inr, ℕ, zero, suc, Bool, true, false, if◌then◌else◌, List, [], ◌∷◌, ◌++◌, get_or, length, Option, Some, None, slice_get, bytes_eq, refl, sym, ◌∙◌, ap, subst}
+use Rattle.std.specs.Borrow.{Bor}
 use Rattle.std.specs.List.{cons_option}
 use Rattle.std.specs.Map.{lookup}
 use Rattle.std.specs.Option.{option_map, option_or}
 use Rattle.std.proofs.lemmas.Bool.{eqb-true, false≢true, or_cases, or_left, or_right}
 use Rattle.std.proofs.lemmas.List.{map-append}
 use Rattle.std.proofs.lemmas.Slice.Eq.{bytes_eq-Decides}
-use Rattle.indexmap.specs.IndexMap.{get_by_text}
+use Rattle.indexmap.specs.IndexMap.{get_by}
 use Rattle.model.specs.declared.graph.Edge.{Edge}
 use Rattle.model.specs.Graph.{has, edge_at, no_edge, outputs}
 use Rattle.paths.specs.declared.line.Line.{Line}
@@ -39,11 +40,11 @@ HasPair (x ∷ xs) p job = ((x.0 ≡ p) × (x.1 ≡ job)) ⊎ HasPair xs p job
 -- the maker of a path is listed with it
 maker_pair : (os : List Output) (p : List ℕ) (job : ℕ) → maker_in os p ≡ Some job → HasPair (pairs_of os) p job
 maker_pair [] p job is = absurd (no_some is)
-maker_pair (o ∷ os) p job is = by (bytes_eq (string_bytes o.text) p) refl is (λ later. maker_pair os p job later)
+maker_pair (o ∷ os) p job is = by (bytes_eq o.text.now p) refl is (λ later. maker_pair os p job later)
   where
-    by : (here : Bool) → bytes_eq (string_bytes o.text) p ≡ here → (if here then Some o.job else maker_in os p) ≡ Some job
+    by : (here : Bool) → bytes_eq o.text.now p ≡ here → (if here then Some o.job else maker_in os p) ≡ Some job
         → (maker_in os p ≡ Some job → HasPair (pairs_of os) p job) → HasPair (pairs_of (o ∷ os)) p job
-    by true same found further = inl (same_bytes (string_bytes o.text) p same, some_is found)
+    by true same found further = inl (same_bytes o.text.now p same, some_is found)
     by false other found further = inr (further found)
 
 pair_cases : (xs ys : List (List ℕ × ℕ)) (p : List ℕ) (job : ℕ) → HasPair (xs ++ ys) p job → HasPair xs p job ⊎ HasPair ys p job
@@ -131,7 +132,7 @@ or_none (Some job) = refl
 pub listed_law : ListedAreMade
 listed_law makers manifest empty lists p job is =
     let listed : maker_in makers.listed.items p ≡ Some job =
-    sym (ap (λ (es : List (String _ × ℕ)). option_or (maker_in makers.listed.items p) (lookup (λ k. bytes_eq p (string_bytes k)) es)) empty ∙ or_none (maker_in makers.listed.items p)) ∙ is in
+    sym (ap (λ (es : List (Bor (List ℕ) × ℕ)). option_or (maker_in makers.listed.items p) (lookup (λ k. bytes_eq p k.now) es)) empty ∙ or_none (maker_in makers.listed.items p)) ∙ is in
     made_in_all manifest (length manifest.lines) p job
     (subst (λ (ps : List (List ℕ × ℕ)). HasPair ps p job) lists (maker_pair makers.listed.items p job listed))
 
@@ -143,12 +144,12 @@ job_is job (Some it) is = ap (λ (n : ℕ). Some n) (eqb-true it job is)
 
 made_maker : (all os : List Output) (job : ℕ) (p : List ℕ) → has (made_in all os job) p ≡ true → maker_in all p ≡ Some job
 made_maker all [] job p h = absurd (false≢true h)
-made_maker all (o ∷ os) job p h = by (is_job job (maker_in all (string_bytes o.text))) refl h (λ later. made_maker all os job p later)
+made_maker all (o ∷ os) job p h = by (is_job job (maker_in all o.text.now)) refl h (λ later. made_maker all os job p later)
   where
-    by : (makes : Bool) → is_job job (maker_in all (string_bytes o.text)) ≡ makes → has (if makes then string_bytes o.text ∷ made_in all os job else made_in all os job) p ≡ true
+    by : (makes : Bool) → is_job job (maker_in all o.text.now) ≡ makes → has (if makes then o.text.now ∷ made_in all os job else made_in all os job) p ≡ true
         → (has (made_in all os job) p ≡ true → maker_in all p ≡ Some job) → maker_in all p ≡ Some job
-    by true makes there further = elim (or_cases (bytes_eq (string_bytes o.text) p) (has (made_in all os job) p) there) [
-      | inl same ↦ ap (λ (q : List ℕ). maker_in all q) (sym (same_bytes (string_bytes o.text) p same)) ∙ job_is job (maker_in all (string_bytes o.text)) makes
+    by true makes there further = elim (or_cases (bytes_eq o.text.now p) (has (made_in all os job) p) there) [
+      | inl same ↦ ap (λ (q : List ℕ). maker_in all q) (sym (same_bytes o.text.now p same)) ∙ job_is job (maker_in all o.text.now) makes
       | inr later ↦ further later
     ]
     by false other there further = further there
@@ -157,7 +158,7 @@ made_maker all (o ∷ os) job p h = by (is_job job (maker_in all (string_bytes o
 pub makes_outputs : (makers : Makers) (edges : List Edge) → KnowsMakers makers edges → (job : ℕ) (p : List ℕ) → has (made_in makers.listed.items makers.listed.items job) p ≡ true
     → has (outputs (edge_at edges job)) p ≡ true
 makes_outputs makers edges knows job p h =
-    (knows p job (ap (λ (m : Option ℕ). option_or m (get_by_text makers.table p)) (made_maker makers.listed.items makers.listed.items job p h))).0
+    (knows p job (ap (λ (m : Option ℕ). option_or m (get_by (λ k. bytes_eq p k.now) makers.table)) (made_maker makers.listed.items makers.listed.items job p h))).0
 
 -- ---- dyndep files
 

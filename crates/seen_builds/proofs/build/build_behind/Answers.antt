@@ -1,6 +1,7 @@
-use Rattle.std.proofs.Common.{inl, inr, refl}
+use Rattle.std.proofs.Common.{ℕ, List, inl, inr, refl, subst}
 use Rattle.std.specs.Option.{option_map}
 use Rattle.graph.specs.Told.{declared_by}
+use Rattle.seen.specs.Own.{AreOwnIn}
 use Rattle.seen_builds.proofs.Made.{listed_law}
 use Rattle.seen_builds.proofs.Over.{answered_running, enters_behind, idle_looking, over_from}
 use Rattle.seen_builds.proofs.build.build_behind.Goals as goal
@@ -29,7 +30,7 @@ returns-in-Ok g c =
       looks = c.in-Ok.ensures.asks.looks;
       idle = idle_looking g.S.Texts.tells old world c.in-Ok.ensures.asks.looks c.requires.idle;
       running = answered_running old world c.requires.running c.in-Ok.ensures.asks.ok;
-      own = c.in-Ok.ensures.own;
+      own = subst (λ (folder : List ℕ). AreOwnIn folder c.in-Ok.entry.counts.own) c.as_str.ensures c.in-Ok.ensures.own;
       makes = listed_law c.in-Ok.entry.counts.makers c.args.graph.now.manifest c.in-Ok.ensures.unbegun.table c.in-Ok.ensures.lists;
       enters = c.in-Ok.ensures.enters;
       built = over_from g.S.Texts.tells c.in-Ok.entry old.history g.past world c.requires.behind
