@@ -41,15 +41,6 @@ struct Lines<'a> {
     around: Around<'a>,
 }
 
-/// A tool that is called.
-#[derive(Clone, Copy)]
-struct Called<'a> {
-    tool: Tool,
-    given: &'a Given<'a>,
-    /// Whether stamps are trusted.
-    trusts_stamps: bool,
-}
-
 /// The whole program: does what the words ask for, without the program's name among them, and answers the exit status: 0 after a
 /// success, 3 where dependencies are missing, else 1.
 pub fn run<W: Write + Drop, E: Write>(
@@ -68,12 +59,8 @@ pub fn run<W: Write + Drop, E: Write>(
         }
         Ok(Asked::Build(given)) => run_build(rt, &given, around, out, err),
         Ok(Asked::Tool(tool, given)) => {
-            let called = Called {
-                tool,
-                given: &given,
-                trusts_stamps: around.trusts_stamps,
-            };
-            run_tool(rt, called, out, err)
+            let trusts_stamps = around.trusts_stamps;
+            run_tool(rt, tool, &given, trusts_stamps, out, err)
         }
         Err(fault) => {
             let jobs = jobs_here(rt);
@@ -406,18 +393,15 @@ fn build_options(alloc: Global, given: &Given<'_>, jobs: u32) -> Result<Options,
 
 fn run_tool<W: Write, E: Write>(
     rt: &HostRuntime,
-    called: Called<'_>,
+    tool: Tool,
+    given: &Given<'_>,
+    trusts_stamps: bool,
     out: &mut W,
     err: &mut E,
 ) -> io::Result<u8>
     ensures { IfOk result (λ status. status ≤ 3) }
 {
     let alloc = rt.alloc();
-    let Called {
-        tool,
-        given,
-        trusts_stamps,
-    } = called;
     if !enter(rt, given, err)? {
         return Ok(1);
     }
