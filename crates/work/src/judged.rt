@@ -1,12 +1,13 @@
 //! Judging an edge.
 
-ghost use Rattle.std.specs.Prelude.{◌≡◌, ◌<◌, true, false, is_some, get_or, OnOk, OnErr};
+ghost use Rattle.std.specs.Prelude.{◌≡◌, ◌<◌, true, false, is_some, get_or, IfSome, OnOk, OnErr};
 ghost use Rattle.model.specs.Calls.{HasCause};
 ghost use Rattle.judge.specs.Looking.{HasLooked};
 ghost use Rattle.plan.specs.declared.step.Step.TheVariants as step;
-ghost use Rattle.plan.specs.Planned.{IsNext, is_stale};
+ghost use Rattle.plan.specs.Planned.{IsNext, IsPlanOver, is_stale};
 ghost use Rattle.judge.specs.Lasting.{AreMarked};
 ghost use Rattle.judge.specs.Summed.{AreSums};
+ghost use Rattle.work.specs.Clean.{StaysKnowing, WasClean, IsCleanNext};
 ghost use Rattle.work.specs.Going.{IsGoing, GoesOn, work_left};
 
 use crate::outputs::ask_before;
@@ -15,7 +16,7 @@ use graph::{Graph, lists_stand};
 use judge::{Sums, looks_follow, reason, sums_follow};
 use model::{Reason, SiteFault};
 use paths::EdgeId;
-use plan::Verdict;
+use plan::{Step, Verdict};
 use records::log_stays;
 use site::Site;
 
@@ -62,6 +63,46 @@ pub fn judge<S: Site>(
         .display
         .judged(was_due(&state.due, edge), reason.is_some());
     Ok(())
+}
+
+/// Judges edges clean, as long as the plan says one next that was found not to be due when sources were asked for: nothing is asked
+/// for again. Once a command has ended well it judges none, as that may have made anew what an edge reads.
+pub fn judge_clean(graph: &Graph, state: &mut State<'_>)
+    requires { IsPlanOver graph.now state.old.plan }
+    ensures looks { state.new.looks ≡ state.old.looks }
+    ensures on { StaysKnowing graph.now state.old state.new }
+{
+    log_stays();
+    while let Some(edge) = next_clean(state) {
+        state.plan.judged(graph, edge, Verdict::Clean);
+    }
+}
+
+/// The edge that is judged next, where it was found not to be due and no command has ended well.
+fn next_clean(state: &State<'_>) -> Option<EdgeId>
+    ensures { IfSome result (IsCleanNext state.now) }
+{
+    match state.plan.next() {
+        Step::Judge(edge) => {
+            if was_clean(state, edge) {
+                Some(edge)
+            } else {
+                None
+            }
+        }
+        Step::Start(_) => None,
+        Step::Wait => None,
+        Step::Load(_) => None,
+        Step::Ended(_) => None,
+    }
+}
+
+/// Whether the edge was found not to be due and no command has ended well.
+fn was_clean(state: &State<'_>, edge: EdgeId) -> bool
+    ensures { result ≡ true → WasClean state.now edge }
+{
+    let well = state.plan.well();
+    well == 0 && !was_due(&state.due, edge)
 }
 
 /// The verdict of the judgement that gave this.
