@@ -1,5 +1,5 @@
 -- Edges that were found not to be due are judged clean, rightly, as long as no command has ended well.
-use Rattle.std.proofs.Common.{◌≡◌, inl, inr, ℕ, suc, ◌==◌, cond, Bool, true, false, List, [], ◌∷◌, map, length, Vec, Global, Option, None, refl, sym, ◌∙◌, ap, subst, arith}
+use Rattle.std.proofs.Common.{◌≡◌, inl, inr, ℕ, zero, suc, ◌<◌, ◌==◌, cond, Bool, true, false, List, [], ◌∷◌, map, length, Vec, Global, Option, None, refl, sym, ◌∙◌, ap, subst, arith}
 use Rattle.std.proofs.lemmas.Bool.{false≢true, or_cases, or_left, or_right, and_parts, cases_Bool, eqb-true, eq-eqb}
 use Rattle.model.specs.declared.event.Event.{Event}
 use Rattle.model.specs.declared.event.Moment.{Moment}
@@ -28,7 +28,7 @@ use Rattle.plan.specs.declared.step.Standing.{Standing}
 use Rattle.plan.specs.declared.step.Standing.TheVariants.{Outside, Unjudged, Clean, OutOfDate, Running, Well, Failed, Alias, Known}
 use Rattle.plan.specs.declared.step.Step.TheVariants.{Judge}
 use Rattle.plan.specs.Plan.{IsSettling}
-use Rattle.plan.specs.Planned.{TakesStep, IsOffered}
+use Rattle.plan.specs.Planned.{IsPlanOver, TakesStep, IsOffered}
 use Rattle.plan.specs.Standing.{standing_at, is_unjudged, is_outside, is_phony}
 use Rattle.records.specs.Laws.{LogStays}
 use Rattle.work.specs.declared.state.State.{State}
@@ -82,6 +82,18 @@ stands_unjudged Known is = absurd (false≢true is)
 -- an edge that is judged next stands so
 pub offered_unjudged : (plan : Plan) (e : ℕ) → IsOffered plan (Judge e) → standing_at plan.standings.items e ≡ Unjudged
 offered_unjudged plan e offered = stands_unjudged (standing_at plan.standings.items e) (and_parts _ _ (sym (plan.sets.ready e) ∙ offered)).0
+
+-- and is one of the graph
+pub offered_within : (graph : Graph) (plan : Plan) → IsPlanOver graph plan → (e : ℕ) → IsOffered plan (Judge e) → e < length graph.manifest.lines
+offered_within graph plan over e offered =
+    let many = over.over.edges in
+    let lt = inside plan.standings.items e (ap is_outside (offered_unjudged plan e offered)) in
+    omega (arith, lt, many)
+  where
+    inside : (standings : List Standing) (k : ℕ) → is_outside (standing_at standings k) ≡ false → k < length standings
+    inside [] k is = absurd (false≢true (sym is))
+    inside (s ∷ standings) zero is = omega arith
+    inside (s ∷ standings) (suc k) is = let lt = inside standings k is in omega (arith, lt)
 
 -- what stands so later stood so before
 abbrev pub StayUnjudged : Plan → Plan → Type 0

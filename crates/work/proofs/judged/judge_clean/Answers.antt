@@ -5,6 +5,12 @@ use Rattle.work.proofs.judged.judge_clean.Goals as goal
 pub loop-edge-init : goal.loop-edge-init
 loop-edge-init c = record { over = c.requires; looks = refl; due = refl; fresh = λ e unjudged. unjudged; on = λ tells now course suits goes on knows. on }
 
+pub next_clean-requires : goal.next_clean-requires
+next_clean-requires c = c.loop-edge.invariant.over
+
+pub judged-requires-clause-over : goal.judged-requires-clause-over
+judged-requires-clause-over c = c.loop-edge.invariant.over
+
 pub judged-requires-clause-ready : goal.judged-requires-clause-ready
 judged-requires-clause-ready c = c.in-Some.ensures.next.offered
 
