@@ -104,8 +104,13 @@ fn is_known_clean(graph: &Graph, state: &State<'_>, edge: EdgeId) -> bool
     requires { edge < length graph.now.manifest.lines }
     ensures { result ≡ true → WasClean state.now edge }
 {
-    let well = state.plan.well();
-    well == 0 && !was_due(&state.due, edge) && !asks_for_depfile(graph, edge)
+    if was_due(&state.due, edge) {
+        return false;
+    }
+    if asks_for_depfile(graph, edge) {
+        return false;
+    }
+    state.plan.well() == 0
 }
 
 /// Whether a judgement of the edge asks for its depfile, which the command is to leave (manual: "Depfile").
