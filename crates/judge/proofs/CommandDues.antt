@@ -78,12 +78,12 @@ input_of : (edges : List Edge) (view : View) (i : ℕ) (p : List ℕ) → IsRead
 input_of edges view i p (Itself _ _ h counts) = (i, has-left (regular_inputs (edge_at edges i)) (edge_at edges i).order_only_inputs p h)
 input_of edges view i p (Through _ j q _ h alias below) = input_of edges view j p below
 
-read_in_all : (edges : List Edge) (view : View) (i : ℕ) (p : List ℕ) → IsRead edges view i p → IsRead edges everything i p
+pub read_in_all : (edges : List Edge) (view : View) (i : ℕ) (p : List ℕ) → IsRead edges view i p → IsRead edges everything i p
 read_in_all edges view i p (Itself _ _ h counts) = Itself i p h (inr (inl refl))
 read_in_all edges view i p (Through _ j q _ h alias below) = Through i j q p h alias (read_in_all edges view j p below)
 
 -- views that agree on all that may be read have the same paths read
-read_alike : (edges : List Edge) (one two : View) (i : ℕ) (p : List ℕ) → ((q : List ℕ) → IsRead edges everything i q → one q ≡ two q) → IsRead edges one i p → IsRead edges two i p
+pub read_alike : (edges : List Edge) (one two : View) (i : ℕ) (p : List ℕ) → ((q : List ℕ) → IsRead edges everything i q → one q ≡ two q) → IsRead edges one i p → IsRead edges two i p
 read_alike edges one two i p agree (Itself _ _ h counts) = Itself i p h (by_counts counts)
   where
     by_counts : Counts edges one p → Counts edges two p

@@ -15,5 +15,6 @@ pub mod AliasDues
 pub mod CommandDues
 pub mod Judging
 pub mod DueEdges
+pub mod CleanEdges
 pub mod Lacking
 pub mod Finding

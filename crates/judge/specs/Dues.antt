@@ -1,11 +1,12 @@
 -- Which edges are due after some steps, by the numbers of edges and paths.
-use Rattle.std.specs.Prelude.{◌≡◌, ◌↔◌, ◌||◌, ℕ, suc, ◌==◌, Bool, true, false, if◌then◌else◌, IfOk, List, length, slice_index_or, Option, Some, None, Result, Vec}
+use Rattle.std.specs.Prelude.{◌≡◌, ◌↔◌, ◌||◌, ℕ, suc, ◌==◌, Bool, true, false, if◌then◌else◌, IfOk, List, [], length, slice_index_or, Option, Some, None, Result, Vec}
 use Rattle.std.specs.List.{AllByRecursion, list_any}
 use Rattle.std.specs.Option.{is_none}
 use Rattle.std.specs.declared.alloc.Global.{Global}
 use Rattle.model.specs.declared.event.Moment.{Moment}
 use Rattle.model.specs.declared.graph.Edge.{Edge}
 use Rattle.model.specs.World.{World, file_at}
+use Rattle.model.specs.Calls.{OnlyLooks}
 use Rattle.model.specs.Graph.{has, has_number, maker}
 use Rattle.model.specs.Reading.{needs}
 use Rattle.model.specs.Records.{Store, recorded_inputs}
@@ -18,9 +19,12 @@ use Rattle.graph.specs.declared.graph.Graph.{Graph}
 use Rattle.graph.specs.Links.{Links, links_of}
 use Rattle.graph.specs.Told.{declared_by}
 use Rattle.plan.specs.declared.plan.Plan.{Plan}
+use Rattle.plan.specs.declared.step.Standing.TheVariants.{Unjudged}
+use Rattle.plan.specs.Standing.{standing_at}
 use Rattle.records.specs.declared.records.Records.{Records}
 use Rattle.judge.specs.declared.looks.Looks.{Looks}
 use Rattle.judge.specs.Facts.{AreIn}
+use Rattle.judge.specs.Judged.{IsReasonFound}
 use Rattle.judge.specs.Stores.{IsStoreOf}
 use Rattle.judge.specs.Quiet.{StillFinds, OfSteps, IfQuietAt}
 use Rattle.judge.specs.UnderWay.{StandsIn, IsUnderWay}
@@ -107,6 +111,21 @@ AreListed listed due = (e : ℕ) → due_at due e ≡ true → has_number listed
 abbrev pub AreDue : List Edge → Store → List Step → List Moment → List ℕ → List Bool → Type 0
 AreDue edges store before files listed due = (e : ℕ) → (due_at due e ≡ true) ↔ ((has_number listed e ≡ true) × IsDue edges store before files (suc e))
 
+-- ---- commands that are not due
+
+-- of the command of the edge no reason was found why it has to run, where none has ended: so it is as long as calls only look
+abbrev pub IsFoundClean : Bool → Graph → Records → World → World → Looks → ℕ → Type 0
+IsFoundClean tells graph records old new seen e = (later : World) → OnlyLooks tells new later → IsReasonFound tells graph records old later seen [] e None
+
+-- the edge has a command, which the plan has not judged
+abbrev pub IsUnjudged : Graph → Plan → ℕ → Type 0
+IsUnjudged graph plan e = ((links_of graph).phony e ≡ false) × (standing_at plan.standings.items e ≡ Unjudged)
+
+-- so it is of each of these edges that was not judged, and is not due by these flags
+abbrev pub AreFoundClean : Bool → Graph → Records → Plan → World → World → Looks → List ℕ → List Bool → Type 0
+AreFoundClean tells graph records plan old new seen listed due =
+    (e : ℕ) → has_number listed e ≡ true → due_at due e ≡ false → IsUnjudged graph plan e → IsFoundClean tells graph records old new seen e
+
 -- ---- What calls say that are given a site: `world` tells the world of the site, which the call found as `old` and left as `new`. What is
 -- known of files is what was seen of them before.
 
@@ -146,11 +165,21 @@ FindsDueCommand tells world old new graph records seen due e result =
     IfOk result (λ is. OfBuild graph records (λ store targets before.
     has_number (judged_in before) (suc e) ≡ false → IsDueAt tells world old new graph store targets before seen due e is))
 
+-- where it is not, no reason was found
+abbrev pub FindsCleanCommand : {S E : Type 0} → Bool → (S → World) → S → S → Graph → Records → Looks → ℕ → Result Bool E → Type 0
+FindsCleanCommand tells world old new graph records seen e result =
+    IfOk result (λ is. is ≡ false → IsFoundClean tells graph records (world old) (world new) seen e)
+
 -- whether the edge is due, which stands in the plan where the steps have left it
 abbrev pub FindsDue : {S E : Type 0} → Bool → (S → World) → S → S → Graph → Records → Plan → Looks → List Bool → ℕ → Result Bool E → Type 0
 FindsDue tells world old new graph records plan seen due e result =
     IfOk result (λ is. OfBuild graph records (λ store targets before.
     StandsIn graph plan before e → IsDueAt tells world old new graph store targets before seen due e is))
+
+-- where it is not, and was not judged, no reason was found
+abbrev pub FindsClean : {S E : Type 0} → Bool → (S → World) → S → S → Graph → Records → Plan → Looks → ℕ → Result Bool E → Type 0
+FindsClean tells world old new graph records plan seen e result =
+    IfOk result (λ is. is ≡ false → IsUnjudged graph plan e → IsFoundClean tells graph records (world old) (world new) seen e)
 
 -- So it is after the steps of any build of which the records, the cone and the plan are these.
 abbrev pub IfUnderWay : {S : Type 0} → Bool → (S → World) → S → S → Graph → Records → Cone → Plan → Looks → (Store → List (List ℕ) → List Step → List Moment → Type 0) → Type 0
@@ -163,3 +192,8 @@ abbrev pub FindsDueEdges : {S E : Type 0} → Bool → (S → World) → S → S
 FindsDueEdges tells world old new graph records cone plan seen result =
     IfOk result (λ due. IfUnderWay tells world old new graph records cone plan seen (λ store targets before files.
     AreDue (declared_by graph).edges store before files cone.order.items due.items))
+
+-- and of each that was not judged and is not due, no reason was found
+abbrev pub FindsCleanEdges : {S E : Type 0} → Bool → (S → World) → S → S → Graph → Records → Cone → Plan → Looks → Result (Vec Bool Global) E → Type 0
+FindsCleanEdges tells world old new graph records cone plan seen result =
+    IfOk result (λ due. AreFoundClean tells graph records plan (world old) (world new) seen cone.order.items due.items)

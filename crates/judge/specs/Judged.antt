@@ -20,8 +20,7 @@ use Rattle.graph.specs.Told.{declared_by, recorded_by}
 use Rattle.records.specs.declared.records.Records.{Records}
 use Rattle.records.specs.Known.{AreKnown}
 use Rattle.judge.specs.declared.looks.Looks.{Looks}
-use Rattle.judge.specs.Seen.{AreKept}
-use Rattle.judge.specs.Looking.{IfKeptAt}
+use Rattle.judge.specs.Seen.{AreKept, IfKept}
 use Rattle.judge.specs.Facts.{flag_at}
 
 -- why the command of edge i has to run, if it has to: the reason of the table, by all that the judgement reads
@@ -101,12 +100,17 @@ IsStaleFor graph rs ds e reason set files =
 abbrev pub IsAnswer : Graph → List Record → List DepsRecord → List Bool → ℕ → Option Reason → (List ℕ → Bool) → List Moment → Type 0
 IsAnswer graph rs ds flags e reason set files = IsReasonFor graph rs ds flags e reason set files × IsStaleFor graph rs ds e reason set files
 
--- The answer is one for the edge that counts as e in the code, where its depfile kept its file, by whatever records are known. `world` tells
--- the world of the site, which the call found as `old` and left as `new`.
+-- the answer is one for the edge that counts as e in the code, where its depfile kept its file between these worlds, by whatever records are
+-- known
+abbrev pub IsReasonFound : Bool → Graph → Records → World → World → Looks → List Bool → ℕ → Option Reason → Type 0
+IsReasonFound tells graph records old new before flags e reason =
+    (rs : List Record) (ds : List DepsRecord) → AreKnown graph rs ds records → KeepsDepfile tells (declared_by graph).edges old new (suc e)
+    → IfKept tells graph.manifest.paths old new before.seen.items (IsAnswer graph rs ds flags e reason)
+
+-- So it is of what is answered. `world` tells the world of the site, which the call found as `old` and left as `new`.
 abbrev pub FindsReason : {S E : Type 0} → Bool → (S → World) → S → S → Graph → Records → Looks → List Bool → ℕ → Result (Option Reason) E → Type 0
 FindsReason tells world old new graph records before flags e result =
-    IfOk result (λ reason. (rs : List Record) (ds : List DepsRecord) → AreKnown graph rs ds records
-    → KeepsDepfile tells (declared_by graph).edges (world old) (world new) (suc e) → IfKeptAt tells world old new graph before (IsAnswer graph rs ds flags e reason))
+    IfOk result (λ reason. IsReasonFound tells graph records (world old) (world new) before flags e reason)
 
 -- the edge that counts as e in the code does what this command says
 abbrev pub DoesCommand : Graph → ℕ → Command → Type 0

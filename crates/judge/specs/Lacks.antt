@@ -20,7 +20,7 @@ use Rattle.judge.specs.declared.lack.Found.TheVariants.{Missing, Present}
 use Rattle.plan.specs.declared.plan.Plan.{Plan}
 use Rattle.judge.specs.Quiet.{IfQuiet, StillFinds}
 use Rattle.judge.specs.UnderWay.{IsUnderWay}
-use Rattle.judge.specs.Dues.{due_at, IsSourceIn, AreSourcesIn, HasAllSources, AreDue, IfUnderWay}
+use Rattle.judge.specs.Dues.{due_at, IsSourceIn, AreSourcesIn, HasAllSources, AreDue, AreFoundClean, IfUnderWay}
 
 -- ---- what is told
 
@@ -45,11 +45,13 @@ abbrev pub IfPresent : Found → (List Bool → Type 0) → Type 0
 IfPresent (Missing lack) So = Unit {0}
 IfPresent (Present due) So = So due.items
 
--- a flag for each edge of the graph, which says whether the edge is in the cone and due
+-- a flag for each edge of the graph, which says whether the edge is in the cone and due; of what was not judged and is not due, no reason was
+-- found why it has to run
 pub record HasDue (tells : Bool) (graph : Graph) (records : Records) (cone : Cone) (plan : Plan) (old new : World) (seen : Looks) (flags : List Bool) : Type 0 where
   pub fits : length flags ≡ length graph.manifest.lines
   pub due : (store : Store) (targets : List (List ℕ)) (before : List Step) → IsUnderWay graph records cone plan store targets before
       → IfQuiet tells graph store targets before old new seen (λ files. AreDue (declared_by graph).edges store before files cone.order.items flags)
+  pub clean : AreFoundClean tells graph records plan old new seen cone.order.items flags
 
 -- the edge, if one is named, is one of so many
 abbrev pub IsEdgeBelow : ℕ → Option ℕ → Type 0

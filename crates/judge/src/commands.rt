@@ -5,10 +5,11 @@ ghost use Rattle.std.specs.List.{list_any};
 ghost use Rattle.model.specs.Calls.{HasCause};
 ghost use Rattle.graph.specs.Links.{links_of};
 ghost use Rattle.judge.specs.Looking.{HasLookedAt};
-ghost use Rattle.judge.specs.Dues.{is_made_due, reads_due, FindsDueCommand};
+ghost use Rattle.judge.specs.Dues.{is_made_due, reads_due, FindsDueCommand, FindsCleanCommand};
 ghost use Rattle.judge.specs.Summed.{AreSums};
 
 use crate::judgement::reason;
+use crate::laws::looks_follow;
 use crate::looks::Looks;
 use crate::sums::Sums;
 use graph::{Graph, lists_stand};
@@ -40,7 +41,9 @@ pub fn is_command_due<S: Site>(
     ensures cause { HasCause (S.world site.old) (S.world site.new) result }
     ensures summed { AreSums graph.now [] looks.new.seen.items sums.new }
     ensures due { FindsDueCommand S.tells S.world site.old site.new graph.now records.now looks.old due.now edge result }
+    ensures clean { FindsCleanCommand S.tells S.world site.old site.new graph.now records.now looks.old edge result }
 {
+    looks_follow();
     lists_stand(graph);
     if reads_due(graph, due, edge) {
         return Ok(true);

@@ -4,7 +4,7 @@ ghost use Rattle.std.specs.Prelude.{◌≡◌, ◌<◌, All, [], IfOk, length, v
 ghost use Rattle.model.specs.Calls.{HasCause};
 ghost use Rattle.judge.specs.Looking.{HasLookedAt};
 ghost use Rattle.judge.specs.UnderWay.{was_due};
-ghost use Rattle.judge.specs.Dues.{AreListed, FindsDue, FindsDueEdges};
+ghost use Rattle.judge.specs.Dues.{AreListed, FindsDue, FindsClean, FindsDueEdges, FindsCleanEdges};
 ghost use Rattle.judge.specs.Summed.{AreSums};
 
 use crate::aliases::is_alias_due;
@@ -40,6 +40,7 @@ pub fn due_edges<S: Site>(
     ensures fits { IfOk result (λ due. length due.items ≡ length graph.now.manifest.lines) }
     ensures listed { IfOk result (λ due. AreListed cone.now.order.items due.items) }
     ensures due { FindsDueEdges S.tells S.world site.old site.new graph.now records.now cone.now plan.now looks.old result }
+    ensures clean { FindsCleanEdges S.tells S.world site.old site.new graph.now records.now cone.now plan.now looks.old result }
 {
     looks_follow();
     lists_stand(graph);
@@ -76,6 +77,7 @@ fn is_due<S: Site>(
     ensures cause { HasCause (S.world site.old) (S.world site.new) result }
     ensures summed { AreSums graph.now [] looks.new.seen.items sums.new }
     ensures due { FindsDue S.tells S.world site.old site.new graph.now records.now plan.now looks.old due.now edge result }
+    ensures clean { FindsClean S.tells S.world site.old site.new graph.now records.now plan.now looks.old edge result }
 {
     lists_stand(graph);
     if graph.is_phony(edge) {

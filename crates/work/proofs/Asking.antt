@@ -121,7 +121,7 @@ module _ (tells : Bool) (course : Course) (edges : List Edge) (phases : List Pha
   pub same_edges : edges ≡ (declared_by graph).edges
   same_edges = ap (λ (b : BuildGraph). b.edges) stands.suits.same
 
-  known : IsStoreOf graph state.records course.store
+  pub known : IsStoreOf graph state.records course.store
   known = record {
     known = subst (λ (rs : List Record). AreKnown graph rs course.store.deps state.records) (sym stands.on.told.same.0) (subst (λ (ds : List DepsRecord). AreKnown graph stands.on.told.records ds state.records) (sym stands.on.told.same.1) stands.on.told.known);
     in_use = λ i. subst (λ (es : List Edge). (p : List ℕ) → has (recorded_inputs course.store es i) p ≡ has (recorded_by graph i) p) same_edges (λ p. stands.suits.recorded i p);
@@ -181,7 +181,7 @@ module _ (tells : Bool) (course : Course) (edges : List Edge) (phases : List Pha
     kept = kept_orderly edges steps stands.on.carried.run.orderly
 
     -- quiet paths kept their files
-    quietly : Grew now new × AreKept (is_quiet files.free course.own edges steps) now.history new.history
+    pub quietly : Grew now new × AreKept (is_quiet files.free course.own edges steps) now.history new.history
     quietly = looks_quiet tells here graph stays None state now new stands.on looks tell files
 
     pub run_new : IsRun tells course.own (task_over course edges) steps course.entry new
@@ -189,8 +189,8 @@ module _ (tells : Bool) (course : Course) (edges : List Edge) (phases : List Pha
 
     -- ---- the depfiles of commands that were not judged
 
-    keeps_depfile : (i : ℕ) → IsCommand edges i → has_number (judged_in steps) i ≡ false → KeepsDepfile tells edges now new i
-    keeps_depfile i command fresh told named =
+    pub keeps_unstarted : (i : ℕ) → IsCommand edges i → has_number (started_in steps) i ≡ false → KeepsDepfile tells edges now new i
+    keeps_unstarted i command unstarted told named =
         let call = looks.history told in
         let so_far = stands.on.carried.run.history told in
         all_kept (bytes_eq (edge_at edges i).act.depfile) now.history call.more new.history call.grows (λ p is.
@@ -201,8 +201,10 @@ module _ (tells : Bool) (course : Course) (edges : List Edge) (phases : List Pha
       where
         others : OthersRun edges i (IsRunning now.events)
         others = others_run tells here.behaviour here.format here.own here.asked here.store here.entry steps now stands.on.carried.beside.idle
-            (rest_begins tells here.own (task_over course edges) here.entry steps now stands.on.carried.run) i
-            (false_from_ne_true (has_number (started_in steps) i) (λ started. false≢true (sym fresh ∙ kept.out_of_date i (kept.started i started))))
+            (rest_begins tells here.own (task_over course edges) here.entry steps now stands.on.carried.run) i unstarted
+
+    keeps_depfile : (i : ℕ) → IsCommand edges i → has_number (judged_in steps) i ≡ false → KeepsDepfile tells edges now new i
+    keeps_depfile i command fresh = keeps_unstarted i command (false_from_ne_true (has_number (started_in steps) i) (λ started. false≢true (sym fresh ∙ kept.out_of_date i (kept.started i started))))
 
     -- ---- quiet paths are those that may be looked at
 

@@ -1,5 +1,5 @@
 -- An edge is judged, rightly by the files of now.
-use Rattle.std.proofs.Common.{◌≡◌, inl, inr, ℕ, suc, ◌<◌, ◌&&◌, not, Vec, Global, Bool, true, false, IsTrue, List, [], ◌∷◌, ◌++◌, length, Option, None, is_some, bytes_eq, refl, sym, ◌∙◌, ap, subst, arith}
+use Rattle.std.proofs.Common.{◌≡◌, inl, inr, ℕ, zero, suc, ◌<◌, ◌&&◌, not, Vec, Global, Bool, true, false, IsTrue, List, [], ◌∷◌, ◌++◌, length, Option, Some, None, is_some, bytes_eq, refl, sym, ◌∙◌, ap, subst, arith}
 use Rattle.std.proofs.lemmas.List.{append-nil}
 use Rattle.std.proofs.lemmas.Bool.{false≢true, false_from_ne_true}
 use Rattle.std.specs.List.{AllByRecursion}
@@ -10,9 +10,10 @@ use Rattle.model.specs.declared.record.Record.{Record}
 use Rattle.model.specs.declared.record.DepsRecord.{DepsRecord}
 use Rattle.model.specs.World.{World, file_at, stamp_of, IsRunning}
 use Rattle.model.specs.Calls.{OnlyLooks}
-use Rattle.model.specs.Graph.{has, has_number, edge_at, outputs, IsCommand}
+use Rattle.model.specs.Graph.{has, has_number, edge_at, maker, outputs, IsCommand}
+use Rattle.model.specs.Judgement.{is_same_number}
 use Rattle.model.specs.Records.{recorded_inputs}
-use Rattle.model.specs.OutOfDate.{input_facts, Counted, ReadsNoFree, IsStaleByOutputs, IsVerdict}
+use Rattle.model.specs.OutOfDate.{input_facts, is_made_anew, Counted, ReadsNoFree, IsStaleByOutputs, IsVerdict}
 use Rattle.model.specs.Schedule.{Step as Done, Judged, MayBeJudged, out_of_date_in, started_in, ended_in, well_in, failed_in, running_in}
 use Rattle.model.specs.Premises.{FilesAreKept, RecordedApart, IsWithinEdge, IsNoEdit}
 use Rattle.model.specs.SingleBuild.{task_of}
@@ -77,6 +78,20 @@ judged_here e k true here =
     let same = has_number-is (suc e) (suc k) here in
     omega (arith, same)
 judged_here e k false here = absurd (false≢true here)
+
+stale_here : (e k : ℕ) (stale : Bool) → has_number (out_of_date_in (Judged (suc e) stale ∷ [])) (suc k) ≡ true → stale ≡ true
+stale_here e k true here = refl
+stale_here e k false here = absurd (false≢true here)
+
+-- ---- flags where no command has ended well
+
+no_flag : (p : ℕ) → flag_at [] p ≡ false
+no_flag zero = refl
+no_flag (suc p) = refl
+
+not_anew : (es : List Edge) (same : Bool) (o : Option ℕ) → is_made_anew es [] same o ≡ false
+not_anew es same None = refl
+not_anew es same (Some j) = refl
 
 module _ (tells : Bool) (course : Course) (graph : Graph) (stays : LogStays) (suits : Suits course graph) (state : State) (now new : World) (e : ℕ)
     (on : IsOn tells course graph None state now) (goes : goes_on course ≡ true) (next : IsNext state.plan (Judge e)) (looks : OnlyLooks tells now new) where
@@ -165,39 +180,32 @@ module _ (tells : Bool) (course : Course) (graph : Graph) (stays : LogStays) (su
         (outputs_quiet edges on.steps kept course.own files.own_files files.free files.free_apart suits.once (suc e) turn.command turn.once);
   }
 
-  -- ---- the verdict
+  -- ---- a verdict that is right
 
-  module _ (after : Looks) (reason : Option Reason) (stale : Bool) (told : stale ≡ is_some reason) (looked : HasLooked tells graph now new state.looks after)
-      (stand : StandFor (declared_by graph).edges graph.manifest.paths (links_of graph))
-      (outputs_asked : (edge_at (edges_of course) (suc e)).restat ≡ true → (p : ℕ) → has_number ((links_of graph).outputs e) p ≡ true → is_asked (look_at state.looks.seen.items p) ≡ true)
-      (answer : (rs : List Record) (ds : List DepsRecord) → AreKnown graph rs ds state.records → KeepsDepfile tells (declared_by graph).edges now new (suc e)
-      → IfKept tells graph.manifest.paths now new state.looks.seen.items (IsAnswer graph rs ds state.plan.changed.items e reason)) where
+  -- it is so by the files now, and by those at the entry
+  abbrev pub IsRight : Bool → Type 0
+  IsRight stale =
+      IsTrue tells → (files : FilesAreKept course.own (edges_of course) course.entry.history new.history) → RecordedApart course.own (recorded_inputs course.store (edges_of course))
+      → ReadsNoFree files.free (edges_of course) course.store new.history (suc e) → IsVerdict (edges_of course) course.store (well_in on.steps) course.entry.history new.history (suc e) stale
+
+  -- it is out of date where it is by what it makes, whatever it reads
+  abbrev pub IsRightMade : Bool → Type 0
+  IsRightMade stale = IsTrue tells → FilesAreKept course.own (edges_of course) course.entry.history new.history → IsStaleByOutputs (edges_of course) course.store course.entry.history (suc e) → stale ≡ true
+
+  -- of its own outputs, where they are compared later, what is noted is what was there at the entry
+  abbrev pub IsOwnSeen : Looks → Type 0
+  IsOwnSeen after =
+      IsTrue tells → FilesAreKept course.own (edges_of course) course.entry.history new.history → (edge_at (edges_of course) (suc e)).restat ≡ true → (p : ℕ) → has_number ((links_of graph).outputs e) p ≡ true
+      → look_at after.seen.items p ≡ look_of (stamp_of (file_at course.entry.history (text_at graph.manifest.paths p)))
+
+  module _ (after : Looks) (stale : Bool) (right : IsRight stale) (right_made : IsRightMade stale) (looked : HasLooked tells graph now new state.looks after) (own_seen : stale ≡ true → IsOwnSeen after) where
     abbrev pub more : List Done
     more = on.steps ++ Judged (suc e) stale ∷ []
 
-    right : IsTrue tells → (files : FilesAreKept course.own (edges_of course) course.entry.history new.history) → RecordedApart course.own (recorded_inputs course.store (edges_of course))
-        → ReadsNoFree files.free (edges_of course) course.store new.history (suc e) → IsVerdict (edges_of course) course.store (well_in on.steps) course.entry.history new.history (suc e) stale
-    right tell files apart bound =
-        let quiet = looks_quiet tells course graph stays None state now new on looks tell files in
-        let keeps = subst (λ (es : List Edge). KeepsDepfile tells es now new (suc e)) same_edges (keeps_depfile files) in
-        let by = (answer on.told.records on.told.deps on.told.known keeps tell (is_quiet files.free course.own (edges_of course) on.steps) quiet.1 (on.seen tell (files_then course.own (edges_of course) course.entry now new quiet.0 files))).0 course.store (well_in on.steps) course.entry.history
-        (may_be_judged tell files apart bound) in
-        let over = subst (λ (es : List Edge). IsReasonBy es course.store (well_in on.steps) course.entry.history new.history (suc e) reason) (sym same_edges) by in
-        record { read = over.read; counted = over.counted; verdict = told ∙ ap (λ (r : Option Reason). is_some r) over.is }
-
-    -- it is out of date where it is by what it makes, whatever it reads
-    right_made : IsTrue tells → FilesAreKept course.own (edges_of course) course.entry.history new.history → IsStaleByOutputs (edges_of course) course.store course.entry.history (suc e) → stale ≡ true
-    right_made tell files by_outputs =
-        let quiet = looks_quiet tells course graph stays None state now new on looks tell files in
-        let keeps = subst (λ (es : List Edge). KeepsDepfile tells es now new (suc e)) same_edges (keeps_depfile files) in
-        let by = (answer on.told.records on.told.deps on.told.known keeps tell (is_quiet files.free course.own (edges_of course) on.steps) quiet.1 (on.seen tell (files_then course.own (edges_of course) course.entry now new quiet.0 files))).1 course.store course.entry.history
-        (may_be_stale tell files) in
-        told ∙ by (subst (λ (es : List Edge). IsStaleByOutputs es course.store course.entry.history (suc e)) same_edges by_outputs)
-
-    pub judged_carried : Carried tells course graph more None new
+    judged_carried : Carried tells course graph more None new
     judged_carried = carried_judged tells course.behaviour course.format course.own course.asked course.store course.entry course.phases (goes_on course) on.steps None new (suc e) stale said.goes (said.lawful stale) said.loads right right_made carried_new
 
-    pub judged_seen : IsTrue tells → (files : FilesAreKept course.own (edges_of course) course.entry.history new.history) → AreSeenOf (is_quiet files.free course.own (edges_of course) more) graph.manifest.paths new.history after.seen.items
+    judged_seen : IsTrue tells → (files : FilesAreKept course.own (edges_of course) course.entry.history new.history) → AreSeenOf (is_quiet files.free course.own (edges_of course) more) graph.manifest.paths new.history after.seen.items
     judged_seen tell files p asked quiet_so =
         let quiet = looks_quiet tells course graph stays None state now new on looks tell files in
         looked.seen tell (is_quiet files.free course.own (edges_of course) on.steps) quiet.1 (on.seen tell (files_then course.own (edges_of course) course.entry now new quiet.0 files)) p asked
@@ -207,17 +215,6 @@ module _ (tells : Bool) (course : Course) (graph : Graph) (stays : LogStays) (su
     judged_anew = anew_over tells course graph on.steps more on.steps state now new (looks_quiet tells course graph stays None state now new on looks) suits.once (ended_command tells course graph on.steps None now on.carried)
         (well_judged on.steps (suc e) stale) (failed_judged on.steps (suc e) stale) on.anew
 
-    -- of its own outputs that were asked for: nobody has touched them
-    judged_own : IsTrue tells → FilesAreKept course.own (edges_of course) course.entry.history new.history → (edge_at (edges_of course) (suc e)).restat ≡ true → (p : ℕ) → has_number ((links_of graph).outputs e) p ≡ true
-        → look_at after.seen.items p ≡ look_of (stamp_of (file_at course.entry.history (text_at graph.manifest.paths p)))
-    judged_own tell files restat p made =
-        let quiet = looks_quiet tells course graph stays None state now new on looks tell files in
-        let was = outputs_asked restat p made in
-        let makes = makes_it (edges_of course) graph suits.once (subst (λ (es : List Edge). StandFor es graph.manifest.paths (links_of graph)) (sym same_edges) stand) e p made in
-        looked.seen tell (is_quiet files.free course.own (edges_of course) on.steps) quiet.1 (on.seen tell (files_then course.own (edges_of course) course.entry now new quiet.0 files)) p (ap is_asked (looked.stays p was) ∙ was)
-        (outputs_quiet edges on.steps kept course.own files.own_files files.free files.free_apart suits.once (suc e) turn.command turn.once (text_at graph.manifest.paths p) makes)
-        ∙ ap look_of (outputs_untouched tells course.own (task_of course.asked course.store) on.steps course.entry new suits.idle rest tell files suits.once (suc e) turn.command turn.once (text_at graph.manifest.paths p) makes)
-
     judged_before : AreSeenBefore tells course graph more (with_looks tells course graph state after) new
     judged_before tell files k due unended restat p made = elim (in_either out_of_date_in out_of_date-append on.steps (Judged (suc e) stale ∷ []) (suc k) due) [
       | inl before ↦
@@ -225,15 +222,15 @@ module _ (tells : Bool) (course : Course) (graph : Graph) (stays : LogStays) (su
           tell files k before (ap (λ (l : List ℕ). has_number l (suc k)) (sym (ended-append on.steps (Judged (suc e) stale ∷ []) ∙ append-nil (ended_in on.steps))) ∙ unended) restat p made
       | inr here ↦
           let same = judged_here e k stale here in
-          judged_own tell files (subst (λ (n : ℕ). (edge_at (edges_of course) (suc n)).restat ≡ true) same restat) p (subst (λ (n : ℕ). has_number ((links_of graph).outputs n) p ≡ true) same made)
+          own_seen (stale_here e k stale here) tell files (subst (λ (n : ℕ). (edge_at (edges_of course) (suc n)).restat ≡ true) same restat) p (subst (λ (n : ℕ). has_number ((links_of graph).outputs n) p ≡ true) same made)
     ]
 
-    pub judged_started : AreStarted course more state new
+    judged_started : AreStarted course more state new
     judged_started k runs = started_more (suc k) _ course.entry now new [] (looks.events ∙ sym (append-nil now.events)) (on.started k (sym (running_judged on.steps (suc e) stale (suc k)) ∙ runs))
 
-    pub judged_on : (plan : Plan) (display : Display) → TakesStep graph state.plan plan (Judged (suc e) stale) → plan.changed ≡ state.plan.changed
+    decided_on : (plan : Plan) (display : Display) → TakesStep graph state.plan plan (Judged (suc e) stale) → plan.changed ≡ state.plan.changed
         → IsOn tells course graph None (record { alloc = state.alloc; cone = state.cone; plan = plan; looks = after; records = state.records; display = display; tick = state.tick; due = state.due; starts = state.starts; failed = state.failed }) new
-    judged_on plan display takes flags_same =
+    decided_on plan display takes flags_same =
         let now_told = told_over tells course graph on.steps state now new (looks_quiet tells course graph stays None state now new on looks) on.told in
         record {
           steps = more;
@@ -253,6 +250,80 @@ module _ (tells : Bool) (course : Course) (graph : Graph) (stays : LogStays) (su
           ticking = on.ticking;
           noted = on.noted ∙ sym (failed_judged on.steps (suc e) stale);
         }
+
+  -- ---- by what was found now
+
+  module _ (after : Looks) (reason : Option Reason) (stale : Bool) (told : stale ≡ is_some reason) (looked : HasLooked tells graph now new state.looks after)
+      (stand : StandFor (declared_by graph).edges graph.manifest.paths (links_of graph))
+      (outputs_asked : (edge_at (edges_of course) (suc e)).restat ≡ true → (p : ℕ) → has_number ((links_of graph).outputs e) p ≡ true → is_asked (look_at state.looks.seen.items p) ≡ true)
+      (answer : (rs : List Record) (ds : List DepsRecord) → AreKnown graph rs ds state.records → KeepsDepfile tells (declared_by graph).edges now new (suc e)
+      → IfKept tells graph.manifest.paths now new state.looks.seen.items (IsAnswer graph rs ds state.plan.changed.items e reason)) where
+    found_right : IsRight stale
+    found_right tell files apart bound =
+        let quiet = looks_quiet tells course graph stays None state now new on looks tell files in
+        let keeps = subst (λ (es : List Edge). KeepsDepfile tells es now new (suc e)) same_edges (keeps_depfile files) in
+        let by = (answer on.told.records on.told.deps on.told.known keeps tell (is_quiet files.free course.own (edges_of course) on.steps) quiet.1 (on.seen tell (files_then course.own (edges_of course) course.entry now new quiet.0 files))).0 course.store (well_in on.steps) course.entry.history
+        (may_be_judged tell files apart bound) in
+        let over = subst (λ (es : List Edge). IsReasonBy es course.store (well_in on.steps) course.entry.history new.history (suc e) reason) (sym same_edges) by in
+        record { read = over.read; counted = over.counted; verdict = told ∙ ap (λ (r : Option Reason). is_some r) over.is }
+
+    found_made : IsRightMade stale
+    found_made tell files by_outputs =
+        let quiet = looks_quiet tells course graph stays None state now new on looks tell files in
+        let keeps = subst (λ (es : List Edge). KeepsDepfile tells es now new (suc e)) same_edges (keeps_depfile files) in
+        let by = (answer on.told.records on.told.deps on.told.known keeps tell (is_quiet files.free course.own (edges_of course) on.steps) quiet.1 (on.seen tell (files_then course.own (edges_of course) course.entry now new quiet.0 files))).1 course.store course.entry.history
+        (may_be_stale tell files) in
+        told ∙ by (subst (λ (es : List Edge). IsStaleByOutputs es course.store course.entry.history (suc e)) same_edges by_outputs)
+
+    -- of its own outputs that were asked for: nobody has touched them
+    found_own : IsOwnSeen after
+    found_own tell files restat p made =
+        let quiet = looks_quiet tells course graph stays None state now new on looks tell files in
+        let was = outputs_asked restat p made in
+        let makes = makes_it (edges_of course) graph suits.once (subst (λ (es : List Edge). StandFor es graph.manifest.paths (links_of graph)) (sym same_edges) stand) e p made in
+        looked.seen tell (is_quiet files.free course.own (edges_of course) on.steps) quiet.1 (on.seen tell (files_then course.own (edges_of course) course.entry now new quiet.0 files)) p (ap is_asked (looked.stays p was) ∙ was)
+        (outputs_quiet edges on.steps kept course.own files.own_files files.free files.free_apart suits.once (suc e) turn.command turn.once (text_at graph.manifest.paths p) makes)
+        ∙ ap look_of (outputs_untouched tells course.own (task_of course.asked course.store) on.steps course.entry new suits.idle rest tell files suits.once (suc e) turn.command turn.once (text_at graph.manifest.paths p) makes)
+
+    pub judged_on : (plan : Plan) (display : Display) → TakesStep graph state.plan plan (Judged (suc e) stale) → plan.changed ≡ state.plan.changed
+        → IsOn tells course graph None (record { alloc = state.alloc; cone = state.cone; plan = plan; looks = after; records = state.records; display = display; tick = state.tick; due = state.due; starts = state.starts; failed = state.failed }) new
+    judged_on plan display takes flags_same = decided_on after stale found_right found_made looked (λ is. found_own) plan display takes flags_same
+
+  -- ---- by what was known: no reason was found, as if no command had ended, and none has ended well
+
+  module _ (calm : well_in on.steps ≡ []) (looked : HasLooked tells graph now new state.looks state.looks)
+      (clean : IsTrue tells → (files : FilesAreKept course.own (edges_of course) course.entry.history new.history)
+      → IsAnswer graph course.store.records course.store.deps [] e None (is_quiet files.free course.own (edges_of course) on.steps) new.history) where
+    no_flags : (es : List Edge) (p : ℕ) → flag_at [] p ≡ (input_facts es (well_in on.steps) course.entry.history new.history (text_at graph.manifest.paths p)).changed
+    no_flags es p =
+        no_flag p
+        ∙ sym (ap (λ (ran : List ℕ). (input_facts es ran course.entry.history new.history (text_at graph.manifest.paths p)).changed) calm
+        ∙ not_anew es (is_same_number (stamp_of (file_at course.entry.history (text_at graph.manifest.paths p))) (stamp_of (file_at new.history (text_at graph.manifest.paths p)))) (maker es (text_at graph.manifest.paths p)))
+
+    clean_right : IsRight false
+    clean_right tell files apart bound =
+        let may = may_be_judged tell files apart bound in
+        let by = (clean tell files).0 course.store (well_in on.steps) course.entry.history (record {
+          records = refl;
+          deps = refl;
+          recorded = may.recorded;
+          untouched = may.untouched;
+          depfile = may.depfile;
+          flagged = λ p lt counted. no_flags (declared_by graph).edges p;
+          paths = may.paths;
+        }) in
+        let over = subst (λ (es : List Edge). IsReasonBy es course.store (well_in on.steps) course.entry.history new.history (suc e) None) (sym same_edges) by in
+        record { read = over.read; counted = over.counted; verdict = ap (λ (r : Option Reason). is_some r) over.is }
+
+    clean_made : IsRightMade false
+    clean_made tell files by_outputs =
+        let may = may_be_stale tell files in
+        (clean tell files).1 course.store course.entry.history (record { records = refl; deps = refl; untouched = may.untouched; depfile = may.depfile; made = may.made })
+        (subst (λ (es : List Edge). IsStaleByOutputs es course.store course.entry.history (suc e)) same_edges by_outputs)
+
+    pub clean_on : (plan : Plan) → TakesStep graph state.plan plan (Judged (suc e) false) → plan.changed ≡ state.plan.changed
+        → IsOn tells course graph None (record { alloc = state.alloc; cone = state.cone; plan = plan; looks = state.looks; records = state.records; display = state.display; tick = state.tick; due = state.due; starts = state.starts; failed = state.failed }) new
+    clean_on plan takes flags_same = decided_on state.looks false clean_right clean_made looked (λ stale. absurd (false≢true stale)) plan state.display takes flags_same
 
 -- it is that of a command in numbers too
 pub judged_command : (course : Course) (graph : Graph) → Suits course graph → (e : ℕ) → IsCommand (edges_of course) (suc e) → (links_of graph).phony e ≡ false

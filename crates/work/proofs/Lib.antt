@@ -15,6 +15,7 @@ pub mod Cutting
 pub mod Settled
 pub mod Launched
 pub mod Judging
+pub mod KnownClean
 pub mod Begins
 pub mod Counting
 pub mod Running

@@ -16,6 +16,7 @@ ghost use Rattle.work.specs.Standing.{NoSourceIsDue, GoesWell, IsStopThere, IsSt
 
 use crate::closing::finish;
 use crate::commands::unstarted_commands;
+use crate::judged::judge_clean;
 use crate::loads::load;
 use crate::rest::give_up;
 use crate::run::run_plan;
@@ -114,7 +115,8 @@ fn source(graph: &Graph, path: PathId) -> Option<PathId>
     }
 }
 
-/// Refuses a cone of which a source is missing; else what is due by now is noted, and counted by what is shown. Commands may run.
+/// Refuses a cone of which a source is missing; else what is due by now is noted, and counted by what is shown, and the edges that the
+/// plan says first are judged which are not due. Commands may run.
 fn ask_for_sources<S: Site>(site: &mut S, graph: &Graph, state: &mut State<'_>) -> Result<(), Stop>
     requires running { (S.world site.old).stopped ≡ false }
     requires begins { IsBeginning S.tells graph.now state.old (S.world site.old) }
@@ -139,6 +141,7 @@ fn ask_for_sources<S: Site>(site: &mut S, graph: &Graph, state: &mut State<'_>) 
             let unstarted = unstarted_commands(graph, &state.plan, &due);
             state.display.recount(unstarted);
             state.due = due;
+            judge_clean(graph, state);
             Ok(())
         }
         Err(stop) => Err(given_up(site, &state.plan, stop)),

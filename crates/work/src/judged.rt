@@ -1,21 +1,22 @@
 //! Judging an edge.
 
-ghost use Rattle.std.specs.Prelude.{◌≡◌, ◌<◌, true, false, is_some, get_or, OnOk, OnErr};
+ghost use Rattle.std.specs.Prelude.{◌≡◌, ◌<◌, true, false, is_some, get_or, length, IfSome, OnOk, OnErr};
 ghost use Rattle.model.specs.Calls.{HasCause};
 ghost use Rattle.judge.specs.Looking.{HasLooked};
 ghost use Rattle.plan.specs.declared.step.Step.TheVariants as step;
-ghost use Rattle.plan.specs.Planned.{IsNext, is_stale};
+ghost use Rattle.plan.specs.Planned.{IsNext, IsPlanOver, is_stale};
 ghost use Rattle.judge.specs.Lasting.{AreMarked};
 ghost use Rattle.judge.specs.Summed.{AreSums};
+ghost use Rattle.work.specs.Clean.{StaysKnowing, WasClean, IsCleanNext};
 ghost use Rattle.work.specs.Going.{IsGoing, GoesOn, work_left};
 
 use crate::outputs::ask_before;
 use crate::state::State;
 use graph::{Graph, lists_stand};
 use judge::{Sums, looks_follow, reason, sums_follow};
-use model::{Reason, SiteFault};
-use paths::EdgeId;
-use plan::Verdict;
+use model::{Deps, Reason, SiteFault};
+use paths::{Action, EdgeId};
+use plan::{Step, Verdict};
 use records::log_stays;
 use site::Site;
 
@@ -62,6 +63,66 @@ pub fn judge<S: Site>(
         .display
         .judged(was_due(&state.due, edge), reason.is_some());
     Ok(())
+}
+
+/// Judges edges clean, as long as the plan says one next that was found not to be due when sources were asked for: nothing is asked
+/// for again. It stops at an edge for whose depfile a judgement asks anew; and once a command has ended well it judges none, as that may
+/// have made anew what an edge reads.
+pub fn judge_clean(graph: &Graph, state: &mut State<'_>)
+    requires { IsPlanOver graph.now state.old.plan }
+    ensures looks { state.new.looks ≡ state.old.looks }
+    ensures on { StaysKnowing graph.now state.old state.new }
+{
+    log_stays();
+    while let Some(edge) = next_clean(graph, state) {
+        state.plan.judged(graph, edge, Verdict::Clean);
+    }
+}
+
+/// The edge that is judged next, where it was found to be clean.
+fn next_clean(graph: &Graph, state: &State<'_>) -> Option<EdgeId>
+    requires { IsPlanOver graph.now state.now.plan }
+    ensures { IfSome result (IsCleanNext state.now) }
+{
+    match state.plan.next() {
+        Step::Judge(edge) => {
+            if is_known_clean(graph, state, edge) {
+                Some(edge)
+            } else {
+                None
+            }
+        }
+        Step::Start(_) => None,
+        Step::Wait => None,
+        Step::Load(_) => None,
+        Step::Ended(_) => None,
+    }
+}
+
+/// Whether the edge was found not to be due and no command has ended well, and a judgement would ask for no depfile.
+fn is_known_clean(graph: &Graph, state: &State<'_>, edge: EdgeId) -> bool
+    requires { edge < length graph.now.manifest.lines }
+    ensures { result ≡ true → WasClean state.now edge }
+{
+    if was_due(&state.due, edge) {
+        return false;
+    }
+    if asks_for_depfile(graph, edge) {
+        return false;
+    }
+    state.plan.well() == 0
+}
+
+/// Whether a judgement of the edge asks for its depfile, which the command is to leave (manual: "Depfile").
+fn asks_for_depfile(graph: &Graph, edge: EdgeId) -> bool
+    requires { edge < length graph.now.manifest.lines }
+{
+    match graph.manifest.action(edge) {
+        Action::Alias => false,
+        Action::Command(command) => {
+            command.deps == Deps::Unset && !command.act.depfile.as_str().is_empty()
+        }
+    }
 }
 
 /// The verdict of the judgement that gave this.

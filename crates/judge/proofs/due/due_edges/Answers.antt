@@ -1,5 +1,6 @@
 use Rattle.std.proofs.Common.{◌≡◌, ◌↔◌, ◌<◌, ◌+◌, ℕ, [], map, List, Bool, true, false, suc, get_or, length, sym, ◌∙◌, ap, subst, arith, take, rules}
 use Rattle.std.proofs.Math.ListN.{set, replicate}
+use Rattle.std.proofs.lemmas.Bool.{false≢true}
 use Rattle.std.proofs.lemmas.List.{take_all, length-set, get_or_default}
 use Rattle.model.specs.Graph.{has_number}
 use Rattle.model.specs.OutOfDate.{IsDue}
@@ -7,8 +8,9 @@ use Rattle.model.specs.Records.{recorded_inputs}
 use Rattle.theory.specs.Order.{AreMakersFirst}
 use Rattle.theory.proofs.SiteCalls.{unrefused_none, unrefused_call, unrefused_then}
 use Rattle.graph.specs.Told.{declared_by}
-use Rattle.judge.specs.Dues.{AreDue, AreListed, AreMakersKnown, IsDueEdge}
+use Rattle.judge.specs.Dues.{AreDue, AreListed, AreMakersKnown, AreFoundClean, IsDueEdge, IsFoundClean, IsUnjudged}
 use Rattle.judge.proofs.LooksStay.{looked_none}
+use Rattle.judge.proofs.CleanEdges.{clean_one_more}
 use Rattle.judge.proofs.DueEdges.{makers_known, due_one_more, none_due, none_listed, listed_one_more}
 use Rattle.judge.proofs.NumbersAsTexts.{at_has}
 use Rattle.judge.proofs.FilesStay.{looked_then, quiet_both, quiet_first, quiet_second}
@@ -25,6 +27,7 @@ loop-edge-init g c =
       listed = subst (λ (l : List Bool). AreListed c.args.cone.now.order.items l) (sym none) (none_listed c.args.cone.now.order.items c.edges.result);
       due = λ store targets before way keeps told set kept seen has files alike.
           subst (λ (l : List Bool). AreDue (declared_by c.args.graph.now).edges store before files [] l) (sym none) (none_due (declared_by c.args.graph.now).edges store before files c.edges.result);
+      clean = λ e listed. absurd (false≢true listed);
     }
 
 pub is_due-requires-clause-within : goal.is_due-requires-clause-within
@@ -77,6 +80,11 @@ loop-edge-preserved g c =
           (quiet_first c.looks_follow.ensures.follow c.looks_follow.ensures.stay g.S.Texts.tells graph (g.S.Texts.world c.args.site.now) (g.S.Texts.world c.loop-edge.site) (g.S.Texts.world c.is_due.new.site) c.args.looks.now c.loop-edge.looks c.loop-edge.invariant.looked c.is_due.ensures.looked.looks store targets before (λ files. AreDue edges store before files (take place order) due) (c.loop-edge.invariant.due store targets before way))
           (quiet_second c.looks_follow.ensures.follow c.looks_follow.ensures.stay g.S.Texts.tells graph (g.S.Texts.world c.args.site.now) (g.S.Texts.world c.loop-edge.site) (g.S.Texts.world c.is_due.new.site) c.args.looks.now c.loop-edge.looks c.loop-edge.invariant.looked c.is_due.ensures.looked.looks store targets before (λ files. IsDueEdge graph store before c.deref.result.now c.edge-item.result files c.in_ok-due-2.field-0)
           (c.in_ok-due-2.ensures.due store targets before way.known way.orderly stands));
+      clean =
+          subst (λ (e : ℕ). AreFoundClean g.S.Texts.tells graph c.args.records.now c.args.plan.now (g.S.Texts.world c.args.site.now) (g.S.Texts.world c.is_due.new.site) c.args.looks.now (take (place + 1) order) (set due e c.in_ok-due-2.field-0)) (sym {A = ℕ} (c.index.ensures.place ∙ at))
+          (clean_one_more c.looks_follow.ensures.follow c.looks_follow.ensures.stay g.S.Texts.tells graph c.args.records.now c.args.plan.now (g.S.Texts.world c.args.site.now) (g.S.Texts.world c.loop-edge.site) (g.S.Texts.world c.is_due.new.site) c.args.looks.now c.loop-edge.looks
+          c.loop-edge.invariant.looked c.is_due.ensures.looked.looks order place c.loop-edge-test.true due (omega (arith, low, c.loop-edge.invariant.fits)) c.in_ok-due-2.field-0 c.loop-edge.invariant.clean
+          (subst (λ (e : ℕ). c.in_ok-due-2.field-0 ≡ false → IsUnjudged graph c.args.plan.now e → IsFoundClean g.S.Texts.tells graph c.args.records.now (g.S.Texts.world c.loop-edge.site) (g.S.Texts.world c.is_due.new.site) c.loop-edge.looks e) at c.in_ok-due-2.ensures.clean));
     }
 
 pub returns-clause-due : goal.returns-clause-due
@@ -87,3 +95,9 @@ returns-clause-due g c store targets before way keeps told set kept seen has fil
 
 pub returns-clause-listed : goal.returns-clause-listed
 returns-clause-listed g c = c.loop-edge.invariant.listed
+
+pub returns-clause-clean : goal.returns-clause-clean
+returns-clause-clean g c =
+    let order = c.as_slice-order.result.now in
+    let whole : take c.loop-edge.edge-index order ≡ c.args.cone.now.order.items = take_all c.loop-edge.edge-index order (omega arith) ∙ c.as_slice-order.ensures.value in
+    subst (λ (l : List ℕ). AreFoundClean g.S.Texts.tells c.args.graph.now c.args.records.now c.args.plan.now (g.S.Texts.world c.args.site.now) (g.S.Texts.world c.loop-edge.site) c.args.looks.now l c.loop-edge.due.items) whole c.loop-edge.invariant.clean

@@ -7,7 +7,7 @@ use Rattle.judge.specs.Looking.{HasLooked}
 use Rattle.judge.specs.Summed.{AreSums}
 use Rattle.judge.specs.Quiet.{IfQuiet}
 use Rattle.judge.specs.UnderWay.{IsUnderWay}
-use Rattle.judge.specs.Dues.{AreDue, AreListed}
+use Rattle.judge.specs.Dues.{AreDue, AreListed, AreFoundClean}
 use Rattle.judge.proofs.due.due_edges.Given as goal
 
 abbrev pub invariant-loop-edge : goal.invariant-loop-edge
@@ -19,4 +19,5 @@ invariant-loop-edge g l = record {
   listed : AreListed l.cone.order.items l.due.items;
   due : (store : Store) (targets : List (List ℕ)) (before : List Step) → IsUnderWay l.graph l.records l.cone l.plan store targets before
       → IfQuiet g.S.Texts.tells l.graph store targets before (g.S.Texts.world l.fn.site) (g.S.Texts.world l.site) l.fn.looks (λ files. AreDue (declared_by l.graph).edges store before files (take l.edge-index l.order) l.due.items);
+  clean : AreFoundClean g.S.Texts.tells l.graph l.records l.plan (g.S.Texts.world l.fn.site) (g.S.Texts.world l.site) l.fn.looks (take l.edge-index l.order) l.due.items;
 }

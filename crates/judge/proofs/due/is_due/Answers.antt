@@ -1,4 +1,4 @@
-use Rattle.std.proofs.Common.{◌≡◌, [], Some, None, true, false, suc, sym, ◌∙◌, ap, rules}
+use Rattle.std.proofs.Common.{◌≡◌, [], Bool, Option, Some, None, true, false, is_some, suc, sym, ◌∙◌, ap, rules}
 use Rattle.std.proofs.lemmas.Bool.{false≢true, false_from_ne_true}
 use Rattle.model.specs.Graph.{has_number}
 use Rattle.model.specs.Schedule.{out_of_date_in}
@@ -48,3 +48,15 @@ returns-in-None-clause-due g c =
     if_ok_then c.is_command_due.result c.is_command_due.ensures.due (λ is said store targets before known_by orderly stands.
     let standing : was_due (standing_in before (suc c.args.edge)) ≡ None = ap was_due (sym (c.standing.ensures ∙ stands command)) ∙ (sym c.was_due.ensures ∙ c.in-None.is) in
     said store targets before known_by orderly (unjudged_by edges before (kept_orderly edges before orderly) (suc c.args.edge) standing))
+
+pub returns-then-is_phony-clause-clean : goal.returns-then-is_phony-clause-clean
+returns-then-is_phony-clause-clean g c =
+    let linked : (links_of c.args.graph.now).phony c.args.edge ≡ true = search rules in
+    if_ok_then c.is_alias_due.result c.is_alias_due.ensures.due (λ is said not_due unjudged. absurd (false≢true (sym unjudged.0 ∙ linked)))
+
+pub returns-in-Some-clause-clean : goal.returns-in-Some-clause-clean
+returns-in-Some-clause-clean g c not_due unjudged =
+    absurd (false≢true (ap (λ (o : Option Bool). is_some o) (ap was_due (sym (c.standing.ensures ∙ unjudged.1)) ∙ (sym c.was_due.ensures ∙ c.in-Some.is))))
+
+pub returns-in-None-clause-clean : goal.returns-in-None-clause-clean
+returns-in-None-clause-clean g c = if_ok_then c.is_command_due.result c.is_command_due.ensures.clean (λ is said not_due unjudged. said not_due)

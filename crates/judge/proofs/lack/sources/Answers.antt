@@ -3,6 +3,7 @@ use Rattle.model.specs.Graph.{has_number}
 use Rattle.judge.specs.Dues.{AreSourcesIn}
 use Rattle.judge.specs.declared.lack.Lack.{Lack}
 use Rattle.judge.specs.Lacks.{IsFirstIn, IsFoundOfDue, IsSourceOf, IsLackOf, NamesDue}
+use Rattle.judge.proofs.CleanEdges.{clean_first, clean_second}
 use Rattle.judge.proofs.Finding.{target_found, due_told, all_found, asked_by}
 use Rattle.judge.proofs.FilesStay.{looked_then}
 use Rattle.judge.proofs.lack.sources.Goals as goal
@@ -51,6 +52,14 @@ returns-in-None-2-clause-due g c = record {
   due = λ store targets before way.
       let graph = c.args.graph.now in
       due_told c.looks_follow.ensures.follow c.looks_follow.ensures.stay g.S.Texts.tells graph c.lists_stand.ensures c.args.records.now c.args.cone.now c.args.plan.now store targets before way c.requires.targets (g.S.Texts.world c.args.site.now) (g.S.Texts.world c.first_missing.new.site) c.args.looks.now (g.S.Texts.world c.due_edges.new.site) (g.S.Texts.world c.lack_of_due.new.site) c.first_missing.new.looks c.due_edges.new.looks c.lack_of_due.new.looks c.first_missing.ensures.looked c.due_edges.ensures.looked c.lack_of_due.ensures.looked c.in_ok-due-in-None.due.items (c.in_ok-due-in-None.ensures.due store targets before way);
+  clean = λ e listed not_due unjudged.
+      let tells = g.S.Texts.tells in
+      let graph = c.args.graph.now in
+      let old = g.S.Texts.world c.args.site.now in
+      let mid = g.S.Texts.world c.due_edges.new.site in
+      clean_first c.looks_follow.ensures.follow c.looks_follow.ensures.stay tells graph c.args.records.now e old mid (g.S.Texts.world c.lack_of_due.new.site) c.args.looks.now c.lack_of_due.ensures.looked.looks
+      (clean_second c.looks_follow.ensures.follow c.looks_follow.ensures.stay tells graph c.args.records.now e old (g.S.Texts.world c.first_missing.new.site) mid c.args.looks.now c.first_missing.new.looks c.first_missing.ensures.looked c.due_edges.ensures.looked.looks
+      (c.in_ok-due-in-None.ensures.clean e listed not_due unjudged));
 }
 
 pub returns-in-Some-clause-within : goal.returns-in-Some-clause-within

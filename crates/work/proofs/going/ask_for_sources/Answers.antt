@@ -1,6 +1,8 @@
 use Rattle.std.proofs.Common.{refl}
 use Rattle.work.proofs.Asking.{order_within, same_edges}
 use Rattle.work.proofs.Faults.{well_looks}
+use Rattle.work.proofs.Halting.{with_sources, stands_looked}
+use Rattle.work.proofs.KnownClean.{knows_clean, sources_judged}
 use Rattle.work.proofs.Stopping.{sources_at, lacking_there, lacking_met, lacking_stop}
 use Rattle.work.proofs.going.ask_for_sources.Goals as goal
 
@@ -35,6 +37,19 @@ returns-in-Err-clause-halted g c course edges phases begins =
 pub returns-in-Ok-clause-well : goal.returns-in-Ok-clause-well
 returns-in-Ok-clause-well g c = well_looks g.S.Texts.tells (g.S.Texts.world c.args.site.now) (g.S.Texts.world c.check_sources.new.site) c.check_sources.ensures.looked.looks c.in-Ok.ensures.passed
 
+pub judge_clean-requires : goal.judge_clean-requires
+judge_clean-requires g c = c.requires.begins.3.stands.on.planned.over
+
 pub returns-in-Ok-clause-asked : goal.returns-in-Ok-clause-asked
 returns-in-Ok-clause-asked g c course edges phases begins =
-    sources_at g.S.Texts.tells course edges phases c.args.graph.now c.args.state.now (g.S.Texts.world c.args.site.now) begins c.log_stays.ensures (g.S.Texts.world c.check_sources.new.site) c.check_sources.new.looks c.check_sources.ensures.looked _ _ c.in-Ok.ensures.sources
+    let tells = g.S.Texts.tells in
+    let graph = c.args.graph.now in
+    let state = c.args.state.now in
+    let now = g.S.Texts.world c.args.site.now in
+    let new = g.S.Texts.world c.check_sources.new.site in
+    let looks = c.check_sources.new.looks in
+    let looked = c.check_sources.ensures.looked in
+    sources_judged tells course edges phases graph (with_sources tells course edges phases graph state now begins.stands c.log_stays.ensures new looks looked c.recount.new.self c.in-Ok.due) new
+    (stands_looked tells course edges phases graph state now begins.stands c.log_stays.ensures new looks looked c.recount.new.self c.in-Ok.due) c.judge_clean.new.state
+    (sources_at tells course edges phases graph state now begins c.log_stays.ensures new looks looked c.recount.new.self c.in-Ok.due c.in-Ok.ensures.sources) c.judge_clean.ensures.looks
+    (knows_clean tells course edges phases graph state now begins.stands c.log_stays.ensures new looked.looks c.in-Ok.due.items c.in-Ok.ensures.due) c.judge_clean.ensures.on
