@@ -193,7 +193,7 @@ FindsDueEdges tells world old new graph records cone plan seen result =
     IfOk result (λ due. IfUnderWay tells world old new graph records cone plan seen (λ store targets before files.
     AreDue (declared_by graph).edges store before files cone.order.items due.items))
 
--- and of each that was not judged and is not due, no reason was found
-abbrev pub FindsCleanEdges : {S E : Type 0} → Bool → (S → World) → S → S → Graph → Records → Cone → Plan → Looks → Result (Vec Bool Global) E → Type 0
-FindsCleanEdges tells world old new graph records cone plan seen result =
+-- of each of the rest that was not judged, no reason was found
+abbrev pub FindsRest : {S E : Type 0} → Bool → (S → World) → S → S → Graph → Records → Cone → Plan → Looks → Result (Vec Bool Global) E → Type 0
+FindsRest tells world old new graph records cone plan seen result =
     IfOk result (λ due. AreFoundClean tells graph records plan (world old) (world new) seen cone.order.items due.items)

@@ -4,7 +4,7 @@ ghost use Rattle.std.specs.Prelude.{◌≡◌, ◌<◌, All, [], IfOk, length, v
 ghost use Rattle.model.specs.Calls.{HasCause};
 ghost use Rattle.judge.specs.Looking.{HasLookedAt};
 ghost use Rattle.judge.specs.UnderWay.{was_due};
-ghost use Rattle.judge.specs.Dues.{AreListed, FindsDue, FindsClean, FindsDueEdges, FindsCleanEdges};
+ghost use Rattle.judge.specs.Dues.{AreListed, FindsDue, FindsClean, FindsDueEdges, FindsRest};
 ghost use Rattle.judge.specs.Summed.{AreSums};
 
 use crate::aliases::is_alias_due;
@@ -40,7 +40,7 @@ pub fn due_edges<S: Site>(
     ensures fits { IfOk result (λ due. length due.items ≡ length graph.now.manifest.lines) }
     ensures listed { IfOk result (λ due. AreListed cone.now.order.items due.items) }
     ensures due { FindsDueEdges S.tells S.world site.old site.new graph.now records.now cone.now plan.now looks.old result }
-    ensures clean { FindsCleanEdges S.tells S.world site.old site.new graph.now records.now cone.now plan.now looks.old result }
+    ensures clean { FindsRest S.tells S.world site.old site.new graph.now records.now cone.now plan.now looks.old result }
 {
     looks_follow();
     lists_stand(graph);
