@@ -19,3 +19,4 @@ pub mod Standing
 pub mod Recorded
 pub mod Sources
 pub mod Ends
+pub mod Clean
