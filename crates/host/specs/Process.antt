@@ -10,12 +10,19 @@ use Rattle.host.specs.declared.process.Handed.{Handed}
 use Rattle.host.specs.declared.process.State.{State}
 use Rattle.host.specs.declared.process.State.TheVariants.{Runs, Ended, Lost}
 use Rattle.host.specs.declared.process.Status.{Status}
+use Rattle.host.specs.declared.process.Variables.{Variables}
+use Rattle.host.specs.declared.process.Variables.TheVariants.{Lent, Made}
 
 -- ---- what is handed over
 
 -- the shell's file
 abbrev pub shell : List ℕ
 shell = codes "/bin/sh"
+
+-- the variables that a process gets, each ended by a NUL
+abbrev pub block_of : Variables → List ℕ
+block_of (Lent block) = block.now
+block_of (Made block) = block.items
 
 -- the words by which the shell runs a command, each ended by a NUL
 abbrev pub words_of : List ℕ → List ℕ
@@ -26,7 +33,7 @@ pub record IsHanded (command variables : List ℕ) (fds : List ℤ) (handed : Ha
   pub program : handed.program.now ≡ shell
   pub words : handed.words.items ≡ words_of command
   pub whole : HasNoNul command
-  pub environment : handed.environment.now ≡ variables
+  pub environment : block_of handed.environment ≡ variables
   pub folder : handed.folder.now ≡ []
   pub streams : handed.streams ≡ fds
 

@@ -2,7 +2,7 @@
 
 use crate::disk::{Found, Standing};
 use crate::host::Host;
-use seen::{Measure, Measured};
+use measure::{Measure, Measured};
 use site::SiteFault;
 use std::io::Write;
 use text::Bytes;

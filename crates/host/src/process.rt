@@ -1,7 +1,7 @@
 //! Processes of the system, as this program starts them and asks how they ended.
 
 ghost use Rattle.std.specs.Prelude.{◌≡◌, ℤ, IfOk, IfSome, IsTrue};
-ghost use Rattle.host.specs.Process.{IsHanded, IsOf, IsPut, status_in};
+ghost use Rattle.host.specs.Process.{IsHanded, IsOf, IsPut, block_of, status_in};
 
 use crate::number::Number;
 use crate::words::push_word;
@@ -17,6 +17,25 @@ const WORDS: &[u8] = b"/bin/sh\0-c\0";
 /// The descriptors that a process gets as its input, its output and its errors. Where one is negative, it gets the program's own.
 pub type Streams = [i32; 3];
 
+/// The variables that a process gets, each ended by a NUL.
+#[derive(Drop)]
+pub enum Variables<'a> {
+    /// Those that the program has, as they are.
+    Lent(&'a [u8]),
+    Made(Vec<u8>),
+}
+
+impl<'a> Variables<'a> {
+    fn as_slice(&self) -> &[u8]
+        ensures { result.now ≡ block_of self.now }
+    {
+        match self {
+            Variables::Lent(block) => block,
+            Variables::Made(block) => block.as_slice(),
+        }
+    }
+}
+
 /// What is handed to the call that starts a process.
 #[derive(Drop)]
 pub struct Handed<'a> {
@@ -24,8 +43,7 @@ pub struct Handed<'a> {
     pub program: &'a [u8],
     /// The words that it gets, its name first, each ended by a NUL.
     pub words: Vec<u8>,
-    /// The variables that it gets, each ended by a NUL.
-    pub environment: &'a [u8],
+    pub environment: Variables<'a>,
     /// The folder that it begins in; where it is empty, the program's own.
     pub folder: &'a [u8],
     pub streams: Streams,
@@ -47,7 +65,7 @@ pub fn handed_over<'a>(
     Ok(Handed {
         program: SHELL.as_bytes(),
         words,
-        environment,
+        environment: Variables::Lent(environment),
         folder: b"",
         streams,
     })
@@ -83,7 +101,7 @@ impl Process {
         let number = Number::new(os::spawn(
             handed.program,
             handed.words.as_slice(),
-            handed.environment,
+            handed.environment.as_slice(),
             handed.folder,
             handed.streams,
         ));

@@ -12,8 +12,8 @@ use Rattle.seen_log.specs.declared.log.Log.{Log}
 use Rattle.seen_log.specs.declared.note.Note.{Note}
 use Rattle.seen_log.specs.declared.note.Noted.{Noted}
 use Rattle.seen_true.specs.Counting.{is_as_noted, is_turned}
-use Rattle.seen.specs.Measured.{measured_at}
-use Rattle.seen.specs.declared.measure.Measure.{Measure}
+use Rattle.measure.specs.Measured.{measured_at}
+use Rattle.measure.specs.declared.measure.Measure.{Measure}
 use Rattle.tools.specs.Clean.{AddsJust}
 use Rattle.tools.specs.Moves.{RemovesOf}
 use Rattle.ninja_asked.specs.declared.written.Parted.{Parted}

@@ -6,10 +6,10 @@ ghost use Rattle.ninja_asked.specs.Tools.{removes};
 
 use crate::cleaning::{buried, cleaned};
 use crate::missing_told::missing_answer;
+use measure::Measured;
 use ninja_words::Options;
 use paths::PathId;
 use records::Records;
-use seen::Measured;
 use site::Site;
 use std::alloc::Global;
 use tools::{

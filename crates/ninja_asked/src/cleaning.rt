@@ -5,10 +5,10 @@ ghost use Rattle.ninja_asked.specs.Written.{RemovesLeft, StandsForSome};
 
 use crate::answers::Asking;
 use crate::written::{Parted, no_notes, part, read_notes};
+use measure::Measured;
 use ninja_words::Shown;
 use paths::{PathId, Paths};
 use records::Records;
-use seen::Measured;
 use seen_log::Log;
 use site::Site;
 use std::alloc::{AllocError, Global};

@@ -9,8 +9,9 @@ ghost use Rattle.ninja_asked.specs.Written.{ArePartedBy, FoundBy, IsToldBy, Part
 
 use lexer::{ReadFault, canonical};
 use log_text::Records;
+use measure::{Measure, Measured};
 use paths::Paths;
-use seen::{Measure, Measured, Past, judge};
+use seen::{Past, judge};
 use seen_log::{Log, Noted};
 use site::{Site, SiteFault};
 use std::alloc::{AllocError, Global};

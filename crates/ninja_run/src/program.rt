@@ -5,11 +5,12 @@ ghost use Rattle.std.specs.Prelude.{◌≡◌, ◌≤◌, false, IfOk};
 use crate::told::{self, Telling};
 use builder::{Options, Report};
 use host::{Host, Trouble};
+use measure::Measured;
 use ninja_asked::{Asking, default_jobs};
 use ninja_words::{
     Asked, Front, Heading, HeadingFault, Options as Given, Output, PATTERN, Shown, asked,
 };
-use seen::{Measured, Seen};
+use seen::Seen;
 use site::{Site, SiteFault};
 use stand_in::{
     Due, Ended, NoAnswer, Outcome, Patient, Place, answer, build_here, due_here, site_here,

@@ -5,8 +5,8 @@ ghost use Rattle.sim.specs.World.{world_of};
 ghost use Rattle.rows_seen.specs.Files.{OnlyFiles};
 
 use meanwhile::{Clean, Random, Source, edges_of, name_trouble};
+use measure::{Measure, Measured};
 use model::{Act, Event, Finished, SiteFault};
-use seen::{Measure, Measured};
 use sim::{Call, Sim, Timing, Toy};
 use site::{Site, Texts};
 use std::alloc::{AllocError, Global};

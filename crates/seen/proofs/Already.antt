@@ -10,7 +10,7 @@ use Rattle.seen_log.specs.Log.{counts_of}
 use Rattle.seen.specs.declared.answer.Looked.{Looked}
 use Rattle.seen.specs.declared.counts.Counts.{Counts}
 use Rattle.seen.specs.declared.judging.Judged.{Judged}
-use Rattle.seen.specs.declared.measure.Measure.{Measure}
+use Rattle.measure.specs.declared.measure.Measure.{Measure}
 use Rattle.seen.specs.Answered.{counted_by, placed_by}
 use Rattle.seen.specs.Beginning.{past_of, started_by}
 use Rattle.seen_true.specs.Counting.{is_as_noted, is_turned}

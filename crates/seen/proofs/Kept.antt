@@ -26,7 +26,7 @@ use Rattle.seen_true.specs.Going.{AbsenceNotes, Adds, CallsNote, CallsStand, Fou
 use Rattle.seen.specs.declared.answer.Looked.{Looked}
 use Rattle.seen.specs.declared.counts.Counts.{Counts}
 use Rattle.seen.specs.declared.judging.Judged.{Judged}
-use Rattle.seen.specs.declared.measure.Measure.{Measure}
+use Rattle.measure.specs.declared.measure.Measure.{Measure}
 use Rattle.seen.specs.declared.own.Own.{Own}
 use Rattle.seen.specs.Answered.{placed_by}
 use Rattle.seen.specs.Beginning.{counts_at, noted_of, past_of, started_by}
@@ -35,7 +35,7 @@ use Rattle.seen.specs.Judged.{judged, left_number, plainly, turned, under as not
 use Rattle.seen.specs.Known.{MayLeave, MaySee, NumbersSo, TellingsAreSame, known_of}
 use Rattle.seen.specs.Looking.{KnowsSame, NotesStart, looked_at, looked_by, looked_own, looked_there}
 use Rattle.seen.specs.Makers.{made_in, maker_of}
-use Rattle.seen.specs.Measured.{measure_of, measured_at}
+use Rattle.measure.specs.Measured.{measure_of, measured_at}
 use Rattle.seen.specs.Noting.{AbsenceOf, AwayOf, LeftOf, LinesOf, NeverOf, UnlessSettled, UnmadeOf, is_absence}
 use Rattle.seen.specs.Own.{is_own}
 use Rattle.seen.proofs.Seeing.{looked_told, placed_there}

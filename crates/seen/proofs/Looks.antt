@@ -8,14 +8,14 @@ use Rattle.seen_law.specs.Laws.{AnswersAreTold, told_then}
 use Rattle.seen_law.specs.Retold.{none_started, started_after, stamp_told, told_file, under}
 use Rattle.seen.specs.declared.answer.Looked.{Looked}
 use Rattle.seen.specs.declared.counts.Counts.{Counts}
-use Rattle.seen.specs.declared.measure.Measure.{Measure}
+use Rattle.measure.specs.declared.measure.Measure.{Measure}
 use Rattle.seen.specs.Beginning.{counts_at, started_by}
 use Rattle.seen_true.specs.Going.{since}
 use Rattle.seen_true.specs.Counting.{telling}
 use Rattle.seen.specs.Begun.{Begun, BeginsTold, GoesOn, told_world}
 use Rattle.seen.specs.Looking.{looked_at, looked_by, looked_own, looked_there}
 use Rattle.seen.specs.Makers.{maker_of}
-use Rattle.seen.specs.Measured.{measure_of, measured_at, read_at}
+use Rattle.measure.specs.Measured.{measure_of, measured_at, read_at}
 use Rattle.seen.specs.Own.{is_own}
 use Rattle.seen.specs.Reading.{content_counted, measure_in}
 use Rattle.seen.proofs.Seeing.{content_own, looked_told}

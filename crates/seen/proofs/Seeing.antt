@@ -15,7 +15,7 @@ use Rattle.seen.specs.declared.answer.Looked.{Looked}
 use Rattle.seen.specs.declared.counts.Counts.{Counts}
 use Rattle.seen.specs.declared.judging.Judged.{Judged}
 use Rattle.seen.specs.declared.judging.Past.{Past}
-use Rattle.seen.specs.declared.measure.Measure.{Measure}
+use Rattle.measure.specs.declared.measure.Measure.{Measure}
 use Rattle.seen.specs.declared.own.Own.{Own}
 use Rattle.seen.specs.Answered.{counted_by, own_stamp, placed_by}
 use Rattle.seen.specs.Beginning.{counts_at, past_of, started_by}
@@ -26,7 +26,7 @@ use Rattle.seen.specs.Looking.{KnowsSame, MayWrite, judged_there, looked_at, loo
 use Rattle.seen_true.specs.Counting.{telling}
 use Rattle.seen.specs.Begun.{Begun}
 use Rattle.seen.specs.Makers.{is_job, maker_of}
-use Rattle.seen.specs.Measured.{measure_of, measured_at}
+use Rattle.measure.specs.Measured.{measure_of, measured_at}
 use Rattle.seen.specs.Own.{is_own}
 
 under_stamp : (counts : Option ℕ) (content : List ℕ) → stamp_of (under counts content) ≡ counts

@@ -2,7 +2,7 @@
 use Rattle.std.specs.Prelude.{ℕ, if◌then◌else◌, Bool, true, false, Option, Some, None}
 use Rattle.seen_law.specs.Retold.{stamp_told}
 use Rattle.seen.specs.declared.judging.Judged.{Judged}
-use Rattle.seen.specs.declared.measure.Measure.{Measure}
+use Rattle.measure.specs.declared.measure.Measure.{Measure}
 
 -- the stamp that counts for what is found, which is judged so, and whose command was started under this stamp, or was not
 abbrev pub counted_by : Judged → (started : Option ℕ) → Option Measure → Option ℕ

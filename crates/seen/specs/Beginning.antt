@@ -11,7 +11,7 @@ use Rattle.seen.specs.declared.makers.Makers.{Makers}
 use Rattle.seen.specs.declared.own.Own.{Own}
 use Rattle.seen.specs.Judged.{judged}
 use Rattle.seen.specs.Makers.{made_in, maker_of}
-use Rattle.seen.specs.Measured.{measure_of}
+use Rattle.measure.specs.Measured.{measure_of}
 use Rattle.seen.specs.Own.{is_own}
 
 -- ---- by what is known when a build begins

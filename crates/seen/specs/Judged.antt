@@ -8,7 +8,7 @@ use Rattle.seen_true.specs.Counting.{is_as_noted, is_turned}
 use Rattle.seen_true.specs.Laws.{is_late}
 use Rattle.seen.specs.declared.judging.Judged.{Judged}
 use Rattle.seen.specs.declared.judging.Past.{Past}
-use Rattle.seen.specs.declared.measure.Measure.{Measure}
+use Rattle.measure.specs.declared.measure.Measure.{Measure}
 
 -- as what a source is noted that is another than the noted one
 abbrev pub turned : Kind → Kind

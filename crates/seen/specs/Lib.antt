@@ -1,4 +1,3 @@
-pub mod Measured
 pub mod Judged
 pub mod Answered
 pub mod Own

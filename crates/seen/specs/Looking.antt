@@ -5,7 +5,7 @@ use Rattle.seen_log.specs.Keeping.{last_of}
 use Rattle.seen.specs.declared.answer.Looked.{Looked}
 use Rattle.seen.specs.declared.counts.Counts.{Counts}
 use Rattle.seen.specs.declared.judging.Judged.{Judged}
-use Rattle.seen.specs.declared.measure.Measure.{Measure}
+use Rattle.measure.specs.declared.measure.Measure.{Measure}
 use Rattle.seen.specs.Answered.{counted_by, own_stamp, placed_by}
 use Rattle.seen.specs.Beginning.{past_of, started_by}
 use Rattle.seen.specs.Judged.{judged, plainly}

@@ -12,7 +12,7 @@ use Rattle.seen_true.specs.Counting.{absence, no_size}
 use Rattle.seen.specs.declared.answer.Looked.{Looked}
 use Rattle.seen.specs.declared.judging.Judged.{Judged}
 use Rattle.seen.specs.declared.known.Known.{Known}
-use Rattle.seen.specs.declared.measure.Measure.{Measure}
+use Rattle.measure.specs.declared.measure.Measure.{Measure}
 use Rattle.seen.specs.Judged.{left_number}
 
 -- ---- the lines of what is to be noted

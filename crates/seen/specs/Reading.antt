@@ -1,6 +1,6 @@
 -- What is read of a file that may not count.
 use Rattle.std.specs.Prelude.{ℕ, List, Option, Some, None}
-use Rattle.seen.specs.declared.measure.Measure.{Measure}
+use Rattle.measure.specs.declared.measure.Measure.{Measure}
 
 -- what stands there, where it counts
 abbrev pub content_counted : Option ℕ → Option (List ℕ × Measure) → Option (List ℕ)

@@ -9,7 +9,7 @@ ghost use Rattle.seen.specs.Judged.{already, already_away, plainly};
 ghost use Rattle.seen.specs.Reading.{content_counted, measure_in};
 
 use crate::judging::{Judged, is_as_noted, is_turned, plainly};
-use crate::measure::Measure;
+use measure::Measure;
 use seen_log::{Last, Noted, counts_of};
 use std::alloc::AllocError;
 use text::Bytes;

@@ -5,7 +5,7 @@ ghost use Rattle.seen_true.specs.Counting.{is_as_noted, is_turned, whole_seconds
 ghost use Rattle.seen_true.specs.Laws.{is_late};
 ghost use Rattle.seen.specs.Judged.{judged, judged_away, judged_new, judged_noted, judged_same, left_number, next_number, number_told, plainly, turned, under};
 
-use crate::measure::Measure;
+use measure::Measure;
 use seen_log::{Kind, Noted, counts_of};
 
 /// A second, in nanoseconds.

@@ -6,7 +6,7 @@ ghost use Rattle.seen.specs.Noting.{is_absence};
 
 use crate::answer::Looked;
 use crate::judging::{Judged, left_number};
-use crate::measure::Measure;
+use measure::Measure;
 use paths::Paths;
 use seen_log::{Kind, Last, Noted, note_line};
 use std::alloc::{AllocError, Global};

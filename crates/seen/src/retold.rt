@@ -21,9 +21,9 @@ use crate::beginning::Beginning;
 use crate::counts::Counts;
 use crate::known::Known;
 use crate::makers::Makers;
-use crate::measure::Measured;
 use crate::notes::{Entry, read_by};
 use crate::starts::started_since;
+use measure::Measured;
 use model::{Act, Event, Finished};
 use seen_law::{answers_are_told, events_are_told, looks_are_told, writes_are_told};
 use seen_true::{

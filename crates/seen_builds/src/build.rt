@@ -13,7 +13,8 @@ ghost use Rattle.seen_builds.specs.From.{begun_with, IsOver, IsSeenBuild};
 
 use builder::{Asked, Options, Report, build_graph_read};
 use graph::Graph;
-use seen::{Beginning, Entry, Measured, Seen, enter};
+use measure::Measured;
+use seen::{Beginning, Entry, Seen, enter};
 use std::alloc::Global;
 use std::marker::Brand;
 

@@ -5,11 +5,11 @@ ghost use Rattle.host.specs.World.{world_of, fresh};
 
 use crate::place::Place;
 use host::Host;
+use measure::{Measure, Measured};
 use model::{Act, Event, Finished, SiteFault};
 use ninja_words::{Front, Screen};
 use nj_run::Alone;
 use paths::Manifest;
-use seen::{Measure, Measured};
 use site::{Site, Texts};
 use std::alloc::Global;
 use std::io::Write;

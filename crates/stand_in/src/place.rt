@@ -4,9 +4,10 @@ ghost use Rattle.std.specs.Prelude.{◌≡◌};
 ghost use Rattle.model.specs.Calls.{HasCause, KeepsWait, OnlyLooks};
 
 use host::Host;
+use measure::Measured;
 use model::{Act, SiteFault};
 use nj_run::Alone;
-use seen::{Beginning, Measured, Seen, looks_go_on};
+use seen::{Beginning, Seen, looks_go_on};
 use std::io::Write;
 
 /// A site in whose folder others may build too, and on which the program does between two builds what a user would do there.

@@ -6,10 +6,10 @@ ghost use Rattle.ninja_asked.specs.Tools.{removes};
 
 use crate::build::{read_alone, read_here};
 use builder::Report;
+use measure::Measured;
 use model::SiteFault;
 use ninja_asked::{Asking, answer_read};
 use nj_run::Alone;
-use seen::Measured;
 use std::alloc::{AllocError, Global};
 use tools::{Answer, Fault, Tool};
 

@@ -1,7 +1,7 @@
 -- What stands at a path, as a site measures it that tells its files.
 use Rattle.std.specs.Prelude.{ℕ, List, Option, Some, None, length}
 use Rattle.model.specs.World.{File}
-use Rattle.seen.specs.declared.measure.Measure.{Measure}
+use Rattle.measure.specs.declared.measure.Measure.{Measure}
 
 -- it was put there when it was written
 abbrev pub measure_of : File → Measure

@@ -3,7 +3,7 @@
 ghost use Rattle.std.specs.Prelude.{IsTrue, IfOk};
 ghost use Rattle.model.specs.World.{file_at};
 ghost use Rattle.model.specs.Calls.{HasCause, KeepsWait, OnlyLooks, Sees};
-ghost use Rattle.seen.specs.Measured.{measured_at, read_at};
+ghost use Rattle.measure.specs.Measured.{measured_at, read_at};
 
 use site::{Site, SiteFault};
 use text::Bytes;
