@@ -121,7 +121,7 @@ def wrong_in_tree(nj, project, is_listed=False):
     if not end:
         yield f"no last line: {traced.text!r}"
         return
-    told = [line for line in traced.text.splitlines() if re.match(r"\S+: (reads|lists|writes|removes|did not write|takes|its trace)", line)]
+    told = [line for line in traced.text.splitlines() if re.match(r"\S+: (reads|lists|writes|sets the stamp of|removes|did not write|takes|its trace)", line)]
     for line in told:
         why = why_known(project, line)
         if not why:

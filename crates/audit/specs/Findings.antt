@@ -9,19 +9,20 @@ use Rattle.audit.specs.declared.finding.Finding.TheVariants as found
 unfoldable pub counts : Place → Bool
 counts place = (place.around.inside || place.around.named) && not place.around.own
 
--- a file was read or asked for
-unfoldable pub looks : Use → Bool
-looks used = (used.reads || used.asks) && not used.is_folder
+-- A file was read or asked for; also one that was written into before, where an earlier run may have left it. Below a folder for scratch files
+-- compilers write into files of names that they have made up.
+unfoldable pub looks : Place → Use → Bool
+looks place used = ((used.reads || (used.takes && not place.around.scratch)) || used.asks) && not used.is_folder
 
 -- ---- reading: a command's outcome depends only on its inputs and on what it reports
 
 unfoldable pub is_unreported : Place → Use → Bool
 is_unreported place used =
-    (((counts place && looks used) && not (place.input || place.reported)) && not (place.output || place.side)) && not place.order_only
+    (((counts place && looks place used) && not (place.input || place.reported)) && not (place.output || place.side)) && not place.order_only
 
 unfoldable pub is_order_only : Place → Use → Bool
 is_order_only place used =
-    (((counts place && looks used) && not (place.input || place.reported)) && not (place.output || place.side)) && place.order_only
+    (((counts place && looks place used) && not (place.input || place.reported)) && not (place.output || place.side)) && place.order_only
 
 -- it is an output of its own that was read before it was made anew
 abbrev pub is_read_itself : Place → Use → Bool
@@ -31,9 +32,13 @@ is_read_itself place used = place.output && used.takes
 abbrev pub is_kept : Place → Use → Bool
 is_kept place used = (place.output && used.keeps) && not used.takes
 
+-- It is an output of its own that keeps what stood there, under a stamp of now. Where that is read or written into, it is told so.
+abbrev pub is_stamped : Place → Use → Bool
+is_stamped place used = ((place.output && used.stamps) && place.around.filled) && not (used.takes || used.keeps)
+
 -- what is read is a source, or made above
 unfoldable pub is_not_above : Place → Use → Bool
-is_not_above place used = (looks used && place.around.made) && not place.around.above
+is_not_above place used = (looks place used && place.around.made) && not place.around.above
 
 unfoldable pub is_listed : Place → Use → Bool
 is_listed place used = (used.lists && counts place) && not place.input
@@ -68,10 +73,11 @@ when is finding = if is then finding ∷ [] else []
 
 unfoldable pub found_read : Place → Use → List Finding
 found_read place used =
-    ((((when (is_unreported place used) found.Unreported
+    (((((when (is_unreported place used) found.Unreported
     ++ when (is_order_only place used) found.OrderOnly)
     ++ when (is_read_itself place used) found.Itself)
     ++ when (is_kept place used) found.Kept)
+    ++ when (is_stamped place used) found.Stamped)
     ++ when (is_not_above place used) found.NotAbove)
     ++ when (is_listed place used) found.Listed
 

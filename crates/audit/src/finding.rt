@@ -1,7 +1,7 @@
 //! What breaks a premise.
 
 ghost use Rattle.std.specs.Prelude.{◌≡◌, ◌++◌, OnOk, IfOk, []};
-ghost use Rattle.audit.specs.Findings.{counts, findings, found_read, found_removed, found_written, is_kept, is_listed, is_not_above, is_order_only, is_read_itself, is_scratch, is_strange, is_unreported, is_unwritten, looks, spoils_known, spoils_made, spoils_stray, when};
+ghost use Rattle.audit.specs.Findings.{counts, findings, found_read, found_removed, found_written, is_kept, is_listed, is_not_above, is_order_only, is_read_itself, is_scratch, is_stamped, is_strange, is_unreported, is_unwritten, looks, spoils_known, spoils_made, spoils_stray, when};
 
 use crate::place::Place;
 use crate::used::Use;
@@ -19,6 +19,8 @@ pub enum Finding {
     Itself,
     /// It writes into an output that an earlier run of it left.
     Kept,
+    /// It sets the stamp of an output that an earlier run of it left, and that is not empty.
+    Stamped,
     /// It reads what another command makes that is not above it.
     NotAbove,
     /// It lists a folder.
@@ -46,6 +48,7 @@ impl Finding {
             Finding::Unreported | Finding::OrderOnly | Finding::Itself | Finding::NotAbove =>
                 "reads",
             Finding::Kept => "writes into",
+            Finding::Stamped => "sets the stamp of",
             Finding::Listed => "lists",
             Finding::WritesMade | Finding::WritesKnown | Finding::WritesStray => "writes",
             Finding::RemovesMade | Finding::RemovesKnown | Finding::RemovesStray => "removes",
@@ -60,6 +63,7 @@ impl Finding {
             Finding::OrderOnly => ", an order-only input that is not in its depfile",
             Finding::Itself => ", its own output, as an earlier run left it",
             Finding::Kept => ", its own output, without emptying it first",
+            Finding::Stamped => ", its own output, and leaves what stands there",
             Finding::NotAbove => ", which a command makes that is not above it",
             Finding::Listed => "/, and a file made there later would not be seen",
             Finding::WritesMade | Finding::RemovesMade => ", which another command makes",
@@ -77,6 +81,7 @@ impl Finding {
             | Finding::OrderOnly
             | Finding::Itself
             | Finding::Kept
+            | Finding::Stamped
             | Finding::Listed => "depends only on its inputs and on what it reports",
             Finding::NotAbove => "reports only what is made above it",
             Finding::WritesMade
@@ -122,6 +127,7 @@ fn push_read(found: &mut Items<Finding>, place: Place, used: Use) -> Result<(), 
     push_if(found, is_order_only(place, used), Finding::OrderOnly)?;
     push_if(found, is_read_itself(place, used), Finding::Itself)?;
     push_if(found, is_kept(place, used), Finding::Kept)?;
+    push_if(found, is_stamped(place, used), Finding::Stamped)?;
     push_if(found, is_not_above(place, used), Finding::NotAbove)?;
     push_if(found, is_listed(place, used), Finding::Listed)?;
     Ok(())
@@ -181,12 +187,13 @@ fn counts(place: Place) -> bool
     (place.around.inside || place.around.named) && !place.around.own
 }
 
-/// Whether a file was read or asked for.
+/// Whether a file was read or asked for; also one that it wrote into before, where an earlier run may have left it. Below a folder for scratch
+/// files compilers write into files of names that they have made up.
 #[tactic(auto, unfolding(crate::specs::Findings::looks))]
-fn looks(used: Use) -> bool
-    ensures { result ≡ looks used }
+fn looks(place: Place, used: Use) -> bool
+    ensures { result ≡ looks place used }
 {
-    (used.reads || used.asks) && !used.is_folder
+    (used.reads || (used.takes && !place.around.scratch) || used.asks) && !used.is_folder
 }
 
 #[tactic(auto, unfolding(crate::specs::Findings::is_unreported))]
@@ -194,7 +201,7 @@ fn is_unreported(place: Place, used: Use) -> bool
     ensures { result ≡ is_unreported place used }
 {
     counts(place)
-        && looks(used)
+        && looks(place, used)
         && !(place.input || place.reported)
         && !(place.output || place.side)
         && !place.order_only
@@ -205,7 +212,7 @@ fn is_order_only(place: Place, used: Use) -> bool
     ensures { result ≡ is_order_only place used }
 {
     counts(place)
-        && looks(used)
+        && looks(place, used)
         && !(place.input || place.reported)
         && !(place.output || place.side)
         && place.order_only
@@ -224,6 +231,13 @@ fn is_kept(place: Place, used: Use) -> bool
     place.output && used.keeps && !used.takes
 }
 
+/// Whether what stood at an output is left there, under a stamp of now. Nothing more is told where that is known to be read or written.
+fn is_stamped(place: Place, used: Use) -> bool
+    ensures { result ≡ is_stamped place used }
+{
+    place.output && used.stamps && place.around.filled && !(used.takes || used.keeps)
+}
+
 /// Whether what it wrote it has removed, and nothing stood there before.
 fn is_scratch(used: Use) -> bool
     ensures { result ≡ is_scratch used }
@@ -235,7 +249,7 @@ fn is_scratch(used: Use) -> bool
 fn is_not_above(place: Place, used: Use) -> bool
     ensures { result ≡ is_not_above place used }
 {
-    looks(used) && place.around.made && !place.around.above
+    looks(place, used) && place.around.made && !place.around.above
 }
 
 #[tactic(auto, unfolding(crate::specs::Findings::is_listed))]

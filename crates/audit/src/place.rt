@@ -39,6 +39,8 @@ pub struct Around {
     pub own: bool,
     /// It is one of the scratch files that stand below a folder for these.
     pub scratch: bool,
+    /// It leads to a plain file that is not empty.
+    pub filled: bool,
 }
 
 /// What a path is to a command.

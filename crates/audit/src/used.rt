@@ -28,6 +28,8 @@ pub struct Use {
     pub takes: bool,
     /// It wrote into what stood there before, and has not made it anew since.
     pub keeps: bool,
+    /// It set the stamp of what stood there before, and has not made it anew since.
+    pub stamps: bool,
     /// A folder is there.
     pub is_folder: bool,
     /// It made that folder.
@@ -50,6 +52,7 @@ impl Use {
             own: false,
             takes: false,
             keeps: false,
+            stamps: false,
             is_folder: false,
             made_folder: false,
         }
@@ -84,11 +87,12 @@ impl Use {
                 lists: self.lists || !self.made_folder,
                 ..self
             },
-            Deed::Wrote | Deed::Linked => Use {
+            Deed::Wrote | Deed::Linked | Deed::Led | Deed::Emptied => Use {
                 writes: true,
                 gone: false,
                 own: true,
                 keeps: false,
+                stamps: false,
                 ..self
             },
             Deed::Into => Use {
@@ -101,11 +105,13 @@ impl Use {
             Deed::Stamped => Use {
                 writes: true,
                 gone: false,
+                stamps: self.stamps || !self.is_new(),
                 ..self
             },
             Deed::Removed => Use {
                 removes: self.removes || !self.writes,
                 gone: true,
+                stamps: false,
                 ..self
             },
             Deed::Folder => Use {

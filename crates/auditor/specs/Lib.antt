@@ -1,3 +1,4 @@
 pub mod Things
 pub mod Scratch
+pub mod Links
 pub mod Tally

@@ -1,5 +1,6 @@
 -- How many commands were looked at, and how many keep all premises.
 use Rattle.std.specs.Prelude.{◌≡◌, ℕ, ◌+◌, ◌==◌, ◌&&◌, ◌⊎◌, Bool, true, List, [], Option, Some, None, length, min, if◌then◌else◌}
+use Rattle.std.specs.List.{AllZip}
 use Rattle.trace.specs.declared.fact.Fact.{Fact}
 use Rattle.trace.specs.Lines.{told}
 use Rattle.audit.specs.declared.place.Lists.{Lists}
@@ -10,6 +11,7 @@ use Rattle.audit.specs.declared.seen.Whole.{Whole}
 use Rattle.audit.specs.Seen.{Sums, no_sums, with_all_done, with_untouched}
 use Rattle.auditor.specs.declared.tally.Counts.{Counts}
 use Rattle.auditor.specs.declared.scratch.Scratch.{Scratch}
+use Rattle.auditor.specs.Links.{CountsThrough, links_of}
 use Rattle.auditor.specs.Scratch.{AreAround}
 use Rattle.auditor.specs.Things.{AreThings}
 
@@ -42,10 +44,17 @@ pub record IsCountedBy (scratch : Scratch) (lists : Lists) (sums : Sums) (old ne
   pub found : keeps ≡ true → breaches lists arounds sums ≡ []
   pub is : new ≡ with_one old keeps
 
--- what these things come to, each of them by one of its two paths or by both, and at each output of the command
+-- each of these things counts by one of its two paths or by both; what was opened through a link of the command's own by both
+pub record AreCounted (wholes : List Whole) (bys : List By) : Type 0 where
+  pub links : List (List ℕ)
+  pub linked : links ≡ links_of wholes
+  pub each : length bys ≡ length wholes
+  pub through : AllZip (CountsThrough links) wholes bys
+
+-- what these things come to, each of them as it counts, and at each output of the command
 pub record AreSums (wholes : List Whole) (outputs : List (List ℕ)) (sums : Sums) : Type 0 where
   pub bys : List By
-  pub each : length bys ≡ length wholes
+  pub counted : AreCounted wholes bys
   pub are : sums ≡ with_untouched (with_all_done no_sums wholes bys) outputs
 
 -- of a command that did these things

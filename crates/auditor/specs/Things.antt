@@ -2,7 +2,7 @@
 use Rattle.std.specs.Prelude.{◌≡◌, Bool, true, false, List, ◌++◌, None}
 use Rattle.std.specs.List.{AllByRecursion, AllZip}
 use Rattle.trace.specs.declared.fact.Deed.{Deed}
-use Rattle.trace.specs.declared.fact.Deed.TheVariants.{Asked, Folder, Listed}
+use Rattle.trace.specs.declared.fact.Deed.TheVariants.{Asked, Emptied, Folder, Listed}
 use Rattle.trace.specs.declared.fact.Fact.{Fact}
 use Rattle.audit.specs.declared.seen.Whole.{Whole}
 use Rattle.audit.specs.Seen.{AreWhole}
@@ -11,6 +11,7 @@ use Rattle.audit.specs.Seen.{AreWhole}
 abbrev pub may_be_renamed : Deed → Bool
 may_be_renamed Asked = true
 may_be_renamed Listed = true
+may_be_renamed Emptied = true
 may_be_renamed _ = false
 
 -- the same thing; what is told by a descriptor alone may have another name, by which the file was opened

@@ -11,12 +11,14 @@ use paths::{EdgeId, PathId, Paths};
 use std::alloc::{AllocError, Global};
 use text::Path;
 
-/// The paths that build lines name, from the root and canonical, with the edge whose command makes each.
+/// The paths that build lines name, from the root and canonical, with the edge whose command makes each, and which of these are filled.
 #[derive(Drop)]
 pub struct Names {
     /// The working folder, from the root.
     folder: String,
     makers: IndexMap<String, Option<EdgeId>>,
+    /// Those that a command makes, and that lead to plain files which are not empty.
+    filled: Paths,
     /// The build log, if there is one.
     log: Option<BuildLog>,
 }
@@ -32,6 +34,7 @@ impl Names {
         let mut names = Names {
             folder: String::from_str(alloc, folder)?,
             makers: IndexMap::new(alloc),
+            filled: Paths::new(alloc),
             log,
         };
         for place in 0..graph.paths() {
@@ -47,6 +50,15 @@ impl Names {
         let maker = maker_of(graph, path);
         if maker.is_some() || self.makers.get(whole.as_str()).is_none() {
             let _ = self.makers.insert(whole.into_string(), maker)?;
+        }
+        Ok(())
+    }
+
+    /// Takes in that this path leads to a plain file that is not empty. Of paths that no command makes nobody asks for that.
+    pub fn fill(&mut self, alloc: Global, path: &str) -> Result<(), AllocError> {
+        let whole = self.whole(alloc, path)?;
+        if self.maker(whole.as_str()).is_some() {
+            self.filled.add(alloc, whole.as_str())?;
         }
         Ok(())
     }
@@ -122,6 +134,7 @@ impl Names {
             inside: self.is_inside(path),
             own: is_own(path),
             scratch,
+            filled: self.filled.number_of(path).is_some(),
         }
     }
 }

@@ -5,10 +5,12 @@ ghost use Rattle.std.specs.List.{AllZip};
 ghost use Rattle.auditor.specs.Things.{IsGiven, may_be_renamed};
 
 use crate::around::Names;
+use crate::links::{goes_through, is_opened, links_of};
 use crate::scratch::Scratch;
 use crate::ways::counts_by_given;
 use audit::Whole;
 use indexmap::IndexMap;
+use paths::Paths;
 use std::alloc::{AllocError, Global};
 use text::{Items, Path};
 use trace::Deed;
@@ -52,15 +54,34 @@ fn given_names(
     scratch: &Scratch,
     wholes: &[Whole],
 ) -> Result<IndexMap<String, String>, AllocError> {
+    let links = links_of(alloc, wholes)?;
+    given_but_by(alloc, names, scratch, &links, wholes)
+}
+
+/// The same, where these are the paths at which the command put links.
+fn given_but_by(
+    alloc: Global,
+    names: &Names,
+    scratch: &Scratch,
+    links: &Paths,
+    wholes: &[Whole],
+) -> Result<IndexMap<String, String>, AllocError> {
     let mut given = IndexMap::new(alloc);
     for whole in wholes {
         if let Some(real) = &whole.real {
-            if *real != whole.path && counts_by_given(names, scratch, whole) {
+            if *real != whole.path && is_given(names, scratch, links, whole) {
                 push_name(alloc, real.as_str(), whole.path.as_str(), &mut given)?;
             }
         }
     }
     Ok(given)
+}
+
+/// Whether a file was opened by a name by which that counts, and which is not that of a link of the command's own.
+fn is_given(names: &Names, scratch: &Scratch, links: &Paths, whole: &Whole) -> bool {
+    is_opened(whole.deed)
+        && !goes_through(links, whole)
+        && counts_by_given(names, scratch, links, whole)
 }
 
 fn push_name(
@@ -118,5 +139,5 @@ fn name_by<'n>(given: &'n IndexMap<String, String>, deed: Deed, path: &'n str) -
 fn may_be_renamed(deed: Deed) -> bool
     ensures { result ≡ may_be_renamed deed }
 {
-    matches!(deed, Deed::Asked | Deed::Listed)
+    matches!(deed, Deed::Asked | Deed::Listed | Deed::Emptied)
 }

@@ -8,6 +8,7 @@ mod folders;
 mod given;
 mod graphs;
 mod later;
+mod links;
 mod listed;
 mod outside;
 mod project;

@@ -2,11 +2,13 @@
 
 ghost use Rattle.std.specs.Prelude.{◌≡◌, IfOk, IfSome, OnOk, [], length, slice_get, string_bytes, unwrap_or};
 ghost use Rattle.std.specs.Map.Iter.{deref};
+ghost use Rattle.std.specs.List.{AllZip};
 ghost use Rattle.std.specs.Option.{option_map};
 ghost use Rattle.trace.specs.Lines.{IsTold, told};
 ghost use Rattle.audit.specs.Seen.{sums_in};
+ghost use Rattle.auditor.specs.Links.{CountsThrough};
 ghost use Rattle.auditor.specs.Scratch.{AreAround, IsFrontIn, is_scratch};
-ghost use Rattle.auditor.specs.Tally.{AreFound, AreSums, IsCountedBy, IsCountedOf, TakesIn, TakesTold, Tells};
+ghost use Rattle.auditor.specs.Tally.{AreCounted, AreFound, AreSums, IsCountedBy, IsCountedOf, TakesIn, TakesTold, Tells};
 ghost use Rattle.auditor.specs.Things.{AreThings};
 
 use crate::above::above;
@@ -15,6 +17,7 @@ use crate::folders::push_folders;
 use crate::given::by_given_names;
 use crate::graphs::{is_command, outputs_of, text_of};
 use crate::later::Later;
+use crate::links::links_of;
 use crate::listed::{Declared, lists_of};
 use crate::scratch::Scratch;
 use crate::tally::Tally;
@@ -88,6 +91,12 @@ impl Auditor {
     pub fn leads(&mut self, place: usize, file: String) -> Result<(), AllocError> {
         let path = String::from_str(self.alloc, self.path(place))?;
         self.twins.add(self.alloc, &self.names, path.as_str(), file)
+    }
+
+    /// Takes in that the path in this place leads to a plain file that is not empty.
+    pub fn fills(&mut self, place: usize) -> Result<(), AllocError> {
+        let path = String::from_str(self.alloc, self.path(place))?;
+        self.names.fill(self.alloc, path.as_str())
     }
 
     /// How many commands the targets need; none where they have no cone.
@@ -223,19 +232,29 @@ impl Auditor {
     fn uses_in(&self, wholes: &[Whole], outputs: &Paths) -> Result<Uses, AllocError>
         ensures { IfOk result (λ uses. AreSums wholes.now outputs.now (sums_in uses)) }
     {
-        let bys = self.bys_of(wholes)?;
+        let bys = self.bys_in(wholes)?;
         let mut uses = uses_of(self.alloc, wholes, bys.as_slice())?;
         uses.add_untouched(self.alloc, outputs)?;
         Ok(uses)
     }
 
     /// By which path each of these counts.
-    fn bys_of(&self, wholes: &[Whole]) -> Result<Vec<By>, AllocError>
-        ensures { IfOk result (λ bys. length bys.items ≡ length wholes.now) }
+    fn bys_in(&self, wholes: &[Whole]) -> Result<Vec<By>, AllocError>
+        ensures { IfOk result (λ bys. AreCounted wholes.now bys.items) }
+    {
+        let links = links_of(self.alloc, wholes)?;
+        let bys = self.bys_of(&links, wholes)?;
+        Ok(bys)
+    }
+
+    /// The same, where these are the paths at which the command put links.
+    fn bys_of(&self, links: &Paths, wholes: &[Whole]) -> Result<Vec<By>, AllocError>
+        ensures each { IfOk result (λ bys. length bys.items ≡ length wholes.now) }
+        ensures through { IfOk result (λ bys. AllZip (CountsThrough links.now) wholes.now bys.items) }
     {
         let mut bys = Vec::with_capacity(self.alloc, wholes.len())?;
         for whole in wholes {
-            bys.push(by_of(&self.names, &self.scratch, whole))?;
+            bys.push(by_of(&self.names, &self.scratch, links, whole))?;
         }
         Ok(bys)
     }
@@ -341,27 +360,33 @@ impl Auditor {
         let mut count = 0usize;
         for place in 0..uses.len() {
             let path = uses.path(place).unwrap_or("");
-            if let Some(spellings) = self.twins.at(path) {
-                self.tell_spelled(edge, path, spellings, tally)?;
+            if let Some(member) = self.twins.at(path) {
+                self.tell_spelled(edge, path, member, tally)?;
                 count = count.saturating_add(1);
             }
         }
         Ok(count)
     }
 
-    /// Takes in each pair in which build lines spell the file at this path, one on each line.
+    /// Takes in each pair in which build lines spell the file at this path, whose first member this is.
     fn tell_spelled(
         &self,
         edge: EdgeId,
         path: &str,
-        spellings: &str,
+        first: usize,
         tally: &mut Tally,
     ) -> Result<(), AllocError>
         ensures { tally.new.counts ≡ tally.old.counts }
     {
         let path = self.names.short(path);
-        for both in spellings.split('\n') {
+        let mut next = Some(first);
+        for _ in 0..self.twins.len() {
+            let Some(member) = next else {
+                return Ok(());
+            };
+            let both = self.twins.both(member);
             tally.spell(self.alloc, self.name_of(edge), path, both)?;
+            next = self.twins.next(member);
         }
         Ok(())
     }

@@ -115,7 +115,7 @@ fn begins(path: &str, front: &str) -> bool
 }
 
 /// Whether the path is one of these.
-fn has(paths: &Paths, path: &str) -> bool
+pub fn has(paths: &Paths, path: &str) -> bool
     ensures { result ≡ has paths.now path.now }
 {
     match paths.number_of(path) {

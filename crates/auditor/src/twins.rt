@@ -5,13 +5,31 @@ use indexmap::IndexMap;
 use std::alloc::{AllocError, Global};
 use text::Path;
 
-/// Of each path that leads to the file of another one that is spelled otherwise in build lines, both of these spellings, and where there are
-/// more than two, each pair of the first one and another in which the path is.
+/// For each file that build lines spell in two ways or more, each pair of the first spelling and another one; and for each path, from the root,
+/// the pairs in which it is. All of it takes a room and a time of the order of the paths, also where they all lead to one file.
 #[derive(Drop)]
 pub struct Twins {
     /// The first spelling of each file, by what tells it from others.
     first: IndexMap<String, String>,
-    spellings: IndexMap<String, String>,
+    /// Each pair, as it is told.
+    pairs: Vec<String>,
+    members: Vec<Member>,
+    /// Where the members begin and end of the path.
+    paths: IndexMap<String, Members>,
+}
+
+/// A pair in which a path is, and the next member of that path.
+#[derive(Clone, Copy)]
+struct Member {
+    pair: usize,
+    next: Option<usize>,
+}
+
+/// The first and the last member of a path.
+#[derive(Clone, Copy)]
+struct Members {
+    first: usize,
+    last: usize,
 }
 
 impl Twins {
@@ -19,7 +37,9 @@ impl Twins {
     pub fn new(alloc: Global) -> Twins {
         Twins {
             first: IndexMap::new(alloc),
-            spellings: IndexMap::new(alloc),
+            pairs: Vec::new(alloc),
+            members: Vec::new(alloc),
+            paths: IndexMap::new(alloc),
         }
     }
 
@@ -35,9 +55,11 @@ impl Twins {
             let _ = self.first.insert(file, String::from_str(alloc, path)?)?;
             return Ok(());
         };
-        let both = format!(in alloc; "{first}, and as {path}")?;
-        self.spell(alloc, names.whole(alloc, first.as_str())?, both.as_str())?;
-        self.spell(alloc, names.whole(alloc, path)?, both.as_str())
+        let pair = self.pairs.len();
+        self.pairs
+            .push(format!(in alloc; "{first}, and as {path}")?)?;
+        self.put(names.whole(alloc, first.as_str())?, pair)?;
+        self.put(names.whole(alloc, path)?, pair)
     }
 
     /// The first spelling of a file, if it was seen before.
@@ -48,20 +70,54 @@ impl Twins {
         }
     }
 
-    fn spell(&mut self, alloc: Global, path: Path, both: &str) -> Result<(), AllocError> {
-        let spellings = match self.spellings.get(path.as_str()) {
-            Some(others) => format!(in alloc; "{others}\n{both}")?,
-            None => String::from_str(alloc, both)?,
+    /// Takes in that the path is in this pair, behind those in which it is.
+    fn put(&mut self, path: Path, pair: usize) -> Result<(), AllocError> {
+        let place = self.members.len();
+        self.members.push(Member { pair, next: None })?;
+        let first = match self.paths.get(path.as_str()).copied() {
+            Some(members) => {
+                self.follow(members.last, place);
+                members.first
+            }
+            None => place,
         };
-        let _ = self.spellings.insert(path.into_string(), spellings)?;
+        let members = Members { first, last: place };
+        let _ = self.paths.insert(path.into_string(), members)?;
         Ok(())
     }
 
-    /// How build lines spell the file at this path, if they do so in two ways: a line for each pair.
-    pub fn at(&self, path: &str) -> Option<&str> {
-        match self.spellings.get(path) {
-            Some(both) => Some(both.as_str()),
-            None => None,
+    /// Puts the second member behind the first one.
+    fn follow(&mut self, place: usize, next: usize) {
+        if place < self.members.len() {
+            self.members[place].next = Some(next);
+        }
+    }
+
+    /// How many members all paths have.
+    pub fn len(&self) -> usize {
+        self.members.len()
+    }
+
+    /// The first member of this path, if build lines spell its file in two ways or more.
+    pub fn at(&self, path: &str) -> Option<usize> {
+        let members = self.paths.get(path).copied()?;
+        Some(members.first)
+    }
+
+    /// The member that comes behind this one.
+    pub fn next(&self, place: usize) -> Option<usize> {
+        let member = self.members.get(place).copied()?;
+        member.next
+    }
+
+    /// How build lines spell a file in two ways, by this member of a path.
+    pub fn both(&self, place: usize) -> &str {
+        let Some(member) = self.members.get(place).copied() else {
+            return "";
+        };
+        match self.pairs.get(member.pair) {
+            Some(both) => both.as_str(),
+            None => "",
         }
     }
 }

@@ -1,13 +1,32 @@
 //! By which of its two paths a thing counts that was done.
 
+ghost use Rattle.std.specs.Prelude.{◌≡◌};
+ghost use Rattle.auditor.specs.Links.{CountsThrough};
+
 use crate::around::Names;
+use crate::links::{goes_through, is_opened};
 use crate::scratch::Scratch;
 use audit::{By, Whole};
+use paths::Paths;
 use trace::Deed;
 
 /// By which path a thing counts: by the name that was given, where that counts, but for scratch files, else by the one that the kernel has; and
-/// what was written through a link that stands at its path by both of them, since it is the file which the kernel names that was written.
-pub fn by_of(names: &Names, scratch: &Scratch, whole: &Whole) -> By {
+/// what was opened through a link of the command's own, or written through one that stands at its path, by both of them, since it is the file
+/// which the kernel names that was opened. These are the paths at which the command put links.
+pub fn by_of(names: &Names, scratch: &Scratch, links: &Paths, whole: &Whole) -> By
+    ensures { CountsThrough links.now whole.now result }
+{
+    if goes_through(links, whole) {
+        return By::Both;
+    }
+    if !is_opened(whole.deed) {
+        return By::Name;
+    }
+    by_shown(names, scratch, whole)
+}
+
+/// The same of what was not opened through a link of the command's own.
+fn by_shown(names: &Names, scratch: &Scratch, whole: &Whole) -> By {
     if !scratch.counts_by_name(names, whole.path.as_str()) {
         return By::Kernel;
     }
@@ -18,8 +37,8 @@ pub fn by_of(names: &Names, scratch: &Scratch, whole: &Whole) -> By {
 }
 
 /// Whether a thing counts by the name that was given, be it alone or not.
-pub fn counts_by_given(names: &Names, scratch: &Scratch, whole: &Whole) -> bool {
-    match by_of(names, scratch, whole) {
+pub fn counts_by_given(names: &Names, scratch: &Scratch, links: &Paths, whole: &Whole) -> bool {
+    match by_of(names, scratch, links, whole) {
         By::Name | By::Both => true,
         By::Kernel => false,
     }

@@ -11,7 +11,7 @@ ended word = word ++ 0 ∷ []
 
 -- which calls of the system are written down
 abbrev pub calls : List ℕ
-calls = codes "trace=%file,fork,vfork,clone,clone3,execveat,fchdir,getdents,getdents64,connect,bind,unshare,setns,open_by_handle_at,io_uring_setup,fsmount,move_mount"
+calls = codes "trace=%file,fork,vfork,clone,clone3,execveat,fchdir,getdents,getdents64,ftruncate,connect,bind,unshare,setns,open_by_handle_at,io_uring_setup,fsmount,move_mount"
 
 -- Processes that are started are followed, descriptors come with their paths, names in hexadecimal digits, and no signal is told. Of
 -- structures those are written that tell a folder from a file, what a file is opened for, and whether a process shares its folder with

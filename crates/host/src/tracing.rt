@@ -23,7 +23,7 @@ pub struct Tracing {
 /// The words before the file into which it writes, each ended by a NUL: processes that are started are followed, descriptors come with
 /// their paths, and names in hexadecimal digits, so that none needs quoting.
 const WORDS: &[u8] =
-    b"strace\0-f\0-y\0-xx\0-s\065536\0--seccomp-bpf\0-e\0signal=none\0-e\0verbose=stat,lstat,newfstatat,statx,clone3,openat2\0-e\0trace=%file,fork,vfork,clone,clone3,execveat,fchdir,getdents,getdents64,connect,bind,unshare,setns,open_by_handle_at,io_uring_setup,fsmount,move_mount\0-o\0";
+    b"strace\0-f\0-y\0-xx\0-s\065536\0--seccomp-bpf\0-e\0signal=none\0-e\0verbose=stat,lstat,newfstatat,statx,clone3,openat2\0-e\0trace=%file,fork,vfork,clone,clone3,execveat,fchdir,getdents,getdents64,ftruncate,connect,bind,unshare,setns,open_by_handle_at,io_uring_setup,fsmount,move_mount\0-o\0";
 
 /// The name of the variable that sets a locale whatever others say.
 const LOCALE: &[u8] = b"LC_ALL";

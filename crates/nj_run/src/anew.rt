@@ -75,18 +75,32 @@ fn load_at<W: Write>(
     load(alloc, graph, place, bytes.as_slice())
 }
 
-/// Tells to which plain file each path leads, by device and inode.
+/// A plain file: by device and inode, and whether it has a length other than 0.
+#[derive(Drop)]
+struct Plain {
+    file: String,
+    is_filled: bool,
+}
+
+/// Tells to which plain file each path leads, and of which of them there is something in it.
 fn find_files(alloc: Global, rt: &HostRuntime, auditor: &mut Auditor) -> Result<(), AllocError> {
     for place in 0..auditor.paths() {
-        if let Some(file) = file_at(alloc, rt, auditor.path(place))? {
-            auditor.leads(place, file)?;
+        if let Some(plain) = plain_at(alloc, rt, auditor.path(place))? {
+            take_plain(auditor, place, plain)?;
         }
     }
     Ok(())
 }
 
-/// Which plain file the path leads to, as a text.
-fn file_at(alloc: Global, rt: &HostRuntime, path: &str) -> Result<Option<String>, AllocError> {
+fn take_plain(auditor: &mut Auditor, place: usize, plain: Plain) -> Result<(), AllocError> {
+    if plain.is_filled {
+        auditor.fills(place)?;
+    }
+    auditor.leads(place, plain.file)
+}
+
+/// Which plain file the path leads to.
+fn plain_at(alloc: Global, rt: &HostRuntime, path: &str) -> Result<Option<Plain>, AllocError> {
     let Ok(found) = fs::metadata(rt, path) else {
         return Ok(None);
     };
@@ -95,7 +109,9 @@ fn file_at(alloc: Global, rt: &HostRuntime, path: &str) -> Result<Option<String>
     }
     let device = found.dev();
     let inode = found.ino();
-    Ok(Some(format!(in alloc; "{device}:{inode}")?))
+    let is_filled = found.len() > 0;
+    let file = format!(in alloc; "{device}:{inode}")?;
+    Ok(Some(Plain { file, is_filled }))
 }
 
 /// What stands in a file.

@@ -51,6 +51,16 @@ pub fn lead(alloc: Global, auditor: &mut Auditor, row: &str) -> Result<(), Alloc
     Ok(())
 }
 
+/// `filled PATH..`: these paths lead to plain files that are not empty.
+pub fn fill(auditor: &mut Auditor, paths: &str) -> Result<(), AllocError> {
+    for place in 0..auditor.paths() {
+        if is_word_of(paths, auditor.path(place)) {
+            auditor.fills(place)?;
+        }
+    }
+    Ok(())
+}
+
 fn is_word_of(words: &str, word: &str) -> bool {
     for one in words.split(' ') {
         if one == word {

@@ -118,5 +118,6 @@ fn around(path: &str, made: &Paths, above: &Paths) -> Around {
         inside: !path.as_bytes().starts_with(b"/"),
         own: false,
         scratch: false,
+        filled: false,
     }
 }

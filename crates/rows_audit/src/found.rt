@@ -36,6 +36,8 @@ pub fn deed_of(name: &str) -> Option<Deed> {
         "into" => Some(Deed::Into),
         "stamped" => Some(Deed::Stamped),
         "linked" => Some(Deed::Linked),
+        "led" => Some(Deed::Led),
+        "emptied" => Some(Deed::Emptied),
         "removed" => Some(Deed::Removed),
         "listed" => Some(Deed::Listed),
         "asked" => Some(Deed::Asked),
@@ -63,6 +65,7 @@ fn place_of(words: &str) -> Place {
             inside: is_said(words, "inside"),
             own: is_said(words, "own"),
             scratch: is_said(words, "scratch"),
+            filled: is_said(words, "filled"),
         },
     }
 }

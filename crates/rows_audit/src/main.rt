@@ -13,7 +13,7 @@
 //! `tree FOLDER LINES` begins a tree: its working folder, from the root, and the lines of its build file. `log TEXT` and `deps TEXT` give it
 //! logs, `dyndep FILE TEXT` loads what a dyndep file of this name says. `audit TARGET..` tells how many commands these targets need, or else the
 //! defaults. Behind it `scratch FOLDER` says where `TMPDIR` leads to, and `file NUMBER PATH..` that these paths lead to one file, as a device
-//! tells it by a number. `command OUTPUT TEXT` asks what is told of the command that makes this output first, which left this trace, in the words
+//! tells it by a number, and `filled PATH..` that these lead to plain files which are not empty. `command OUTPUT TEXT` asks what is told of the command that makes this output first, which left this trace, in the words
 //! of `trace`; `untraced OUTPUT` of one that left none. `told` asks what is told behind these lines, and what was counted, with `clean` where
 //! all commands were looked at and keep all premises; `told all` lists each file outside of the folder.
 #![tactic(auto)]

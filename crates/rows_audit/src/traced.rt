@@ -80,6 +80,8 @@ fn name_of(deed: Deed) -> &'static str {
         Deed::Into => "into",
         Deed::Stamped => "stamped",
         Deed::Linked => "linked",
+        Deed::Led => "led",
+        Deed::Emptied => "emptied",
         Deed::Removed => "removed",
         Deed::Listed => "listed",
         Deed::Asked => "asked",

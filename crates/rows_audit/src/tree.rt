@@ -1,6 +1,6 @@
 //! What is told of the commands of a whole tree, each by its trace.
 
-use crate::declared::{build_log_of, commands_of, deps_log_of, lead, load_file, names_of};
+use crate::declared::{build_log_of, commands_of, deps_log_of, fill, lead, load_file, names_of};
 use crate::one_file::graph_of;
 use crate::traced::trace_in;
 use auditor::{Auditor, Counts, Tally};
@@ -56,6 +56,7 @@ impl Tree {
             "dyndep" => self.load(alloc, rest)?,
             "scratch" => self.take_scratch(rest)?,
             "file" => self.lead(alloc, rest)?,
+            "filled" => self.fill(rest)?,
             _ => {
                 self.push_asked(alloc, first, rest, told)?;
                 return Ok(true);
@@ -104,6 +105,14 @@ impl Tree {
     fn lead(&mut self, alloc: Global, row: &str) -> Result<(), AllocError> {
         match &mut self.auditor {
             Some(auditor) => lead(alloc, auditor, row),
+            None => Ok(()),
+        }
+    }
+
+    /// `filled PATH..`: these paths lead to plain files that are not empty.
+    fn fill(&mut self, paths: &str) -> Result<(), AllocError> {
+        match &mut self.auditor {
+            Some(auditor) => fill(auditor, paths),
             None => Ok(()),
         }
     }

@@ -135,10 +135,11 @@ row_of_look name =
 
 unfoldable pub row_of_change : List ℕ → Option Row
 row_of_change name =
-    option_or (option_or (option_or (option_or (option_or (option_or (option_or (option_or (option_or
+    option_or (option_or (option_or (option_or (option_or (option_or (option_or (option_or (option_or (option_or
     (when (makes name) doing.Creates by.Name)
     (when (bytes_eq name (codes "mknodat")) doing.Creates by.At))
     (when (bytes_eq name (codes "truncate")) doing.Cuts by.Name))
+    (when (bytes_eq name (codes "ftruncate")) doing.Empties by.Opened))
     (when (changes name) doing.Changes by.Name))
     (when (changes_at name) doing.Changes by.At))
     (when (bytes_eq name (codes "mkdir")) doing.Folders by.Name))

@@ -1,5 +1,5 @@
 -- What a call did at its paths.
-use Rattle.std.specs.Prelude.{ℕ, ◌&&◌, ◌||◌, not, Bool, List, [], ◌∷◌, ◌++◌, Option, Some, None, option_map, option_and_then, codes, if◌then◌else◌}
+use Rattle.std.specs.Prelude.{ℕ, ◌&&◌, ◌||◌, not, Bool, List, [], ◌∷◌, ◌++◌, Option, Some, None, option_map, option_and_then, bytes_eq, codes, if◌then◌else◌}
 use Rattle.std.specs.Str.{is_utf8}
 use Rattle.trace.specs.declared.calls.Row.{Row}
 use Rattle.trace.specs.declared.calls.Does.{Does}
@@ -8,7 +8,7 @@ use Rattle.trace.specs.declared.calls.Form.{Form}
 use Rattle.trace.specs.declared.ending.End.{End}
 use Rattle.trace.specs.declared.ending.End.TheVariants as ending
 use Rattle.trace.specs.declared.fact.Deed.{Deed}
-use Rattle.trace.specs.declared.fact.Deed.TheVariants.{Read, Wrote, Into, Stamped, Linked, Removed, Listed, Asked, Missed, Sought, Folder, Made}
+use Rattle.trace.specs.declared.fact.Deed.TheVariants.{Read, Wrote, Into, Stamped, Linked, Led, Emptied, Removed, Listed, Asked, Missed, Sought, Folder, Made}
 use Rattle.trace.specs.declared.fact.Fact.{Fact}
 use Rattle.trace.specs.declared.facts.Paths.{Paths}
 use Rattle.trace.specs.declared.parts.Call.{Call}
@@ -123,13 +123,21 @@ at_second (Some deed) path real = told deed path real ∷ []
 abbrev pub opened : List ℕ → List ℕ → Option (List ℕ) → List Fact
 opened arguments path real = told (deeds arguments).0 path real ∷ at_second (deeds arguments).1 path real
 
+-- a file has the second path, and had the first one before
+abbrev pub placed : Paths → Fact
+placed paths = told Linked paths.other (Some paths.path)
+
 -- behind other facts, that a file was given another path
 abbrev pub with_moved : List Fact → Paths → List Fact
-with_moved facts paths = ((facts ++ fact Read paths.path ∷ []) ++ fact Removed paths.path ∷ []) ++ fact Wrote paths.other ∷ []
+with_moved facts paths = ((facts ++ fact Read paths.path ∷ []) ++ fact Removed paths.path ∷ []) ++ placed paths ∷ []
 
 -- and that one was given one more path
 abbrev pub with_linked : List Fact → Paths → List Fact
-with_linked facts paths = (facts ++ fact Read paths.path ∷ []) ++ told Linked paths.other (Some paths.path) ∷ []
+with_linked facts paths = (facts ++ fact Read paths.path ∷ []) ++ placed paths ∷ []
+
+-- An open file was emptied, where its new length says so. Of another length nothing more is told: what it was opened for says that it is written.
+abbrev pub emptied : List ℕ → List ℕ → List Fact
+emptied arguments path = if bytes_eq (first_argument arguments).1 (codes "0") then fact Emptied path ∷ [] else []
 
 -- what a call did that ended well
 abbrev pub done_by : Does → Seen → Paths → List Fact
@@ -142,10 +150,11 @@ done_by doing.Lists call paths = fact Listed paths.path ∷ []
 done_by doing.Folders call paths = fact Made paths.path ∷ []
 done_by doing.Clears call paths = fact Folder paths.path ∷ []
 done_by doing.Removes call paths = fact (removed call.arguments) paths.path ∷ []
-done_by doing.Moves call paths = fact Read paths.path ∷ fact Removed paths.path ∷ fact Wrote paths.other ∷ []
-done_by doing.Links call paths = fact Read paths.path ∷ told Linked paths.other (Some paths.path) ∷ []
-done_by doing.Leads call paths = fact Wrote paths.path ∷ []
+done_by doing.Moves call paths = fact Read paths.path ∷ fact Removed paths.path ∷ placed paths ∷ []
+done_by doing.Links call paths = fact Read paths.path ∷ placed paths ∷ []
+done_by doing.Leads call paths = fact Led paths.path ∷ []
 done_by doing.Cuts call paths = fact Into paths.path ∷ []
+done_by doing.Empties call paths = emptied call.arguments paths.path
 done_by doing.Changes call paths = fact Stamped paths.path ∷ []
 done_by doing.Starts call paths = []
 done_by doing.Connects call paths = []

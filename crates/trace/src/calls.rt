@@ -32,6 +32,8 @@ pub enum Does {
     Leads,
     /// It gives a file another length, and leaves what stands in front of that.
     Cuts,
+    /// It gives a file that is open to be written another length.
+    Empties,
     /// It sets the stamp of a file, or what belongs to it beside its content.
     Changes,
     /// It starts a process.
@@ -156,6 +158,7 @@ fn row_of_change(name: &str) -> Option<Row>
     when(makes(name), Does::Creates, Form::Name)
         .or(when(name == "mknodat", Does::Creates, Form::At))
         .or(when(name == "truncate", Does::Cuts, Form::Name))
+        .or(when(name == "ftruncate", Does::Empties, Form::Opened))
         .or(when(changes(name), Does::Changes, Form::Name))
         .or(when(changes_at(name), Does::Changes, Form::At))
         .or(when(name == "mkdir", Does::Folders, Form::Name))

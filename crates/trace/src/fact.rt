@@ -13,8 +13,12 @@ pub enum Deed {
     Into,
     /// It set the stamp of the file, or what belongs to it beside its content.
     Stamped,
-    /// It gave the file one more path, which is this one.
+    /// It gave the file this path, beside the one that it had or in place of it.
     Linked,
+    /// It made a link here, which leads to another path.
+    Led,
+    /// It emptied the file, which it had opened.
+    Emptied,
     /// It removed the file, or gave it another path.
     Removed,
     /// It listed the folder.

@@ -2,7 +2,7 @@
 
 ghost use Rattle.std.specs.Prelude.{◌≡◌, ◌++◌, ◌∷◌, [], IfOk, OnOk, option_map};
 ghost use Rattle.trace.specs.Arguments.{descriptor};
-ghost use Rattle.trace.specs.Facts.{arguments_for, call_seen, deeds, done, empties, fact, facts_of, goes_on, goes_up, looked, missed, only_stamps, opened, paths_of, refused, removed, told, with_linked, with_moved};
+ghost use Rattle.trace.specs.Facts.{arguments_for, call_seen, deeds, done, emptied, empties, fact, facts_of, goes_on, goes_up, looked, missed, only_stamps, opened, paths_of, placed, refused, removed, told, with_linked, with_moved};
 
 use crate::arguments::{behind, descriptor, first_argument, is_rooted, path_at};
 use crate::calls::Does;
@@ -119,8 +119,9 @@ fn push_done(
         Does::Removes => push(alloc, facts, removed(call.arguments), path),
         Does::Creates => push(alloc, facts, Deed::Wrote, path),
         Does::Cuts => push(alloc, facts, Deed::Into, path),
+        Does::Empties => push_emptied(alloc, call.arguments, path, facts),
         Does::Changes => push(alloc, facts, Deed::Stamped, path),
-        Does::Leads => push(alloc, facts, Deed::Wrote, path),
+        Does::Leads => push(alloc, facts, Deed::Led, path),
         Does::Moves => push_moved(alloc, paths, facts),
         Does::Links => push_linked(alloc, paths, facts),
         Does::Starts => Ok(()),
@@ -157,7 +158,7 @@ fn push_moved(alloc: Global, paths: &Paths, facts: &mut Items<Fact>) -> Result<(
 {
     push(alloc, facts, Deed::Read, paths.path.as_slice())?;
     push(alloc, facts, Deed::Removed, paths.path.as_slice())?;
-    push(alloc, facts, Deed::Wrote, paths.other.as_slice())
+    push_placed(alloc, paths, facts)
 }
 
 /// Adds that a file was given one more path.
@@ -165,6 +166,13 @@ fn push_linked(alloc: Global, paths: &Paths, facts: &mut Items<Fact>) -> Result<
     ensures { OnOk result (facts.new ≡ with_linked facts.old paths.now) }
 {
     push(alloc, facts, Deed::Read, paths.path.as_slice())?;
+    push_placed(alloc, paths, facts)
+}
+
+/// Adds that a file has the second path, and had the first one before.
+fn push_placed(alloc: Global, paths: &Paths, facts: &mut Items<Fact>) -> Result<(), AllocError>
+    ensures { OnOk result (facts.new ≡ facts.old ++ placed paths.now ∷ []) }
+{
     let path = Bytes::from_slice(alloc, paths.other.as_slice())?;
     let real = Some(Bytes::from_slice(alloc, paths.path.as_slice())?);
     let deed = Deed::Linked;
@@ -175,6 +183,22 @@ fn push_linked(alloc: Global, paths: &Paths, facts: &mut Items<Fact>) -> Result<
         real,
         up,
     })?;
+    Ok(())
+}
+
+/// Adds that an open file was emptied, where its new length says so.
+fn push_emptied(
+    alloc: Global,
+    arguments: &[u8],
+    path: &[u8],
+    facts: &mut Items<Fact>,
+) -> Result<(), AllocError>
+    ensures { OnOk result (facts.new ≡ facts.old ++ emptied arguments.now path.now) }
+{
+    let (_, length) = first_argument(arguments);
+    if length == b"0".as_slice() {
+        push(alloc, facts, Deed::Emptied, path)?;
+    }
     Ok(())
 }
 

@@ -1,5 +1,5 @@
 use Rattle.std.proofs.Common.{◌≡◌}
 use Rattle.auditor.proofs.project.Auditor.tell_spelled.Given as goal
 
-abbrev pub invariant-loop-both : goal.invariant-loop-both
-invariant-loop-both l = l.tally.counts ≡ l.initial.tally.counts
+abbrev pub invariant-loop : goal.invariant-loop
+invariant-loop l = l.tally.counts ≡ l.initial.tally.counts
