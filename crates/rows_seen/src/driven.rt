@@ -122,7 +122,11 @@ fn deleting(alloc: Global, path: &str) -> Result<Move, AllocError> {
 }
 
 fn building(alloc: Global, target: &str) -> Result<Move, AllocError> {
-    let target = if target.is_empty() { None } else { Some(target) };
+    let target = if target.is_empty() {
+        None
+    } else {
+        Some(target)
+    };
     Ok(Move::Build {
         targets: Items::from_vec(targets(alloc, target)?),
     })

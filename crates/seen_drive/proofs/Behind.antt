@@ -89,7 +89,7 @@ module _ (format : LogFormat) (own : OwnFiles) (e : Entered) (exit : World) (nex
     either : (p : List ℕ) (file : File) → file_at next.first p ≡ Some file → (file_at exit.history p ≡ Some file) ⊎ IsSeen format own e exit next p file
     either p file is =
         let from : file_at next.first p ≡ file_from p (file_at exit.history p) gap =
-            ap (λ (h : List Moment). file_at h p) goes ∙ file_from-append p None exit.history gap in
+        ap (λ (h : List Moment). file_at h p) goes ∙ file_from-append p None exit.history gap in
         elim (stands_or_wrote (IsSeenWrite format own e exit next) p (file_at exit.history p) gap others.writes) [
           | inl same ↦ inl (sym same ∙ (sym from ∙ is))
           | inr wrote ↦ inr (subst (λ (q : List ℕ). IsSeen format own e exit next q file) (same_bytes wrote.path p wrote.there)
@@ -113,9 +113,9 @@ module _ (format : LogFormat) (own : OwnFiles) (e : Entered) (exit : World) (nex
         | inl was ↦ inl (at_real p file was)
         | inr seen ↦ inr (seen.later none)
       ];
-      same = λ p n file noted is as. elim (either p file is) [
-        | inl was ↦ (file, (at_real p file was, (as, refl)))
-        | inr seen ↦ absurd (seen.other n noted as)
+      same = λ p n file noted is alike. elim (either p file is) [
+        | inl was ↦ (file, at_real p file was, alike, refl)
+        | inr seen ↦ absurd (seen.other n noted alike)
       ];
       unnoted_outputs = λ o made file recorded none is. elim (either o file is) [
         | inl was ↦ view_real o file was
@@ -125,9 +125,9 @@ module _ (format : LogFormat) (own : OwnFiles) (e : Entered) (exit : World) (nex
         | inl was ↦ others.dropped o made n file recorded noted unmade was not_as
         | inr seen ↦ absurd (false≢true (sym unmade ∙ seen.made_still made n noted recorded))
       ];
-      turned = λ p n file noted is as turned made. elim (either p file is) [
-        | inl was ↦ others.turned p n file noted was as turned made
-        | inr seen ↦ absurd (seen.other n noted as)
+      turned = λ p n file noted is alike turned made. elim (either p file is) [
+        | inl was ↦ others.turned p n file noted was alike turned made
+        | inr seen ↦ absurd (seen.other n noted alike)
       ];
     }
 

@@ -4,7 +4,7 @@ use Rattle.std.proofs.lemmas.List.{append-nil}
 use Rattle.model.specs.declared.event.Event.{Event}
 use Rattle.model.specs.declared.moves.Move.{Move}
 use Rattle.model.specs.declared.moves.Move.TheVariants.{Write, Delete, Build}
-use Rattle.model.specs.Driven.{IsCutEdit, IsCutNext}
+use Rattle.model.specs.Driven.{IsCutNext}
 use Rattle.model.specs.World.{World, IsIdle}
 use Rattle.work.specs.declared.report.Options.{Options}
 use Rattle.work.specs.declared.report.Report.{Report}
@@ -12,17 +12,9 @@ use Rattle.drive.specs.Moves.{IsEdited}
 use Rattle.seen_drive.specs.Visits.{Built, Edited}
 use Rattle.seen_drive.specs.Moves.{IsCarried, IsReported}
 
-pub on_err : {A E P : Type 0} (r : Result A E) → P → OnErr r P
-on_err (Ok a) p = tt
-on_err (Err e) p = p
-
 if_ok_then : {T E : Type 0} {P Q : T → Type 0} (r : Result T E) → IfOk r P → ((x : T) → P x → Q x) → IfOk r Q
 if_ok_then (Ok x) p f = f x p
 if_ok_then (Err e) p f = tt
-
-on_err_then : {A E P Q : Type 0} (r : Result A E) → OnErr r P → (P → Q) → OnErr r Q
-on_err_then (Ok a) p f = tt
-on_err_then (Err e) p f = f p
 
 -- an edit that found no memory is one, whatever moves come behind it
 pub cut_before : (tells : Bool) (old new : World) (move : Move) (rest : List Move) → IsCutNext tells (move ∷ []) old new → IsCutNext tells (move ∷ rest) old new
@@ -31,14 +23,6 @@ cut_before tells old new (Delete path) rest cut = cut
 cut_before tells old new (Build words) rest cut = absurd cut
 
 module _ (tells : Bool) (options : Options) (old new : World) where
-  pub write_cut : {E : Type 0} (m : Move) (path content : List ℕ) → m ≡ Write path content → (r : Result Bool E) → OnErr r (IsCutEdit tells path (Some content) old new)
-      → OnErr r (IsCutNext tells (m ∷ []) old new)
-  write_cut m path content is r cut = on_err_then r cut (λ one. subst (λ (x : Move). IsCutNext tells (x ∷ []) old new) (sym is) one)
-
-  pub delete_cut : {E : Type 0} (m : Move) (path : List ℕ) → m ≡ Delete path → (r : Result Bool E) → OnErr r (IsCutEdit tells path None old new)
-      → OnErr r (IsCutNext tells (m ∷ []) old new)
-  delete_cut m path is r cut = on_err_then r cut (λ one. subst (λ (x : Move). IsCutNext tells (x ∷ []) old new) (sym is) one)
-
   module _ (reports : List Report) (idle : IsIdle old.events) where
     write_so : (path content : List ℕ) (again : Bool) → IsEdited tells path (Some content) again old new → IsCarried tells options (Write path content) again reports reports old new
     write_so path content again edited = record {
@@ -87,3 +71,10 @@ module _ (tells : Bool) (options : Options) (old new : World) where
     grows = reported.grows;
     ended = λ none. reported.ended (sym reported.asks ∙ none);
   })
+
+-- what is so of a result, where it is known which it is
+pub at_ok : {T E : Type 0} {P : T → Type 0} (r : Result T E) (x : T) → r ≡ Ok x → IfOk r P → P x
+at_ok {T} {E} {P} r x is so = subst (λ (q : Result T E). IfOk q P) is so
+
+pub at_err : {T E P : Type 0} (r : Result T E) (e : E) → r ≡ Err e → OnErr r P → P
+at_err {T} {E} {P} r e is so = subst (λ (q : Result T E). OnErr q P) is so

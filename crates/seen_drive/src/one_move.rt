@@ -42,7 +42,11 @@ pub fn carry_out<S: Measured + Drop>(
 }
 
 /// Writes the file, and answers whether the site stopped in that.
-fn write_next<S: Measured + Drop>(mut site: S, path: &Path, content: &Bytes) -> (Result<bool, AllocError>, S)
+fn write_next<S: Measured + Drop>(
+    mut site: S,
+    path: &Path,
+    content: &Bytes,
+) -> (Result<bool, AllocError>, S)
     ensures edited { IfOk result.0 (λ again. IsEdited S.tells path.now (Some content.now) again (S.world site) (S.world result.1)) }
     ensures cut { OnErr result.0 (IsCutEdit S.tells path.now (Some content.now) (S.world site) (S.world result.1)) }
     ensures unrefused { OnErr result.0 (IsUnrefused (S.world site) (S.world result.1)) }

@@ -1,10 +1,9 @@
 //! A site in memory that tells how long its files are.
 
-ghost use Rattle.std.specs.Prelude.{◌≡◌, true, Option, IfOk};
-ghost use Rattle.model.specs.World.{File, content_of, stamp_of, view_of};
-ghost use Rattle.seen.specs.Measured.{measured_at, read_at};
+ghost use Rattle.std.specs.Prelude.{◌≡◌, true, IfOk};
+ghost use Rattle.model.specs.World.{view_of};
 ghost use Rattle.sim.specs.World.{world_of};
-ghost use Rattle.sim_measured.specs.Found.{size_of};
+ghost use Rattle.sim_measured.specs.Found.{found_by, read_by, size_of};
 
 use model::{Act, Event, Finished, SiteFault};
 use seen::{Measure, Measured};
@@ -120,8 +119,10 @@ impl Measured for Measuring {
 fn size_at(site: &Sim<Toy>, path: &str) -> Option<u64>
     ensures { result ≡ size_of (view_of (world_of site.now).history path.now) }
 {
-    let content = site.content(path)?;
-    Some(content.as_slice().len() as u64)
+    match site.content(path) {
+        Some(content) => Some(content.as_slice().len() as u64),
+        None => None,
+    }
 }
 
 /// A copy of what the file at the path holds, or nothing where there is no file.
@@ -136,10 +137,14 @@ fn copy_at(site: &Sim<Toy>, path: &str) -> Result<Option<Bytes>, AllocError>
 
 /// The measure of a file of this stamp and length, if there is one.
 fn measure_by(stamp: Option<u64>, size: Option<u64>) -> Option<Measure>
-    ensures { (file : Option File) → stamp ≡ stamp_of file → size ≡ size_of (content_of file) → result ≡ measured_at file }
+    ensures { result ≡ found_by stamp size }
 {
-    let stamp = stamp?;
-    let size = size?;
+    let Some(stamp) = stamp else {
+        return None;
+    };
+    let Some(size) = size else {
+        return None;
+    };
     Some(Measure {
         stamp,
         size: Some(size),
@@ -147,12 +152,16 @@ fn measure_by(stamp: Option<u64>, size: Option<u64>) -> Option<Measure>
     })
 }
 
-/// What the file holds, and its measure, if there is one.
+/// What a file of this stamp holds, and its measure, if there is one.
 fn measure_with(stamp: Option<u64>, content: Option<Bytes>) -> Option<(Bytes, Measure)>
-    ensures { (file : Option File) → stamp ≡ stamp_of file → content ≡ content_of file → result ≡ read_at file }
+    ensures { result ≡ read_by stamp content }
 {
-    let stamp = stamp?;
-    let content = content?;
+    let Some(stamp) = stamp else {
+        return None;
+    };
+    let Some(content) = content else {
+        return None;
+    };
     let size = content.as_slice().len() as u64;
     let measure = Measure {
         stamp,
