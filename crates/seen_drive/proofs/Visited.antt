@@ -73,8 +73,8 @@ module _ (tells : Bool) (options : Options) (old new : World) where
   })
 
 -- what is so of a result, where it is known which it is
-pub at_ok : {T E : Type 0} {P : T → Type 0} (r : Result T E) (x : T) → r ≡ Ok x → IfOk r P → P x
-at_ok {T} {E} {P} r x is so = subst (λ (q : Result T E). IfOk q P) is so
+pub at_ok : {T E : Type 0} (P : T → Type 0) (r : Result T E) (x : T) → r ≡ Ok x → IfOk r P → P x
+at_ok {T} {E} P r x is so = subst (λ (q : Result T E). IfOk q P) is so
 
 pub at_err : {T E P : Type 0} (r : Result T E) (e : E) → r ≡ Err e → OnErr r P → P
 at_err {T} {E} {P} r e is so = subst (λ (q : Result T E). OnErr q P) is so

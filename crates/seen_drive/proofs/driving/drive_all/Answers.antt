@@ -1,7 +1,7 @@
 use Rattle.std.proofs.Common.{◌+◌, Bool, false, List, [], drop, subst, sym, take, vec_capacity}
 use Rattle.model.specs.declared.moves.Move.{Move}
 use Rattle.work.specs.declared.report.Report.{Report}
-use Rattle.seen_drive.specs.Moves.{AreDone}
+use Rattle.seen_drive.specs.Moves.{AreDone, IsCarried}
 use Rattle.seen_drive.specs.Visits.{StopsShort}
 use Rattle.seen_drive.proofs.Going.{goes_on}
 use Rattle.seen_drive.proofs.Loop.{done_at_first, room_at_first, room_behind, short_at, split_at, take_more}
@@ -35,12 +35,14 @@ loop-step-preserved g c =
     let now = g.S.Texts.world c.loop-step.site in
     let mid = g.S.Texts.world c.start_again.new.site in
     let new = g.S.Texts.world c.carry_out-carried.result.1 in
-    let carried = at_ok c.carry_out-carried.result.0 c.in-Ok.asks c.in-Ok.is c.carry_out-carried.ensures.carried in (
-      subst (λ (ms : List Move). AreDone g.S.Texts.tells c.args.options.now ms c.in-Ok.asks c.carry_out-carried.new.reports.items first new)
+    let before = c.loop-step.reports.items in
+    let after = c.carry_out-carried.new.reports.items in
+    let carried = at_ok (λ (again : Bool). IsCarried g.S.Texts.tells c.args.options.now c.step-item.result again before after mid new)
+    c.carry_out-carried.result.0 c.in-Ok.asks c.in-Ok.is c.carry_out-carried.ensures.carried in (
+      subst (λ (ms : List Move). AreDone g.S.Texts.tells c.args.options.now ms c.in-Ok.asks after first new)
           (take_more c.args.moves.now c.loop-step.step-index c.step-item.result c.loop-step-test.true c.step-item.is)
-          (goes_on g.S.Texts.tells c.args.options.now (take c.loop-step.step-index c.args.moves.now) c.loop-step.again c.loop-step.reports.items
-          c.carry_out-carried.new.reports.items first now mid new c.step-item.result c.in-Ok.asks c.loop-step.invariant.0 carried c.start_again.ensures),
+          (goes_on g.S.Texts.tells c.args.options.now (take c.loop-step.step-index c.args.moves.now) c.loop-step.again before after first now mid new c.step-item.result c.in-Ok.asks c.loop-step.invariant.0 carried c.start_again.ensures),
       room_behind g.S.Texts.tells c.args.options.now c.args.moves.now c.loop-step.step-index c.step-item.result c.in-Ok.asks
-          c.loop-step.reports.items c.carry_out-carried.new.reports.items mid new (vec_capacity c.loop-step.reports) (vec_capacity c.carry_out-carried.new.reports)
+          before after mid new (vec_capacity c.loop-step.reports) (vec_capacity c.carry_out-carried.new.reports)
           c.loop-step-test.true c.step-item.is c.loop-step.invariant.1 c.carry_out-carried.ensures.grows carried,
     )
