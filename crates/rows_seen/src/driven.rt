@@ -4,7 +4,7 @@ ghost use Rattle.model.specs.World.{IsIdle};
 ghost use Rattle.sim.specs.World.{world_of};
 
 use builder::Report;
-use meanwhile::{Source, edges_of, options, targets};
+use meanwhile::{Source, edges_of, options};
 use model::Move;
 use seen_drive::drive_seen;
 use sim::{Sim, Toy};
@@ -44,7 +44,8 @@ fn push_end(
     outputs: &str,
     told: &mut Vec<u8>,
 ) -> io::Result<()> {
-    push_reports(driven?.as_slice(), told)?;
+    let reports = driven?;
+    push_reports(reports.as_slice(), told)?;
     for path in outputs.split(' ') {
         push_file(&site.site, path, told)?;
     }
@@ -122,12 +123,11 @@ fn deleting(alloc: Global, path: &str) -> Result<Move, AllocError> {
 }
 
 fn building(alloc: Global, target: &str) -> Result<Move, AllocError> {
-    let target = if target.is_empty() {
-        None
-    } else {
-        Some(target)
-    };
+    let mut targets = Vec::new(alloc);
+    if !target.is_empty() {
+        targets.push(Text::from_str(alloc, target)?)?;
+    }
     Ok(Move::Build {
-        targets: Items::from_vec(targets(alloc, target)?),
+        targets: Items::from_vec(targets),
     })
 }
