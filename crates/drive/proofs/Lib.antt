@@ -3,3 +3,4 @@ pub mod Visited
 pub mod Going
 pub mod Ended
 pub mod Loop
+pub mod Idle

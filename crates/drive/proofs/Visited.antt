@@ -123,14 +123,14 @@ unread_done tells outcome name limits words old new report idle un = record {
 -- ---- a build
 
 -- own files that lie in this folder
-abbrev some_own : List ℕ → OwnFiles
+abbrev pub some_own : List ℕ → OwnFiles
 some_own folder = record { build_log = file_in folder build_log_name; deps_log = file_in folder deps_log_name; files = λ p. true; set = λ p. true }
 
-some_in : (folder : List ℕ) → IsOwnIn (some_own folder) folder
+pub some_in : (folder : List ℕ) → IsOwnIn (some_own folder) folder
 some_in folder = record { build_log = refl; deps_log = refl; is_log = refl; is_deps = refl; tick = refl; new_log = refl; new_deps = refl; outputs = λ digits are. refl }
 
 -- a reading of dyndep files, in the words of builds
-readings : HasDyndeps → (dyndep : List ℕ → Option (List Addition)) × ReadsDyndeps dyndep
+pub readings : HasDyndeps → (dyndep : List ℕ → Option (List Addition)) × ReadsDyndeps dyndep
 readings dyndeps = (
   λ bytes. option_map (map addition_of) (dyndeps.0 bytes),
   λ bytes. let read = dyndeps.1 bytes in (read.0, read.1, ap (λ statements. option_map (map addition_of) statements) read.2),

@@ -1,2 +1,3 @@
 pub mod Driven
 pub mod Moves
+pub mod Ending

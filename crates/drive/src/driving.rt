@@ -37,7 +37,7 @@ pub fn drive<S: Site>(
 }
 
 /// How many builds are among the moves.
-fn count_builds(moves: &[Move]) -> usize
+pub fn count_builds(moves: &[Move]) -> usize
     ensures { result ≡ builds_among moves.now }
 {
     let mut count = 0;
@@ -56,7 +56,7 @@ fn is_build(step: &Move) -> bool
 }
 
 /// Starts the site again where that is asked for.
-fn start_again<S: Site>(site: &mut S, asked: bool)
+pub fn start_again<S: Site>(site: &mut S, asked: bool)
     ensures { StartsAgain S.tells asked (S.world site.old) (S.world site.new) }
 {
     if asked {

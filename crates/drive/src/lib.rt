@@ -4,6 +4,10 @@
 
 mod driving;
 mod edits;
+mod laws;
 mod one_move;
 
-pub use driving::drive;
+pub use driving::{count_builds, drive, start_again};
+pub use edits::{delete, write};
+pub use laws::builds_end;
+pub use one_move::{is_fault, push_reserved};

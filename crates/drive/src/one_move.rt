@@ -63,14 +63,15 @@ fn build_next<S: Site>(
     again
 }
 
-fn is_fault(report: &Report) -> bool
+/// Whether the report is a fault.
+pub fn is_fault(report: &Report) -> bool
     ensures { result ≡ reports_fault report.now }
 {
     matches!(report, Report::Fault(_))
 }
 
 /// Adds a report to a list that has room.
-fn push_reserved(reports: &mut Vec<Report>, report: Report)
+pub fn push_reserved(reports: &mut Vec<Report>, report: Report)
     requires { length reports.old.items < vec_capacity reports.old }
     ensures items { reports.new.items ≡ reports.old.items ++ report ∷ [] }
     ensures grows { vec_capacity reports.old ≤ vec_capacity reports.new }

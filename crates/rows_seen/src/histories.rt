@@ -1,5 +1,6 @@
 //! What histories are made up of, and scenarios.
 
+use crate::driven::push_driven;
 use crate::ended::push_ended;
 use crate::scenario::push_built;
 use crate::trial::push_tried;
@@ -77,6 +78,7 @@ fn push_answer(
         "build" => push_built(alloc, source, false, told),
         "trusting" => push_built(alloc, source, true, told),
         "ended" => push_ended(alloc, source, told),
+        "driven" => push_driven(alloc, source, told),
         "trusted" => push_tried(alloc, source, true, told),
         _ => push_tried(alloc, source, false, told),
     }
@@ -93,7 +95,7 @@ impl Table for Histories {
                 self.push_asked(alloc, first, rest, told)?;
                 return Ok(true);
             }
-            "ended" | "trusting" | "seen" | "trusted" => {
+            "ended" | "driven" | "trusting" | "seen" | "trusted" => {
                 self.push_asked(alloc, first, rest, told)?;
                 return Ok(true);
             }

@@ -3,7 +3,8 @@
 //!
 //! A row `outputs PATH..` begins, and `sources PATH..` says what is written. Of a scenario each row behind it is a line, as `scenario` says. A row
 //! `build` is one too, and tells what comes of the scenario up to it; `ended` tells what comes of it where its last build is ended at each call, and
-//! `trusting` what by stamps alone.
+//! `trusting` what by stamps alone; `driven` carries it out as one list of moves, on a site that tells its files, and tells how each build ends and
+//! what stands at each output then.
 //!
 //! Of histories that are made up each row behind it is a build file, as `meanwhile` says. `seen COUNT SEED` asks of so many with these, of builds
 //! by what was seen; `trusted COUNT SEED` of builds by stamps alone.
@@ -13,6 +14,7 @@ mod asked;
 mod builds;
 mod counts;
 mod dated;
+mod driven;
 mod ended;
 mod histories;
 mod lines;

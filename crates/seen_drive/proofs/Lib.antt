@@ -1,0 +1,7 @@
+mod Going
+mod Visited
+mod Loop
+mod Ended
+mod Behind
+mod Growing
+mod Law

@@ -1,0 +1,4 @@
+pub mod Visits
+pub mod Moves
+pub mod Between
+pub mod Claims
