@@ -2,6 +2,7 @@
 
 import os
 import random as chance
+import re
 
 # How many headers a unit tells, of how many there are.
 TOLD, HEADERS = 57, 400
@@ -136,6 +137,101 @@ def fan(folder, edges, command=": > $out"):
     lines += [f"build out/folder{n % 97:02}/f{n}: touch start\n" for n in range(edges)]
     write(folder, "build.ninja", "".join(lines))
     empty(folder, ["start"])
+
+
+# How many edges name one dyndep file.
+OF_ONE_FILE = 10
+
+
+def before(n, _):
+    """The module before it, where that has the same file."""
+    return [n - 1] if n % OF_ONE_FILE else []
+
+
+def three_before(n, draw):
+    """Three modules before it, of any file."""
+    return sorted({draw.randrange(n) for _ in range(3)}) if n else []
+
+
+def modules(folder, edges, made=False, needs=before, order=lambda lines, draw: lines):
+    """Edges of which each ten name a dyndep file that no edge makes. By it each makes a module, and needs that of the one before it."""
+    draw = chance.Random(edges)
+    head, lines = "rule copy\n  command = cp $in $out\nrule touch\n  command = : > $out; : > out/m$n\n", []
+    for first in range(0, edges, OF_ONE_FILE):
+        file = f"files/d{first // OF_ONE_FILE}"
+        told = ["ninja_dyndep_version = 1\n"]
+        for n in range(first, min(first + OF_ONE_FILE, edges)):
+            lines.append(f"build out/o{n}: touch start || {file}\n  dyndep = {file}\n  n = {n}\n")
+            needed = " ".join(f"out/m{it}" for it in needs(n, draw))
+            told.append(f"build out/o{n} | out/m{n}: dyndep{' | ' * bool(needed)}{needed}\n")
+        write(folder, f"{file}.in" if made else file, "".join(told))
+        if made:
+            lines.append(f"build {file}: copy {file}.in\n")
+    write(folder, "build.ninja", head + "".join(order(lines, draw)))
+    empty(folder, ["start"])
+
+
+def modules_made(folder, edges):
+    """The same, each file made by a command."""
+    modules(folder, edges, made=True)
+
+
+def modules_back(folder, edges):
+    """As `modules`, the last edge first, so that each needs what a later line makes."""
+    modules(folder, edges, order=lambda lines, draw: lines[::-1])
+
+
+def modules_drawn(folder, edges):
+    """As `modules`, in an order that is drawn."""
+    modules(folder, edges, order=lambda lines, draw: draw.sample(lines, len(lines)))
+
+
+def modules_far(folder, edges):
+    """As `modules`, and each needs three modules of any file before it. In another order ninja takes what a later file adds for a missing source."""
+    modules(folder, edges, needs=three_before)
+
+
+# How many files stand below the phony edge of `gathered`.
+GATHERED = 10_000
+
+
+def gathered(folder, edges):
+    """A chain of edges that all read one phony edge of 10,000 files."""
+    files = [f"in/file{n:05}.txt" for n in range(GATHERED)]
+    lines = [TOUCH, f"build all_files: phony {' '.join(files)}\n", "build out/c0: touch start | all_files\n"]
+    lines += [f"build out/c{n}: touch out/c{n - 1} | all_files\n" for n in range(1, edges)]
+    write(folder, "build.ninja", "".join(lines))
+    empty(folder, ["start", *files])
+
+
+# What `bare.` takes out of a build file: the lines by which edges name dyndep files and pools, pools, and a phony edge that all read.
+BARE = re.compile(r"^  (?:dyndep|pool) = .*\n|^pool .*\n  depth = .*\n|^build all_files: phony .*\n| \| all_files\b", re.M)
+
+
+def strip(folder):
+    """Makes a tree the bare one."""
+    with open(os.path.join(folder, "build.ninja"), encoding="utf-8") as it:
+        text = it.read()
+    write(folder, "build.ninja", BARE.sub("", text))
+
+
+# How many edges name one dyndep file in a build in memory.
+IN_MEMORY = 50
+
+
+def script(edges, made, named=True):
+    """A script of `nj_sim` with the first build of so many modules, of which each fifty name a dyndep file; without naming these, if so asked."""
+    build = ["rule copy", "  command = cat $out $in", "rule compile", "  command = both $out out/m$n $in"]
+    files = []
+    for first in range(0, edges, IN_MEMORY):
+        file = f"files/d{first // IN_MEMORY}"
+        build += [f"build {file}: copy {file}.in"] * made
+        told = ["ninja_dyndep_version = 1"]
+        for n in range(first, min(first + IN_MEMORY, edges)):
+            build += [f"build out/o{n}: compile start || {file}", *[f"  dyndep = {file}"] * named, f"  n = {n}"]
+            told.append(f"build out/o{n} | out/m{n}: dyndep" + (f" | out/m{n - 1}" if n > first else ""))
+        files += [f"file {file}{'.in' * made}", *(f"|{it}" for it in told)]
+    return "\n".join(["write start 1", "file build.ninja", *(f"|{it}" for it in build), *files, "build"]) + "\n"
 
 
 def idle_fan(folder, edges):

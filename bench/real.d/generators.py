@@ -1,4 +1,4 @@
-"""Trees of CMake, Meson and GN: nj builds them unchanged, and leaves what ninja leaves."""
+"""Trees of CMake, Meson and GN: nj builds them unchanged, and leaves what ninja leaves. One of them has many modules, and is a part of its own."""
 
 import os
 import re
@@ -11,9 +11,17 @@ NOTES = re.compile(r"(^|/)(CMakeFiles/CMake(Output|Error|Configure)[^/]*|Testing
 
 
 def run(place):
-    if place.lacks("trees of generators", "ninja", "c++"):
-        return
-    for project in projects.ALL:
+    if not place.lacks("trees of generators", "ninja", "c++"):
+        all_of(place, projects.ALL)
+
+
+def run_many(place):
+    if not place.lacks("trees of many modules", "ninja"):
+        all_of(place, projects.MANY)
+
+
+def all_of(place, some):
+    for project in some:
         if place.lacks(project.name, *project.wants):
             continue
         try:

@@ -319,3 +319,57 @@ GNS = [
 ]
 
 ALL = CMAKES + MESONS + GNS
+
+# ---- many modules: 30 libraries of ten, and a program. Generators make a dyndep file for each of these, by which commands wait for modules.
+
+LIBRARIES, MODULES = 30, 10
+
+
+def used(library, module):
+    """The modules that one uses: the one before it, one of the library before, and one of a library far below."""
+    found = [(library, module - 1)] if module % 4 else []
+    if library and module % 3 == 0:
+        found.append((library - 1, MODULES - 1 - module))
+    if library > 1 and module % 5 == 0:
+        found.append((library // 2, module))
+    return sorted(set(found))
+
+
+def value(library, module, base):
+    """The constant of a module, where that of the first is `base`."""
+    known = {}
+    for it in range(LIBRARIES):
+        for one in range(MODULES):
+            known[it, one] = base if it == one == 0 else (it + one + sum(known[other] for other in used(it, one))) % 1000
+    return known[library, module]
+
+
+def module_text(library, module):
+    name = f"{library:02}_{module:02}"
+    uses = [f"{it:02}_{one:02}" for it, one in used(library, module)]
+    total = " + ".join([str(library + module), *(f"v{it}" for it in uses)]) if library or module else "1"
+    return (f"module m{name}\n" + "".join(f"  use m{it}, only: v{it}\n" for it in uses)
+            + f"  implicit none\n  private\n  integer, parameter, public :: v{name} = mod({total}, 1000)\n  public :: f{name}\ncontains\n"
+            + f"  integer function f{name}(n)\n    integer, intent(in) :: n\n    f{name} = n + v{name}\n  end function\nend module\n")
+
+
+def many_modules():
+    files = {f"lib{it:02}/m{it:02}_{one:02}.f90": module_text(it, one) for it in range(LIBRARIES) for one in range(MODULES)}
+    lines = ["cmake_minimum_required(VERSION 3.20)", "project(tried LANGUAGES Fortran)"]
+    for it in range(LIBRARIES):
+        lines.append(f"add_library(lib{it:02} {' '.join(f'lib{it:02}/m{it:02}_{one:02}.f90' for one in range(MODULES))})")
+        if it:
+            lines.append(f"target_link_libraries(lib{it:02} {' '.join(f'lib{low:02}' for low in sorted({it - 1, it // 2}))})")
+    last = f"{LIBRARIES - 1:02}_{MODULES - 1:02}"
+    lines += ["add_executable(app main.f90)", f"target_link_libraries(app lib{LIBRARIES - 1:02})"]
+    files["main.f90"] = f"program main\n  use m{last}\n  print '(a,i0)', 'sum ', f{last}(0)\nend program\n"
+    return {**files, "CMakeLists.txt": "\n".join(lines) + "\n"}
+
+
+MANY = [
+    cmake("cmake-fortran-300", "", wants=("cmake", "gfortran"), files=many_modules(), edits=[
+        ("a module", "lib15/m15_04.f90"), ("a module offers more", "lib15/m15_04.f90", "  private\n", "  private\n  integer, parameter, public :: more = 1\n"),
+        ("a module is used more", "lib20/m20_07.f90", "  implicit none\n", "  use m10_03, only: v10_03\n  implicit none\n"),
+        ("the lowest module is another", "lib00/m00_00.f90", "mod(1, 1000)", "mod(2, 1000)"), ("a program", "main.f90")],
+          tells=f"sum {value(LIBRARIES - 1, MODULES - 1, 2)}"),
+]

@@ -34,15 +34,15 @@ use Rattle.records.specs.Logging.{IsLogging}
 use Rattle.plan.specs.Flags.{has as has_flag}
 use Rattle.plan.specs.declared.plan.Plan.{Plan}
 use Rattle.plan.specs.Planned.{IsPlanned}
-use Rattle.work.specs.declared.state.State.{State}
+use Rattle.work.specs.declared.state.Work.{Work}
 use Rattle.work.specs.Course.{Course, IsOwnTick, HasCone, Suits, IsOn}
 use Rattle.builder.specs.declared.asked.Asked.{Asked as Request}
 use Rattle.builder.specs.Build.{asked_of}
 use Rattle.work.specs.Standing.{BeginsAt, grown_course}
 use Rattle.work.specs.Loads.{ReadsDyndeps}
 use Rattle.work.specs.Recorded.{IsRecordedBy}
-use Rattle.builder.specs.Reports.{HasRead, IsConeRecorded, IsPlanFor}
-use Rattle.builder.proofs.Looking.{IsFoundAt, course_of, left_before}
+use Rattle.builder.specs.Reports.{HasRead, IsConeRecorded, IsPlanFor, course_of}
+use Rattle.builder.proofs.Looking.{IsFoundAt, left_before}
 use Rattle.builder.proofs.Builds.{any_own, own_in, none_kept, looked_nothing, idle_after}
 use Rattle.builder.proofs.Entry.{AreUnasked, none_asked, all_there}
 use Rattle.builder.proofs.Folders.{logs_apart, tick_is_no_build_log, tick_is_no_deps_log}
@@ -178,7 +178,7 @@ module _ (tells : Bool) (graph : Graph) (request : Request) (records : Records) 
 
   module _ (cone : Cone) (listed : IsConeIn graph store request.targets cone) (plan : Plan) (flags : (p : ℕ) → has_flag plan.changed.items p ≡ false) (planned : IsPlanned (task_of asked store) graph plan [])
       (looks : Looks) (unseen : looks.seen.items ≡ replicate (length graph.manifest.paths) Unasked)
-      (state : State) (plan_is : state.plan ≡ plan) (looks_are : state.looks ≡ looks) (records_are : state.records ≡ records) (none : state.failed.items ≡ []) (starts : vec_len state.starts ≡ length graph.manifest.lines)
+      (state : Work) (plan_is : state.plan ≡ plan) (looks_are : state.looks ≡ looks) (records_are : state.records ≡ records) (none : state.failed.items ≡ []) (starts : vec_len state.starts ≡ length graph.manifest.lines)
       (ticks : state.tick ≡ file_in request.folder tick_name) (cone_is : state.cone ≡ cone) where
     unasked : AreUnasked state.looks
     unasked = none_asked (length graph.manifest.paths) state.looks (ap (λ (l : Looks). l.seen.items) looks_are ∙ unseen)
@@ -230,7 +230,7 @@ module _ (tells : Bool) (graph : Graph) (request : Request) (records : Records) 
 module _ (tells : Bool) (graph : Graph) (request : Request) (records : Records) (course : Course) (now : World) (has : HasRead tells graph request records course now)
     (formed : IsGraph (declared_by graph)) (once : IsMadeOnce (declared_by graph).edges) (others : (file : List ℕ) → NamesOther (declared_by graph).edges file → ⊥)
     (cone : Cone) (coned : IsConeRecorded graph request.targets cone) (plan : Plan) (first : IsPlanFor graph cone request.limits plan) (looks : Looks) (unseen : looks.seen.items ≡ replicate (length graph.manifest.paths) Unasked)
-    (state : State) (plan_is : state.plan ≡ plan) (looks_are : state.looks ≡ looks) (records_are : state.records ≡ records) (none : state.failed.items ≡ []) (starts : vec_len state.starts ≡ length graph.manifest.lines)
+    (state : Work) (plan_is : state.plan ≡ plan) (looks_are : state.looks ≡ looks) (records_are : state.records ≡ records) (none : state.failed.items ≡ []) (starts : vec_len state.starts ≡ length graph.manifest.lines)
     (ticks : state.tick ≡ file_in request.folder tick_name) (cone_is : state.cone ≡ cone) where
   abbrev pub this : Course
   this = course_of course.behaviour course.format course.own (asked_of (declared_by graph) request.folder request.limits request.targets) course.store course.entry

@@ -40,17 +40,17 @@ use Rattle.work.specs.declared.report.Report.TheVariants.{Success, Failed, Refus
 use Rattle.work.specs.declared.stop.Stop.{Stop}
 use Rattle.work.specs.declared.stop.Stop.TheVariants as stop
 use Rattle.builder.specs.Build.{AreGraph, Says, Builds, missing_answer, asked_of}
-use Rattle.work.specs.declared.state.State.{State}
+use Rattle.work.specs.declared.state.Work.{Work}
 use Rattle.builder.specs.Reported.{IsReportOf, IsReported}
 use Rattle.work.specs.Standing.{BeginsAt, task_over, IsHeldLoad, IsLacking, IsMissingAfter, IfFault, HasDone, HasStopped, WasCut, HasEndedSo, stop_answer}
 use Rattle.work.specs.Loads.{IsRefusedFile, RefusesFile}
 use Rattle.builder.specs.declared.asked.Asked.{Asked as Request}
-use Rattle.builder.specs.Reports.{HasRead, IsConeRecorded, SaysEnd}
+use Rattle.builder.specs.Reports.{HasRead, IsConeRecorded, SaysEnd, course_of}
 use Rattle.work.specs.Ends.{first_output_of, IsMissingFor, report_of}
 use Rattle.builder.proofs.Beginning.{found_later}
 use Rattle.builder.proofs.Builds.{any_own, names_inputs, builds_over}
 use Rattle.builder.proofs.Opening.{cause_since}
-use Rattle.builder.proofs.Looking.{Built, IsFoundAt, course_of, passes_any, passes_after}
+use Rattle.builder.proofs.Looking.{Built, IsFoundAt, passes_any, passes_after}
 use Rattle.builder.proofs.Running.{holds_still, held, held_so, right_so, built_ended, built_cut, built_failed, built_well, was_in_order}
 use Rattle.builder.proofs.Values.{map_suc}
 
@@ -558,7 +558,7 @@ module _ (tells : Bool) (graph : Graph) (request : Request) (records : Records) 
 
 -- a run that began so was reported
 pub builds_reported : (tells : Bool) (graph : Graph) (request : Request) (records : Records) (course : Course) (old : World) → HasRead tells graph request records course old
-    → IsMadeOnce (declared_by graph).edges → ((file : List ℕ) → NamesOther (declared_by graph).edges file → ⊥) → (cone : Cone) → IsConeRecorded graph request.targets cone → (state : State) (after : Graph) (last : State) (exit : World) (report : Report)
+    → IsMadeOnce (declared_by graph).edges → ((file : List ℕ) → NamesOther (declared_by graph).edges file → ⊥) → (cone : Cone) → IsConeRecorded graph request.targets cone → (state : Work) (after : Graph) (last : Work) (exit : World) (report : Report)
     → (told : IsReported tells graph state old after last exit report)
     → BeginsAt tells (course_of course.behaviour course.format course.own (asked_of (declared_by graph) request.folder request.limits request.targets) course.store course.entry) (declared_by graph).edges [] graph state old
     → BeginsAt tells (course_of course.behaviour course.format (any_own request.folder) (asked_of (declared_by graph) request.folder request.limits request.targets) course.store old) (declared_by graph).edges [] graph state old

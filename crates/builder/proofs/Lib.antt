@@ -6,6 +6,7 @@ pub mod Folders
 pub mod Formed
 pub mod Looking
 pub mod Opening
+pub mod Opened
 pub mod Running
 pub mod Said
 pub mod Stages

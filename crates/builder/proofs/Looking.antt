@@ -33,7 +33,6 @@ use Rattle.theory.proofs.AsRead.{read_nothing}
 use Rattle.theory.proofs.JudgedAtExit.{taken_nothing}
 use Rattle.theory.proofs.Ledger.{beside_looks}
 use Rattle.theory.proofs.Ticking.{ticked_nothing}
-use Rattle.work.specs.Course.{Course}
 use Rattle.work.specs.Removing.{AreRemoved}
 use Rattle.work.specs.declared.report.Report.{Report}
 use Rattle.work.specs.declared.report.Report.TheVariants.{Fault}
@@ -127,10 +126,6 @@ built_by tells B format own asked entry now answer report build refused of_run a
   alone = alone;
   removed = removed;
 }
-
--- what a run of a build is of, in which nothing was loaded yet
-abbrev pub course_of : Behaviour → LogFormat → OwnFiles → Asked → Store → World → Course
-course_of B format own asked store entry = record { behaviour = B; format = format; own = own; asked = asked; store = store; entry = entry; phases = []; refused = None }
 
 -- these records are those of the store at the entry, unless somebody has written a log since
 abbrev pub IsFoundAt : Bool → LogFormat → OwnFiles → Store → World → World → Type 0

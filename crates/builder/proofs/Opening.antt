@@ -25,9 +25,9 @@ use Rattle.builder.specs.Build.{asked_of}
 use Rattle.work.specs.Standing.{IfFault}
 use Rattle.work.specs.Loads.{ReadsDyndeps}
 use Rattle.work.specs.Recorded.{HasJoined}
-use Rattle.builder.specs.Reports.{HasRead}
+use Rattle.builder.specs.Reports.{HasRead, course_of}
 use Rattle.builder.proofs.Builds.{looked_more}
-use Rattle.builder.proofs.Looking.{IsFoundAt, course_of, left_before}
+use Rattle.builder.proofs.Looking.{IsFoundAt, left_before}
 use Rattle.builder.proofs.Folders.{logs_apart}
 
 -- a fault has its cause since the entry, as no call was refused before

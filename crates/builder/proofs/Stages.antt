@@ -43,6 +43,11 @@ pub told_by : (told : Report) (r : Result Report Report) → IsErrAnd r (λ repo
 told_by told (Ok report) passed = absurd passed
 told_by told (Err report) passed = passed
 
+-- what is so of the report of an exit by `?`
+pub refused_by : {T : Type 0} (So : Report → Type 0) (told : Report) (r : Result T Report) → IsErrAnd r (λ report. report ≡ told) → So told → IfErr r So
+refused_by So told (Ok value) passed so = tt
+refused_by So told (Err report) passed so = subst So (sym {A = Report} passed) so
+
 -- edges that are no graph have one report, whatever is asked of them
 pub ungraphed_always : (folder : List ℕ) (manifest : Manifest) (fault : GraphFault) → IsFaultOf folder (graph_of manifest).edges fault → IsReportOfNoGraph folder manifest (ungraphed fault)
 ungraphed_always folder manifest fault is = λ tells B format own limits given targets entry now idle looked.

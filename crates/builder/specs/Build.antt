@@ -1,7 +1,6 @@
 -- What `build` promises: what it read, and the build of the graph that it read.
 use Rattle.std.specs.Prelude.{◌≡◌, ◌⊎◌, ℕ, Bool, false, IsTrue, List, ◌++◌, Option, Some, None, Ok, Err, OnOk}
 use Rattle.model.specs.declared.act.Act.{Act}
-use Rattle.model.specs.declared.fault.SiteFault.TheVariants.{Memory}
 use Rattle.model.specs.declared.graph.BuildGraph.{BuildGraph}
 use Rattle.model.specs.declared.graph.Edge.{Edge}
 use Rattle.model.specs.declared.outcome.Outcome.{Outcome}
@@ -185,3 +184,7 @@ pub record IsBuilt (tells : Bool) (outcome : Act → View → Outcome) (name : L
 
 abbrev pub IsBuild : Bool → (Act → View → Outcome) → List ℕ → Limits → List (List ℕ) → World → World → Report → Type 0
 IsBuild tells outcome name limits given old new report = IsUnread tells name old new report ⊎ IsBuilt tells outcome name limits given old new report
+
+-- so it is of the file and the limits of these options
+abbrev pub BuildsTargets : Bool → (Act → View → Outcome) → Options → List (List ℕ) → World → World → Report → Type 0
+BuildsTargets tells outcome options given old new report = IsBuild tells outcome options.file (limits_of options) given old new report

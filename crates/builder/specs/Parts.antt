@@ -1,5 +1,5 @@
 -- What building promises of what was read.
-use Rattle.std.specs.Prelude.{ℕ, Bool, List, Result}
+use Rattle.std.specs.Prelude.{ℕ, Bool, List}
 use Rattle.model.specs.declared.graph.BuildGraph.{BuildGraph}
 use Rattle.model.specs.declared.graph.Edge.{Edge}
 use Rattle.model.specs.World.{World, IsIdle}
@@ -8,26 +8,25 @@ use Rattle.model.specs.Records.{LogFormat, OwnFiles}
 use Rattle.theory.specs.Seen.{Looked}
 use Rattle.paths.specs.declared.manifest.Manifest.{Manifest}
 use Rattle.paths.specs.Told.{graph_of}
-use Rattle.graph.specs.declared.graph.Graph.{Graph}
-use Rattle.graph.specs.Told.{declared_by}
 use Rattle.builder.specs.declared.asked.Asked.{Asked}
 use Rattle.builder.specs.declared.asked.Limits.{Limits}
 use Rattle.builder.specs.declared.reading.Reading.{Reading}
 use Rattle.work.specs.declared.report.Report.{Report}
 use Rattle.builder.specs.Build.{Builds, BuildsFor}
-use Rattle.builder.specs.Reports.{report_in}
+use Rattle.graph.specs.declared.graph.Graph.{Graph}
+use Rattle.graph.specs.Told.{declared_by}
 
 -- what was asked for of this graph was built, with some edges at the end
 abbrev pub BuildsAsked : Bool → BuildGraph → Asked → World → World → Report → Type 0
 BuildsAsked tells graph asked old new report = (grown : List Edge) × BuildsFor tells graph asked grown old new report
 
+-- so it is of a graph in numbers
+abbrev pub BuildsGraph : {S : Type 0} → Bool → (S → World) → S → S → Graph → Asked → Report → Type 0
+BuildsGraph tells world old new graph asked report = BuildsAsked tells (declared_by graph) asked (world old) (world new) report
+
 -- what was read was built: the graph of its very manifest, and what is asked of it
 abbrev pub BuildsReading : Bool → Reading → World → World → Report → Type 0
 BuildsReading tells reading old new report = BuildsAsked tells (graph_of reading.manifest) reading.asked old new report
-
--- the same of a graph in numbers, where a stage that ends the build gives its report as an error
-abbrev pub BuildsGraph : Bool → Graph → Asked → World → World → Result Report Report → Type 0
-BuildsGraph tells graph asked old new result = BuildsAsked tells (declared_by graph) asked old new (report_in result)
 
 -- Each build of what the manifest declares reports so, where own files lie in this folder: whatever is asked for and whenever, since its
 -- edges make no graph; from an entry on, since which there was only looked, and for whatever is behind the records of logs and the

@@ -1,28 +1,23 @@
 -- What the stages of a build report.
-use Rattle.std.specs.Prelude.{◌≡◌, ◌⊎◌, ℕ, suc, Bool, false, IsTrue, List, [], map, Option, Some, None, Result, Ok, Err}
-use Rattle.model.specs.declared.event.Moment.{Moment}
+use Rattle.std.specs.Prelude.{◌≡◌, ◌⊎◌, ℕ, Bool, false, IsTrue, List, [], map, None, Result, Ok, Err, IfOk}
 use Rattle.model.specs.declared.fault.SiteFault.{SiteFault}
 use Rattle.model.specs.declared.fault.SiteFault.TheVariants.{Memory}
-use Rattle.model.specs.declared.graph.Edge.{Edge}
 use Rattle.model.specs.World.{World, view_of, IsIdle}
 use Rattle.model.specs.Calls.{HasCause, OnlyLooks}
-use Rattle.model.specs.Graph.{edge_at, first_output, IsMadeOnce}
-use Rattle.model.specs.OutOfDate.{IsFirstMissing, IsMissingInput}
+use Rattle.model.specs.Graph.{IsMadeOnce}
 use Rattle.model.specs.Premises.{LogsAreLeft}
-use Rattle.model.specs.Schedule.{Step}
-use Rattle.model.specs.Records.{Store, IsOwnIn, store_in}
+use Rattle.model.specs.Outcome.{Behaviour}
+use Rattle.model.specs.Records.{Store, OwnFiles, LogFormat, IsOwnIn, store_in, file_in, build_log_name, deps_log_name}
 use Rattle.model.specs.SingleBuild.{Asked, NamesOther, task_of}
 use Rattle.theory.specs.Seen.{Looked}
-use Rattle.paths.specs.declared.manifest.Manifest.{Manifest}
-use Rattle.paths.specs.Told.{text_at, texts_at, graph_of}
+use Rattle.paths.specs.Told.{text_at, texts_at}
 use Rattle.graph.specs.declared.cone.Cone.{Cone}
 use Rattle.graph.specs.declared.cone.ConeFault.{ConeFault}
 use Rattle.graph.specs.declared.cone.ConeFault.TheVariants as cone
 use Rattle.graph.specs.declared.graph.Graph.{Graph}
-use Rattle.graph.specs.declared.fault.GraphFault.{GraphFault}
 use Rattle.graph.specs.declared.fault.GraphFault.TheVariants as graph
 use Rattle.graph.specs.Targets.{IsNoCone}
-use Rattle.graph.specs.Told.{declared_by, recorded_by}
+use Rattle.graph.specs.Told.{declared_by}
 use Rattle.judge.specs.Stores.{IsConeIn}
 use Rattle.records.specs.declared.records.Records.{Records}
 use Rattle.records.specs.Known.{AreKnown}
@@ -38,8 +33,7 @@ use Rattle.work.specs.Course.{Course, edges_of}
 use Rattle.builder.specs.declared.asked.Asked.{Asked as Request}
 use Rattle.builder.specs.declared.asked.Limits.{Limits}
 use Rattle.work.specs.declared.report.Refusal.{Refusal}
-use Rattle.work.specs.declared.report.Refusal.TheVariants.{MadeTwice, NoDyndepInput, Occupied, UnknownTarget, Cycle}
-use Rattle.work.specs.declared.stop.Stop.{Stop}
+use Rattle.work.specs.declared.report.Refusal.TheVariants.{UnknownTarget, Cycle}
 use Rattle.work.specs.declared.stop.Stop.TheVariants as stop
 use Rattle.work.specs.declared.report.Report.{Report}
 use Rattle.work.specs.declared.report.Report.TheVariants.{Success, Failed, Refused, Fault}
@@ -48,6 +42,7 @@ use Rattle.depfile.specs.Depfile.{IsReading}
 use Rattle.work.specs.Recorded.{IsRecordedBy, IsUnrecorded}
 use Rattle.work.specs.Loads.{ReadsDyndeps}
 use Rattle.work.specs.Ends.{first_output_of}
+use Rattle.records.specs.Laws.{WereRead}
 
 -- a stage that ends the build gives its report as an error
 abbrev pub report_in : Result Report Report → Report
@@ -95,6 +90,22 @@ pub record SaysFault (old new : World) (report : Report) : Type 0 where
   pub cause : HasCause {T = Unit {0}} old new (Err fault)
 
 -- ---- what was read
+
+-- what a run of a build is of, in which nothing was loaded yet
+abbrev pub course_of : Behaviour → LogFormat → OwnFiles → Asked → Store → World → Course
+course_of B format own asked store entry = record { behaviour = B; format = format; own = own; asked = asked; store = store; entry = entry; phases = []; refused = None }
+
+-- the logs of these records lie in this folder
+abbrev pub HasBuildLog : List ℕ → Records → Type 0
+HasBuildLog folder records = records.logs.build_log.path ≡ file_in folder build_log_name
+
+abbrev pub HasDepsLog : List ℕ → Records → Type 0
+HasDepsLog folder records = records.logs.deps_log.path ≡ file_in folder deps_log_name
+
+-- the logs were read, and what they told is known of the graph
+abbrev pub ReadsRecords : {S E : Type 0} → Bool → (S → World) → S → S → Graph → Result Records E → Type 0
+ReadsRecords tells world old new graph result =
+    IfOk result (λ records. (rs : List Record) × (ds : List DepsRecord) × AreKnown graph rs ds records × WereRead tells (world old) (world new) rs ds records.logs)
 
 -- The logs were read by a build of what was asked for, on this course: no command ran at its entry, since which there was only looked
 -- and no call was refused; what they told is the store of the course, which is that of the entry unless somebody has written a log since; its

@@ -1,39 +1,35 @@
 //! Why commands are due, before anything runs.
 
-ghost use Rattle.std.specs.Prelude.{◌≡◌, ◌<◌, All, List, ℕ, IfOk, OnOk, false, length};
+ghost use Rattle.std.specs.Prelude.{◌≡◌, ◌<◌, All, IfOk, OnOk, false, length};
 ghost use Rattle.std.specs.Option.{option_map};
 ghost use Rattle.model.specs.Calls.{OnlyLooks};
-ghost use Rattle.model.specs.Graph.{IsMadeOnce};
-ghost use Rattle.model.specs.SingleBuild.{NamesOther};
 ghost use Rattle.model.specs.World.{IsIdle};
 ghost use Rattle.graph.specs.Told.{declared_by};
-ghost use Rattle.judge.specs.Looking.{HasLooked};
 ghost use Rattle.manifest.specs.Answer.{IsGraph};
 ghost use Rattle.paths.specs.Told.{graph_of, text_at};
-ghost use Rattle.work.specs.Course.{Course};
-ghost use Rattle.builder.specs.Explained.{AreSaid, IsSaid, SaysDue, TellsDue, ExplainsFrom, BeginsStill, ExplainsBuild};
+ghost use Rattle.builder.specs.Explained.{AreSaid, IsSaid, ExplainsFrom, BeginsStill, ExplainsReading, ExplainsGraph, SaysDueAt, TellsDueAt};
 ghost use Rattle.work.specs.Standing.{IsBeginning};
-ghost use Rattle.builder.specs.Reports.{HasRead, IsLinked};
+ghost use Rattle.builder.specs.Reports.{IsLinked};
+ghost use Rattle.work.specs.After.{SeesFiles};
 
 use crate::asked::Asked;
 use crate::explained::{Acts, Explained, Explanation};
-use crate::one_build::{cone_of, read_records, state_of};
+use crate::one_build::opened;
 use crate::reading::{Reading, read};
 use depfile::has_reading;
 use dyndep_law::has_reading as has_dyndeps;
 use graph::{Cone, Graph};
-use judge::Looks;
 use log_text::has_format;
 use model::{Act, Reason, SiteFault};
 use paths::{Action, EdgeId, PathId};
 use reasons::{DueCommand, due_commands};
-use records::{Records, log_begins};
+use records::Records;
 use site::Site;
 use std::alloc::{AllocError, Global};
 use text::{Path, Text};
 use work::{
-    Options, Report, State, Stop, check_sources, first_output, join_recorded, load, orders_stand,
-    path_text, source_to_load, sources_load,
+    Options, Report, Stop, Work, first_output, orders_stand, path_text, source_to_load,
+    sources_load,
 };
 
 /// Why commands are due that [`crate::build`] would start, by what the build files, the logs and the files say now. It takes the same
@@ -65,143 +61,100 @@ pub fn explain_read<S: Site>(
     requires running { (S.world site.old).stopped ≡ false }
     requires formed { IsGraph (graph_of reading.manifest) }
     ensures looks { OnlyLooks S.tells (S.world site.old) (S.world site.new) }
-    ensures explains { IfOk result (λ explained. ExplainsBuild S.tells (graph_of reading.entry.manifest) reading.entry.asked (S.world site.old) (S.world site.new) explained.commands.items) }
+    ensures explains { ExplainsReading S.tells S.world site.old site.new reading.entry result }
 {
     let Reading { manifest, asked } = reading;
-    let mut graph = Graph::build(alloc, manifest, asked.folder.as_str())?;
-    explain_linked(alloc, site, &mut graph, &asked, options)
+    let graph = Graph::build(alloc, manifest, asked.folder.as_str())?;
+    explain_linked(alloc, site, graph, &asked, options)
 }
 
 /// The same of a graph that has no recorded inputs yet.
 fn explain_linked<S: Site>(
     alloc: Global,
     site: &mut S,
-    graph: &mut Graph,
+    graph: Graph,
     asked: &Asked<'_>,
     options: &Options,
 ) -> Result<Explained, Report>
     requires idle { IsIdle (S.world site.old).events }
     requires running { (S.world site.old).stopped ≡ false }
-    requires formed { IsGraph (declared_by graph.old) }
-    requires linked { IsLinked graph.old }
+    requires formed { IsGraph (declared_by graph) }
+    requires linked { IsLinked graph }
     ensures looks { OnlyLooks S.tells (S.world site.old) (S.world site.new) }
-    ensures explains { IfOk result (λ explained. ExplainsBuild S.tells (declared_by graph.old) asked.now (S.world site.old) (S.world site.new) explained.commands.items) }
+    ensures explains { ExplainsGraph S.tells S.world site.old site.new graph asked.now result }
 {
     has_format();
     has_reading();
     has_dyndeps();
-    log_begins();
-    let records = read_records(alloc, site, graph, asked)?;
-    join_recorded(alloc, graph, &records)?;
-    explain_graph(alloc, site, graph, asked, options, records)
-}
-
-/// The same of a graph that has the recorded inputs in use by these records.
-fn explain_graph<S: Site>(
-    alloc: Global,
-    site: &mut S,
-    graph: &mut Graph,
-    asked: &Asked<'_>,
-    options: &Options,
-    records: Records,
-) -> Result<Explained, Report>
-    requires running { (S.world site.old).stopped ≡ false }
-    requires formed { IsGraph (declared_by graph.old) }
-    requires once { IsMadeOnce (declared_by graph.old).edges }
-    requires inputs { (file : List ℕ) → NamesOther (declared_by graph.old).edges file → ⊥ }
-    requires read { (course : Course) × HasRead S.tells graph.old asked.now records course (S.world site.old) }
-    ensures looks { OnlyLooks S.tells (S.world site.old) (S.world site.new) }
-    ensures explains { IfOk result (λ explained. ExplainsBuild S.tells (declared_by graph.old) asked.now (S.world site.old) (S.world site.new) explained.commands.items) }
-{
-    let cone = cone_of(alloc, graph, asked)?;
-    let mut state = state_of(alloc, graph, cone, asked, options, records)?;
-    explain_state(site, graph, &mut state)
+    let mut state = opened(alloc, site, graph, asked, options)?;
+    explain_state(site, &mut state)
 }
 
 /// The same of a run that begins.
-fn explain_state<S: Site>(
-    site: &mut S,
-    graph: &mut Graph,
-    state: &mut State<'_>,
-) -> Result<Explained, Report>
+fn explain_state<S: Site>(site: &mut S, state: &mut Work<'_>) -> Result<Explained, Report>
     requires running { (S.world site.old).stopped ≡ false }
-    requires begins { IsBeginning S.tells graph.old state.old (S.world site.old) }
+    requires begins { IsBeginning S.tells state.old (S.world site.old) }
     ensures looks { OnlyLooks S.tells (S.world site.old) (S.world site.new) }
-    ensures explains { IfOk result (λ explained. ExplainsFrom S.tells graph.old state.old (S.world site.old) (S.world site.new) explained.commands.items) }
+    ensures explains { ExplainsFrom S.tells S.world site.old site.new state.old result }
 {
-    load_sources(site, graph, state)?;
-    Ok(explain_run(site, graph, state)?)
+    load_sources(site, state)?;
+    Ok(explain_run(site, state)?)
 }
 
 /// Loads the dyndep files that no edge makes, as a build does before anything is started.
-fn load_sources<S: Site>(site: &mut S, graph: &mut Graph, state: &mut State<'_>) -> Result<(), Stop>
+fn load_sources<S: Site>(site: &mut S, state: &mut Work<'_>) -> Result<(), Stop>
     requires running { (S.world site.old).stopped ≡ false }
-    requires begins { IsBeginning S.tells graph.old state.old (S.world site.old) }
+    requires begins { IsBeginning S.tells state.old (S.world site.old) }
     ensures looks { OnlyLooks S.tells (S.world site.old) (S.world site.new) }
     ensures running { OnOk result ((S.world site.new).stopped ≡ false) }
-    ensures begun { OnOk result (BeginsStill S.tells graph.old state.old (S.world site.old) graph.new state.new (S.world site.new)) }
+    ensures begun { BeginsStill S.tells S.world site.old site.new state.old state.new result }
 {
     sources_load();
     'sources: loop {
-        match source_to_load(graph, &state.plan) {
-            Some(file) => load(site, graph, state, file)?,
+        match source_to_load(&state.graph, &state.plan) {
+            Some(file) => state.load(site, file)?,
             None => return Ok(()),
         }
     }
 }
 
 /// The same where no dyndep file that no edge makes is to be loaded.
-fn explain_run<S: Site>(
-    site: &mut S,
-    graph: &Graph,
-    state: &mut State<'_>,
-) -> Result<Explained, Stop>
+fn explain_run<S: Site>(site: &mut S, state: &mut Work<'_>) -> Result<Explained, Stop>
     requires running { (S.world site.old).stopped ≡ false }
-    requires begins { IsBeginning S.tells graph.now state.old (S.world site.old) }
+    requires begins { IsBeginning S.tells state.old (S.world site.old) }
     ensures looks { OnlyLooks S.tells (S.world site.old) (S.world site.new) }
-    ensures tells { IfOk result (λ explained. TellsDue S.tells graph.now state.old.cone state.old.plan state.old.records (S.world site.old) (S.world site.new) state.old.looks state.new.looks explained.commands.items) }
+    ensures tells { TellsDueAt S.tells S.world site.old site.new state.old state.new result }
 {
-    orders_stand(graph);
-    let due = check_sources(
-        state.alloc,
-        site,
-        graph,
-        &state.cone,
-        &state.plan,
-        &mut state.looks,
-        &state.records,
-    )?;
-    let explained = explain_due(
-        state.alloc,
-        site,
-        graph,
-        &state.cone,
-        &mut state.looks,
-        &state.records,
-        &due,
-    )?;
+    orders_stand(&state.graph);
+    let due = state.check_sources(site)?;
+    let explained = explain_due(site, state, &due)?;
     Ok(explained)
 }
 
 /// Why the commands are due that have a flag.
 fn explain_due<S: Site>(
-    alloc: Global,
     site: &mut S,
-    graph: &Graph,
-    cone: &Cone,
-    looks: &mut Looks,
-    records: &Records,
+    state: &mut Work<'_>,
     due: &[bool],
 ) -> Result<Explained, SiteFault>
     requires running { (S.world site.old).stopped ≡ false }
-    requires fits { length looks.old.seen.items ≡ length graph.now.manifest.paths }
-    requires order { All (λ e. e < length graph.now.manifest.lines) cone.now.order.items }
-    requires due { length due.now ≡ length graph.now.manifest.lines }
-    ensures looked { HasLooked S.tells graph.now (S.world site.old) (S.world site.new) looks.old looks.new }
-    ensures says { IfOk result (λ explained. SaysDue S.tells graph.now cone.now records.now due.now (S.world site.old) (S.world site.new) looks.old looks.new explained.commands.items) }
+    requires fits { length state.old.looks.seen.items ≡ length state.old.graph.manifest.paths }
+    requires order { All (λ e. e < length state.old.graph.manifest.lines) state.old.cone.order.items }
+    requires due { length due.now ≡ length state.old.graph.manifest.lines }
+    ensures looked { SeesFiles S.tells S.world site.old site.new state.old state.new }
+    ensures says { SaysDueAt S.tells S.world site.old site.new due.now state.old state.new result }
 {
-    let told = due_commands(alloc, site, graph, cone, looks, records, due)?;
-    let explained = explained_of(alloc, graph, cone, records, &told)?;
+    let alloc = state.alloc;
+    let told = due_commands(
+        alloc,
+        site,
+        &state.graph,
+        &state.cone,
+        &mut state.looks,
+        &state.records,
+        due,
+    )?;
+    let explained = explained_of(alloc, &state.graph, &state.cone, &state.records, &told)?;
     Ok(explained)
 }
 

@@ -1,14 +1,15 @@
 //! What a build holds at its end.
 
-use graph::Cone;
+use graph::{Cone, Graph};
 use judge::Looks;
 use plan::Plan;
 use records::Records;
-use work::State;
+use work::Work;
 
-/// What a build knew at its end, beside its graph: it has served, and who ends the program right after need not let it go.
+/// What a build knew at its end: it has served, and who ends the program right after need not let it go.
 #[derive(Drop)]
 pub struct Held {
+    pub graph: Graph,
     pub cone: Cone,
     pub plan: Plan,
     pub looks: Looks,
@@ -17,8 +18,9 @@ pub struct Held {
 
 impl Held {
     /// What is large of a run's state.
-    pub(crate) fn of(state: State<'_>) -> Held {
-        let State {
+    pub(crate) fn of(state: Work<'_>) -> Held {
+        let Work {
+            graph,
             cone,
             plan,
             looks,
@@ -26,6 +28,7 @@ impl Held {
             ..
         } = state;
         Held {
+            graph,
             cone,
             plan,
             looks,

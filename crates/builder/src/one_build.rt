@@ -1,28 +1,23 @@
 //! One build.
 
 ghost use Rattle.std.specs.Prelude.{◌≡◌, ◌<◌, ℕ, All, List, [], IfOk, IfErr, OnOk, false, vec_len, length};
-ghost use Rattle.model.specs.declared.record.Record.{Record};
-ghost use Rattle.model.specs.declared.record.DepsRecord.{DepsRecord};
-ghost use Rattle.model.specs.declared.graph.Edge.{Edge};
 ghost use Rattle.model.specs.World.{IsIdle};
 ghost use Rattle.model.specs.Calls.{OnlyLooks};
-ghost use Rattle.model.specs.Records.{file_in, build_log_name, deps_log_name, tick_name};
+ghost use Rattle.model.specs.Records.{file_in, tick_name};
 ghost use Rattle.theory.specs.Seen.{Unrefused};
-ghost use Rattle.records.specs.Known.{AreKnown};
-ghost use Rattle.records.specs.Laws.{WereRead};
 ghost use Rattle.model.specs.Graph.{IsMadeOnce};
 ghost use Rattle.model.specs.SingleBuild.{NamesOther};
 ghost use Rattle.graph.specs.Occupying.{AreApart};
 ghost use Rattle.graph.specs.Told.{declared_by, recorded_by};
+ghost use Rattle.judge.specs.Looking.{AreUnasked};
 ghost use Rattle.manifest.specs.Answer.{IsGraph};
 ghost use Rattle.paths.specs.Told.{graph_of, text_at};
-ghost use Rattle.work.specs.Course.{Course};
 ghost use Rattle.work.specs.Ran.{AreEdgesOf};
-ghost use Rattle.builder.specs.Build.{limits_of, Builds, IsBuild};
-ghost use Rattle.builder.specs.Parts.{BuildsAsked, BuildsGraph, BuildsReading, IsReportOfNoGraph};
+ghost use Rattle.builder.specs.Build.{BuildsTargets};
+ghost use Rattle.builder.specs.Parts.{BuildsReading, IsReportOfNoGraph, BuildsGraph};
 ghost use Rattle.work.specs.Standing.{IsBeginning};
-ghost use Rattle.builder.specs.Reported.{IsFresh, IsReported};
-ghost use Rattle.builder.specs.Reports.{report_in, IsLinked, HasRead, IsConeRecorded, SaysNoCone, SaysFault, ShowsFault, IsPlanFor, SaysEnd};
+ghost use Rattle.builder.specs.Reported.{IsFresh, Opens, ReportsSo};
+ghost use Rattle.builder.specs.Reports.{report_in, IsLinked, IsConeRecorded, SaysNoCone, SaysFault, ShowsFault, IsPlanFor, SaysEnd, HasBuildLog, HasDepsLog, ReadsRecords};
 
 use crate::asked::{Asked, Limits};
 use crate::held::Held;
@@ -40,9 +35,23 @@ use site::Site;
 use std::alloc::{AllocError, Global};
 use text::{Path, Text};
 use work::{
-    Display, Options, Refusal, Report, State, Summary, first_outputs, join_recorded, path_texts,
-    phonies_record_none, run_graph,
+    Display, Options, Refusal, Report, Summary, Work, first_outputs, join_recorded, path_texts,
+    phonies_record_none,
 };
+
+/// What a run begins with in which nothing is judged yet, beside its graph and its records.
+#[derive(Drop)]
+struct Fresh {
+    cone: Cone,
+    plan: Plan,
+    looks: Looks,
+    /// The file that gets a new stamp before each start.
+    tick: Path,
+    /// For each edge whether it is due.
+    due: Vec<bool>,
+    /// For each edge the stamp of its start.
+    starts: Vec<u64>,
+}
 
 /// Builds the targets, or the default ones where none is given (manual: "Default target statements").
 ///
@@ -62,7 +71,7 @@ use work::{
 /// file that gets new stamps lies beside the logs.
 pub fn build<S: Site>(alloc: Global, site: &mut S, options: &Options, targets: &[Text]) -> Report
     requires { IsIdle (S.world site.old).events }
-    ensures { IsBuild S.tells S.outcome options.now.file (limits_of options.now) targets.now (S.world site.old) (S.world site.new) result }
+    ensures { BuildsTargets S.tells S.outcome options.now targets.now (S.world site.old) (S.world site.new) result }
 {
     has_format();
     has_reading();
@@ -112,19 +121,19 @@ pub fn link(alloc: Global, manifest: Manifest, folder: &str) -> Result<Graph, Re
 }
 
 /// Builds what is asked for of the graph of what was read ([`link`]), as [`build_read`] does: for somebody who has looked at that graph before. Nothing
-/// is recorded of it yet; then it has the recorded inputs that this build uses, and what dyndep files add.
+/// is recorded of it yet: the build adds the recorded inputs that it uses, and what dyndep files say.
 pub fn build_graph_read<S: Site>(
     alloc: Global,
     site: &mut S,
-    graph: &mut Graph,
+    graph: Graph,
     asked: &Asked<'_>,
     options: &Options,
 ) -> Report
     requires idle { IsIdle (S.world site.old).events }
     requires running { (S.world site.old).stopped ≡ false }
-    requires formed { IsGraph (declared_by graph.old) }
-    requires linked { IsLinked graph.old }
-    ensures { BuildsAsked S.tells (declared_by graph.old) asked.now (S.world site.old) (S.world site.new) result }
+    requires formed { IsGraph (declared_by graph) }
+    requires linked { IsLinked graph }
+    ensures { BuildsGraph S.tells S.world site.old site.new graph asked.now result }
 {
     let (report, _held) = build_graph_holding(alloc, site, graph, asked, options);
     report
@@ -134,20 +143,25 @@ pub fn build_graph_read<S: Site>(
 pub fn build_graph_holding<S: Site>(
     alloc: Global,
     site: &mut S,
-    graph: &mut Graph,
+    graph: Graph,
     asked: &Asked<'_>,
     options: &Options,
 ) -> (Report, Option<Held>)
     requires idle { IsIdle (S.world site.old).events }
     requires running { (S.world site.old).stopped ≡ false }
-    requires formed { IsGraph (declared_by graph.old) }
-    requires linked { IsLinked graph.old }
-    ensures { BuildsAsked S.tells (declared_by graph.old) asked.now (S.world site.old) (S.world site.new) result.0 }
+    requires formed { IsGraph (declared_by graph) }
+    requires linked { IsLinked graph }
+    ensures { BuildsGraph S.tells S.world site.old site.new graph asked.now result.0 }
 {
-    let mut held = None;
-    match build_linked(alloc, site, graph, asked, options, &mut held) {
-        Ok(told) => (told, held),
-        Err(told) => (told, held),
+    has_format();
+    has_reading();
+    has_dyndeps();
+    match opened(alloc, site, graph, asked, options) {
+        Ok(mut state) => {
+            let told = reported(site, &mut state);
+            (told, Some(Held::of(state)))
+        }
+        Err(told) => (told, None),
     }
 }
 
@@ -164,37 +178,39 @@ fn link_and_build<S: Site>(
     ensures { BuildsReading S.tells reading.entry (S.world site.old) (S.world site.new) (report_in result) }
 {
     let Reading { manifest, asked } = reading;
-    let mut graph = link(alloc, manifest, asked.folder.as_str())?;
-    let mut held = None;
-    build_linked(alloc, site, &mut graph, &asked, options, &mut held)
+    let graph = link(alloc, manifest, asked.folder.as_str())?;
+    let report = build_graph_read(alloc, site, graph, &asked, options);
+    Ok(report)
 }
 
-/// Builds what was asked for of a graph that has no recorded inputs yet. What is held at the end is handed out.
-fn build_linked<S: Site>(
+/// Reads the logs, and records in a graph that has no recorded inputs yet those that are in use: the run of what was asked for begins
+/// over that.
+pub(crate) fn opened<'a, S: Site>(
     alloc: Global,
     site: &mut S,
-    graph: &mut Graph,
+    graph: Graph,
     asked: &Asked<'_>,
-    options: &Options,
-    held: &mut Option<Held>,
-) -> Result<Report, Report>
+    options: &'a Options,
+) -> Result<Work<'a>, Report>
     requires idle { IsIdle (S.world site.old).events }
     requires running { (S.world site.old).stopped ≡ false }
-    requires formed { IsGraph (declared_by graph.old) }
-    requires linked { IsLinked graph.old }
-    ensures { BuildsGraph S.tells graph.old asked.now (S.world site.old) (S.world site.new) result }
+    requires formed { IsGraph (declared_by graph) }
+    requires linked { IsLinked graph }
+    ensures looks { OnlyLooks S.tells (S.world site.old) (S.world site.new) }
+    ensures running { OnOk result ((S.world site.new).stopped ≡ false) }
+    ensures opened { IfOk result (Opens S.tells graph asked.now (S.world site.old) (S.world site.new)) }
+    ensures refused { IfErr result (BuildsGraph S.tells S.world site.old site.new graph asked.now) }
 {
-    has_format();
-    has_reading();
-    has_dyndeps();
     log_begins();
-    let records = read_records(alloc, site, graph, asked)?;
-    join_recorded(alloc, graph, &records)?;
-    build_graph(alloc, site, graph, asked, options, records, held)
+    let records = read_records(alloc, site, &graph, asked)?;
+    let mut joined = graph;
+    join_recorded(alloc, &mut joined, &records)?;
+    let state = state_of(alloc, joined, asked, options, records)?;
+    Ok(state)
 }
 
 /// Reads the logs, which lie in the folder of the program's own files.
-pub(crate) fn read_records<S: Site>(
+fn read_records<S: Site>(
     alloc: Global,
     site: &mut S,
     graph: &Graph,
@@ -202,9 +218,9 @@ pub(crate) fn read_records<S: Site>(
 ) -> Result<Records, Report>
     requires running { (S.world site.old).stopped ≡ false }
     ensures looks { OnlyLooks S.tells (S.world site.old) (S.world site.new) }
-    ensures build_log { IfOk result (λ records. records.logs.build_log.path ≡ file_in asked.now.folder build_log_name) }
-    ensures deps_log { IfOk result (λ records. records.logs.deps_log.path ≡ file_in asked.now.folder deps_log_name) }
-    ensures read { IfOk result (λ records. (rs : List Record) × (ds : List DepsRecord) × AreKnown graph.now rs ds records × WereRead S.tells (S.world site.old) (S.world site.new) rs ds records.logs) }
+    ensures build_log { IfOk result (λ records. HasBuildLog asked.now.folder records) }
+    ensures deps_log { IfOk result (λ records. HasDepsLog asked.now.folder records) }
+    ensures read { ReadsRecords S.tells S.world site.old site.new graph.now result }
     ensures unrefused { OnOk result (Unrefused (S.world site.old) (S.world site.new)) }
     ensures fault { IfErr result (SaysFault (S.world site.old) (S.world site.new)) }
 {
@@ -214,50 +230,67 @@ pub(crate) fn read_records<S: Site>(
     Ok(Records::read(alloc, site, graph, build_log, deps_log)?)
 }
 
-/// Builds what was asked for of a graph, which has the recorded inputs that are in use by these records.
-fn build_graph<S: Site>(
+/// A run of what was asked for of a graph, in which nothing is judged yet.
+fn state_of<'a>(
     alloc: Global,
-    site: &mut S,
-    graph: &mut Graph,
-    asked: &Asked<'_>,
-    options: &Options,
-    records: Records,
-    held: &mut Option<Held>,
-) -> Result<Report, Report>
-    requires idle { IsIdle (S.world site.old).events }
-    requires running { (S.world site.old).stopped ≡ false }
-    requires formed { IsGraph (declared_by graph.old) }
-    requires once { IsMadeOnce (declared_by graph.old).edges }
-    requires inputs { (file : List ℕ) → NamesOther (declared_by graph.old).edges file → ⊥ }
-    requires read { (course : Course) × HasRead S.tells graph.old asked.now records course (S.world site.old) }
-    ensures { (grown : List Edge) × ((course : Course) → HasRead S.tells graph.old asked.now records course (S.world site.old) → Builds S.tells course.behaviour course.format course.own (declared_by graph.old) asked.now.folder asked.now.limits asked.now.given.now asked.now.targets grown course.entry (S.world site.new) (report_in result)) }
-{
-    let cone = cone_of(alloc, graph, asked)?;
-    let mut state = state_of(alloc, graph, cone, asked, options, records)?;
-    let told = run_state(site, graph, &mut state);
-    *held = Some(Held::of(state));
-    told
-}
-
-/// A run of the cone in which nothing is judged yet.
-pub(crate) fn state_of<'a>(
-    alloc: Global,
-    graph: &Graph,
-    cone: Cone,
+    graph: Graph,
     asked: &Asked<'_>,
     options: &'a Options,
     records: Records,
-) -> Result<State<'a>, AllocError>
-    requires marks { vec_len cone.marks ≡ length graph.now.manifest.lines }
-    ensures fresh { IfOk result (IsFresh graph.now cone asked.now records) }
+) -> Result<Work<'a>, Report>
+    ensures graph { IfOk result (λ state. state.graph ≡ graph) }
+    ensures fresh { IfOk result (IsFresh graph asked.now) }
+    ensures cone { IfOk result (λ state. IsConeRecorded graph asked.now.targets state.cone) }
+    ensures records { IfOk result (λ state. state.records ≡ records) }
+    ensures refused { IfErr result (SaysNoCone graph asked.now.given.now asked.now.targets) }
 {
+    let fresh = fresh_of(alloc, &graph, asked)?;
+    let Fresh {
+        cone,
+        plan,
+        looks,
+        tick,
+        due,
+        starts,
+    } = fresh;
+    Ok(Work {
+        alloc,
+        graph,
+        cone,
+        plan,
+        looks,
+        records,
+        display: Display::new(alloc, &options.pattern, options.verbose, 0),
+        tick,
+        due,
+        starts,
+        failed: Vec::new(alloc),
+    })
+}
+
+/// What such a run begins with.
+fn fresh_of(alloc: Global, graph: &Graph, asked: &Asked<'_>) -> Result<Fresh, Report>
+    ensures plan { IfOk result (λ fresh. IsPlanFor graph.now fresh.cone asked.now.limits fresh.plan) }
+    ensures looks { IfOk result (λ fresh. AreUnasked graph.now fresh.looks) }
+    ensures tick { IfOk result (λ fresh. fresh.tick ≡ file_in asked.now.folder tick_name) }
+    ensures starts { IfOk result (λ fresh. vec_len fresh.starts ≡ length graph.now.manifest.lines) }
+    ensures cone { IfOk result (λ fresh. IsConeRecorded graph.now asked.now.targets fresh.cone) }
+    ensures refused { IfErr result (SaysNoCone graph.now asked.now.given.now asked.now.targets) }
+{
+    let cone = cone_of(alloc, graph, asked)?;
     let plan = plan_of(alloc, graph, &cone, asked.limits)?;
     let looks = Looks::new(alloc, graph)?;
-    let display = Display::new(alloc, &options.pattern, options.verbose, 0);
     let tick = tick_path(alloc, asked)?;
     let due = vec![in alloc; false; graph.edges()]?;
-    let state = State::new(alloc, graph, cone, plan, looks, records, display, tick, due)?;
-    Ok(state)
+    let starts = vec![in alloc; 0; graph.edges()]?;
+    Ok(Fresh {
+        cone,
+        plan,
+        looks,
+        tick,
+        due,
+        starts,
+    })
 }
 
 /// The file that gets a new stamp before each start.
@@ -269,21 +302,29 @@ fn tick_path(alloc: Global, asked: &Asked<'_>) -> Result<Path, AllocError>
 }
 
 /// Runs what is to be done, and reports how that ended.
-fn run_state<S: Site>(
-    site: &mut S,
-    graph: &mut Graph,
-    state: &mut State<'_>,
-) -> Result<Report, Report>
+fn reported<S: Site>(site: &mut S, state: &mut Work<'_>) -> Report
     requires running { (S.world site.old).stopped ≡ false }
-    requires begins { IsBeginning S.tells graph.old state.old (S.world site.old) }
-    ensures { IsReported S.tells graph.old state.old (S.world site.old) graph.new state.new (S.world site.new) (report_in result) }
+    requires begins { IsBeginning S.tells state.old (S.world site.old) }
+    ensures { ReportsSo S.tells S.world site.old site.new state.old state.new result }
 {
-    let summary = run_graph(site, graph, state)?;
-    Ok(report(state.alloc, graph, summary)?)
+    match run_state(site, state) {
+        Ok(told) => told,
+        Err(told) => told,
+    }
+}
+
+/// The same: a stage that ends the run gives the report.
+fn run_state<S: Site>(site: &mut S, state: &mut Work<'_>) -> Result<Report, Report>
+    requires running { (S.world site.old).stopped ≡ false }
+    requires begins { IsBeginning S.tells state.old (S.world site.old) }
+    ensures { ReportsSo S.tells S.world site.old site.new state.old state.new (report_in result) }
+{
+    let summary = state.run_graph(site)?;
+    Ok(report(state.alloc, &state.graph, summary)?)
 }
 
 /// The cone of what was asked for.
-pub(crate) fn cone_of(alloc: Global, graph: &Graph, asked: &Asked<'_>) -> Result<Cone, Report>
+fn cone_of(alloc: Global, graph: &Graph, asked: &Asked<'_>) -> Result<Cone, Report>
     ensures marks { IfOk result (λ cone. vec_len cone.marks ≡ length graph.now.manifest.lines) }
     ensures within { IfOk result (λ cone. All (λ e. e < length graph.now.manifest.lines) cone.order.items) }
     ensures cone { IfOk result (IsConeRecorded graph.now asked.now.targets) }

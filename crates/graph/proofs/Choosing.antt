@@ -112,22 +112,18 @@ module _ (owners : List (Option ℕ)) (place : ℕ) (owner : Option ℕ) (at : s
   choice_more e None none other = none_more (suc e) none (other refl)
   choice_more e (Some k) chosen other = (let low = chosen.0 in omega (arith, low), chosen.1)
 
-  pub choices_next : (given : Bool) (old new : List (Option ℕ)) → length new ≡ length old → IsGiven given owner place old new → AreChoices owners place old → AreChoices owners (place + 1) new
-  choices_next true old new fits given before e lt = elim (cases_eq e given.edge) [
+  pub choices_next : (given : Bool) (old new : ℕ → Option ℕ) → IsGiven given owner place old new → AreChoices owners place old → AreChoices owners (place + 1) new
+  choices_next true old new given before e = elim (cases_eq e given.edge) [
     | inl same ↦
-        let was : IsChoice owners place given.edge None = subst (IsChoice owners place given.edge) given.none (before given.edge given.within) in
-        subst (λ (n : ℕ). IsChoice owners (place + 1) n (get_or new n None)) (sym same)
+        let was : IsChoice owners place given.edge None = subst (IsChoice owners place given.edge) given.none (before given.edge) in
+        subst (λ (n : ℕ). IsChoice owners (place + 1) n (new n)) (sym same)
         (subst (IsChoice owners (place + 1) given.edge) (sym given.here) (omega arith, record { at = at ∙ ap (λ (o : Option ℕ). Some o) given.owns; earlier = was }))
-    | inr other ↦
-        subst (IsChoice owners (place + 1) e) (sym (given.others e other))
-        (choice_more e (get_or old e None) (before e (omega (arith, lt, fits))) (λ none owns. other (some_suc e given.edge (sym owns ∙ given.owns))))
+    | inr other ↦ subst (IsChoice owners (place + 1) e) (sym (given.others e other)) (choice_more e (old e) (before e) (λ none owns. other (some_suc e given.edge (sym owns ∙ given.owns))))
   ]
     where
       some_suc : (a b : ℕ) → Some (suc a) ≡ Some (suc b) → a ≡ b
       some_suc a b is = cc
-  choices_next false old new fits passed before e lt =
-      subst (λ (l : List (Option ℕ)). IsChoice owners (place + 1) e (get_or l e None)) (sym passed.same)
-      (choice_more e (get_or old e None) (before e (omega (arith, lt, fits))) (λ none owns. passed.taken e owns none))
+  choices_next false old new passed before e = subst (IsChoice owners (place + 1) e) (sym (passed.same e)) (choice_more e (old e) (before e) (λ none owns. passed.taken e owns none))
 
   all_more : AllFitBelow owners place → FitsAt owners place → AllFitBelow owners (place + 1)
   all_more all here k lt = elim (cases_eq k place) [
@@ -135,28 +131,33 @@ module _ (owners : List (Option ℕ)) (place : ℕ) (owner : Option ℕ) (at : s
     | inr apart ↦ all k (omega (arith, lt, apart))
   ]
 
-  fits_given : (old new : List (Option ℕ)) → HasChosen owner place old new → AreChoices owners place old → FitsAt owners place
-  fits_given old new given before = (suc given.edge, record { at = at ∙ ap (λ (o : Option ℕ). Some o) given.owns; earlier = subst (IsChoice owners place given.edge) given.none (before given.edge given.within) })
+  fits_given : (old new : ℕ → Option ℕ) → HasChosen owner place old new → AreChoices owners place old → FitsAt owners place
+  fits_given old new given before = (suc given.edge, record { at = at ∙ ap (λ (o : Option ℕ). Some o) given.owns; earlier = subst (IsChoice owners place given.edge) given.none (before given.edge) })
 
   -- a statement that is passed fits no edge, as each first one was given to its edge
-  unfit_passed : (old new : List (Option ℕ)) → ((e : ℕ) → owner ≡ Some (suc e) → e < length old) → (owner ≡ Some 0 → ⊥) → HasPassed owner old new → AreChoices owners place old → FitsAt owners place → ⊥
-  unfit_passed old new known positive passed before fits = by fits.0 fits.1
+  unfit_passed : (old new : ℕ → Option ℕ) → (owner ≡ Some 0 → ⊥) → HasPassed owner old new → AreChoices owners place old → FitsAt owners place → ⊥
+  unfit_passed old new positive passed before fits = by fits.0 fits.1
     where
       by : (i : ℕ) → IsFirstOf owners place i → ⊥
       by zero first = positive (some_same owner (Some 0) (sym at ∙ first.at))
-      by (suc e) first =
-          let owns : owner ≡ Some (suc e) = some_same owner (Some (suc e)) (sym at ∙ first.at) in
-          by_choice (get_or old e None) refl (before e (known e owns))
+      by (suc e) first = by_choice (old e) refl (before e)
         where
-          by_choice : (o : Option ℕ) → get_or old e None ≡ o → IsChoice owners place e o → ⊥
+          by_choice : (o : Option ℕ) → old e ≡ o → IsChoice owners place e o → ⊥
           by_choice None is choice = passed.taken e (some_same owner (Some (suc e)) (sym at ∙ first.at)) is
           by_choice (Some k) is choice = first.earlier k choice.0 choice.1.at
 
-  pub bad_next : (given : Bool) (old new : List (Option ℕ)) → ((e : ℕ) → owner ≡ Some (suc e) → e < length old) → (owner ≡ Some 0 → ⊥) → IsGiven given owner place old new → AreChoices owners place old
+  pub bad_next : (given : Bool) (old new : ℕ → Option ℕ) → (owner ≡ Some 0 → ⊥) → IsGiven given owner place old new → AreChoices owners place old
       → (bad : Option ℕ) → IsBadBelow owners place bad → (next : Option ℕ) → next ≡ cond (is_some bad) bad (cond given None (Some place)) → IsBadBelow owners (place + 1) next
-  bad_next given old new known positive is before (Some b) bad next same = subst (IsBadBelow owners (place + 1)) (sym same) (let low = bad.0 in omega (arith, low), bad.1, bad.2)
-  bad_next true old new known positive is before None all next same = subst (IsBadBelow owners (place + 1)) (sym same) (all_more all (fits_given old new is before))
-  bad_next false old new known positive is before None all next same = subst (IsBadBelow owners (place + 1)) (sym same) (omega arith, unfit_passed old new known positive is before, all)
+  bad_next given old new positive is before (Some b) bad next same = subst (IsBadBelow owners (place + 1)) (sym same) (let low = bad.0 in omega (arith, low), bad.1, bad.2)
+  bad_next true old new positive is before None all next same = subst (IsBadBelow owners (place + 1)) (sym same) (all_more all (fits_given old new is before))
+  bad_next false old new positive is before None all next same = subst (IsBadBelow owners (place + 1)) (sym same) (omega arith, unfit_passed old new positive is before, all)
+
+pub choices_first : (owners : List (Option ℕ)) (choice : ℕ → Option ℕ) → ((e : ℕ) → choice e ≡ None) → AreChoices owners 0 choice
+choices_first owners choice none e = subst (IsChoice owners 0 e) (sym (none e)) (λ j low is. omega (arith, low))
+
+-- what is chosen is one of the statements
+pub choices_low : (owners : List (Option ℕ)) (count : ℕ) (choice : ℕ → Option ℕ) → AreChoices owners count choice → (e k : ℕ) → choice e ≡ Some k → k < count
+choices_low owners count choice are e k is = (subst (IsChoice owners count e) is (are e)).0
 
 -- ---- statements that do not fit
 
@@ -232,6 +233,3 @@ named_within graph file e names = by (cases_lt e (length graph.manifest.lines))
     by (inr past) =
         let none = ap (λ (edge : Edge). edge.dyndep) (get_or_past (declared_by graph).edges e no_edge (let fits = length-edges graph.manifest.paths graph.manifest.lines graph.manifest.actions graph.manifest.fits in omega (arith, fits, past))) in
         absurd (none_some file (sym none ∙ names))
-
-pub owner_within : (graph : Graph) (file output : List ℕ) (e : ℕ) → owner_in (declared_by graph).edges file output ≡ Some (suc e) → e < length graph.manifest.lines
-owner_within graph file output e owns = named_within graph file e (owner_some (declared_by graph).edges file output (suc e) owns).0

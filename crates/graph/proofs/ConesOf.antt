@@ -24,7 +24,7 @@ use Rattle.graph.proofs.Walking.{place_in}
 
 -- ---- lists
 
-has_suc : (xs : List ℕ) (n : ℕ) → has_number xs n ≡ true → has_number (map suc xs) (suc n) ≡ true
+pub has_suc : (xs : List ℕ) (n : ℕ) → has_number xs n ≡ true → has_number (map suc xs) (suc n) ≡ true
 has_suc [] n h = absurd (false≢true h)
 has_suc (x ∷ xs) n h = elim (or_cases (x == n) (has_number xs n) h) [
   | inl here ↦ or_left (suc x == suc n) (has_number (map suc xs) (suc n)) (eq-eqb (suc x) (suc n) (ap suc (eqb-true x n here)))

@@ -59,7 +59,7 @@ edge_grown paths more line command a gain each gained =
     cc
 
 -- a line that gains nothing
-same_line : (line : Line) → grown_line line [] [] ≡ line
+pub same_line : (line : Line) → grown_line line [] [] ≡ line
 same_line line =
     ap (λ (os : List ℕ). line_made line os (line.implicit_inputs ++ [])) (append-nil line.implicit_outputs) ∙ ap (λ (is : List ℕ). line_made line line.implicit_outputs is) (append-nil line.implicit_inputs)
   where
@@ -68,9 +68,9 @@ same_line line =
 
 -- ---- all edges
 
-module _ (graph : Graph) (once : IsMadeOnce (declared_by graph).edges) (file : ℕ) (low : file < length graph.manifest.paths) (additions : List Addition) (chosen : List (Option ℕ)) (are : AreChosen graph file additions chosen)
-    (paths : List (List ℕ)) (more : HasMore graph.manifest.paths paths) (gains : List Gain) (gained : AreGainsIn paths additions gains) (lines : List Line) (grown : AreGrownLines graph.manifest.lines chosen gains lines)
-    (actions : List Action) (loaded : AreLoadedActions graph.manifest.actions chosen additions actions) where
+module _ (graph : Graph) (once : IsMadeOnce (declared_by graph).edges) (file : ℕ) (low : file < length graph.manifest.paths) (additions : List Addition) (choice : ℕ → Option ℕ) (are : AreChosen graph file additions choice)
+    (paths : List (List ℕ)) (more : HasMore graph.manifest.paths paths) (gains : List Gain) (gained : AreGainsIn paths additions gains) (lines : List Line) (grown : AreGrownLines graph.manifest.lines choice gains lines)
+    (actions : List Action) (loaded : AreLoadedActions graph.manifest.actions choice additions actions) where
   abbrev edges : List Edge
   edges = (declared_by graph).edges
 
@@ -95,22 +95,22 @@ module _ (graph : Graph) (once : IsMadeOnce (declared_by graph).edges) (file : �
   old_edge : (e : ℕ) → edge_at edges (suc e) ≡ edge_of graph.manifest.paths (line_at graph.manifest.lines e) (action_at graph.manifest.actions e)
   old_edge e = edge_get graph.manifest.paths graph.manifest.lines graph.manifest.actions e graph.manifest.fits
 
-  new_edge : (e : ℕ) → e < length graph.manifest.lines → edge_at next (suc e) ≡ edge_of (graph.manifest.paths ++ more.added) (line_with gains (line_at graph.manifest.lines e) (get_or chosen e None)) (action_with additions (action_at graph.manifest.actions e) (get_or chosen e None))
+  new_edge : (e : ℕ) → e < length graph.manifest.lines → edge_at next (suc e) ≡ edge_of (graph.manifest.paths ++ more.added) (line_with gains (line_at graph.manifest.lines e) (choice e)) (action_with additions (action_at graph.manifest.actions e) (choice e))
   new_edge e lt =
       edge_get paths lines actions e fits
       ∙ (ap (λ (l : Line). edge_of paths l (action_at actions e)) (grown.each e lt)
-      ∙ (ap (λ (a : Action). edge_of paths (line_with gains (line_at graph.manifest.lines e) (get_or chosen e None)) a) (loaded.each e)
-      ∙ ap (λ (ps : List (List ℕ)). edge_of ps (line_with gains (line_at graph.manifest.lines e) (get_or chosen e None)) (action_with additions (action_at graph.manifest.actions e) (get_or chosen e None))) more.grows))
+      ∙ (ap (λ (a : Action). edge_of paths (line_with gains (line_at graph.manifest.lines e) (choice e)) a) (loaded.each e)
+      ∙ ap (λ (ps : List (List ℕ)). edge_of ps (line_with gains (line_at graph.manifest.lines e) (choice e)) (action_with additions (action_at graph.manifest.actions e) (choice e))) more.grows))
 
   gained_in : AreGainsIn (graph.manifest.paths ++ more.added) additions gains
   gained_in = subst (λ (ps : List (List ℕ)). AreGainsIn ps additions gains) more.grows gained
 
   -- the edge has a command, as it names a file
-  named_edge : (e k : ℕ) → dyndep_at graph e ≡ Some file → get_or chosen e None ≡ Some k → k < length additions → e < length graph.manifest.lines → edge_at next (suc e) ≡ grown_edge (edge_at edges (suc e)) (addition_at additions k)
+  named_edge : (e k : ℕ) → dyndep_at graph e ≡ Some file → choice e ≡ Some k → k < length additions → e < length graph.manifest.lines → edge_at next (suc e) ≡ grown_edge (edge_at edges (suc e)) (addition_at additions k)
   named_edge e k names is lt within = new_edge e within ∙ (by (action_at graph.manifest.actions e) refl ∙ ap (λ (edge : Edge). grown_edge edge (addition_at additions k)) (sym (old_edge e)))
     where
       by : (a : Action) → action_at graph.manifest.actions e ≡ a
-          → edge_of (graph.manifest.paths ++ more.added) (line_with gains (line_at graph.manifest.lines e) (get_or chosen e None)) (action_with additions (action_at graph.manifest.actions e) (get_or chosen e None))
+          → edge_of (graph.manifest.paths ++ more.added) (line_with gains (line_at graph.manifest.lines e) (choice e)) (action_with additions (action_at graph.manifest.actions e) (choice e))
           ≡ grown_edge (edge_of graph.manifest.paths (line_at graph.manifest.lines e) (action_at graph.manifest.actions e)) (addition_at additions k)
       by Alias at = absurd (none_some file (sym (ap dyndep_of at) ∙ names))
       by (Command command) at =
@@ -120,7 +120,7 @@ module _ (graph : Graph) (once : IsMadeOnce (declared_by graph).edges) (file : �
           ∙ (edge_grown graph.manifest.paths more.added line command (addition_at additions k) (gain_of gains (Some k)) (λ p h. let below = named_below graph.manifest e p h in omega (arith, below)) (gained_in.each k lt)
           ∙ ap (λ (x : Action). grown_edge (edge_of graph.manifest.paths line x) (addition_at additions k)) (sym at)))
 
-  other_edge : (e : ℕ) → get_or chosen e None ≡ None → e < length graph.manifest.lines → edge_at next (suc e) ≡ edge_at edges (suc e)
+  other_edge : (e : ℕ) → choice e ≡ None → e < length graph.manifest.lines → edge_at next (suc e) ≡ edge_at edges (suc e)
   other_edge e is within =
       let line = line_at graph.manifest.lines e in
       let action = action_at graph.manifest.actions e in
@@ -129,10 +129,10 @@ module _ (graph : Graph) (once : IsMadeOnce (declared_by graph).edges) (file : �
       ∙ (ap (λ (l : Line). edge_of (graph.manifest.paths ++ more.added) l action) (same_line line)
       ∙ (edge_longer graph.manifest.paths more.added line action (λ p h. named_below graph.manifest e p h) (graph.manifest.dyndeps e) ∙ sym (old_edge e))))
 
-  choice_of : (e : ℕ) → dyndep_at graph e ≡ Some file → e < length graph.manifest.lines → (k : ℕ) × (get_or chosen e None ≡ Some k) × (k < length additions) × IsFirstOf owners k (suc e)
-  choice_of e names within = by (get_or chosen e None) refl (are.choices e (let fit = are.fits in omega (arith, within, fit)))
+  choice_of : (e : ℕ) → dyndep_at graph e ≡ Some file → e < length graph.manifest.lines → (k : ℕ) × (choice e ≡ Some k) × (k < length additions) × IsFirstOf owners k (suc e)
+  choice_of e names within = by (choice e) refl (are.choices e)
     where
-      by : (o : Option ℕ) → get_or chosen e None ≡ o → IsChoice owners (length additions) e o → (k : ℕ) × (get_or chosen e None ≡ Some k) × (k < length additions) × IsFirstOf owners k (suc e)
+      by : (o : Option ℕ) → choice e ≡ o → IsChoice owners (length additions) e o → (k : ℕ) × (choice e ≡ Some k) × (k < length additions) × IsFirstOf owners k (suc e)
       by None is choice = absurd (are.each e within names is)
       by (Some k) is choice = (k, is, choice.0, choice.1)
 
@@ -198,14 +198,14 @@ module _ (graph : Graph) (once : IsMadeOnce (declared_by graph).edges) (file : �
       others zero other = refl
       others (suc e) other = by_place (cases_lt e (length graph.manifest.lines))
         where
-          by_choice : (o : Option ℕ) → get_or chosen e None ≡ o → IsChoice owners (length additions) e o → e < length graph.manifest.lines → edge_at next (suc e) ≡ edge_at edges (suc e)
+          by_choice : (o : Option ℕ) → choice e ≡ o → IsChoice owners (length additions) e o → e < length graph.manifest.lines → edge_at next (suc e) ≡ edge_at edges (suc e)
           by_choice None is choice within = other_edge e is within
           by_choice (Some k) is choice within =
               let one = map_get owner additions k (Some (suc e)) choice.1.at in
               absurd (other (owner_some edges name one.0.output (suc e) one.2).0)
 
           by_place : (e < length graph.manifest.lines) ⊎ (length graph.manifest.lines ≤ e) → edge_at next (suc e) ≡ edge_at edges (suc e)
-          by_place (inl within) = by_choice (get_or chosen e None) refl (are.choices e (let fit = are.fits in omega (arith, within, fit))) within
+          by_place (inl within) = by_choice (choice e) refl (are.choices e) within
           by_place (inr past) =
               let many = as_many in
               let size = length-edges graph.manifest.paths graph.manifest.lines graph.manifest.actions graph.manifest.fits in
@@ -214,18 +214,18 @@ module _ (graph : Graph) (once : IsMadeOnce (declared_by graph).edges) (file : �
 -- ---- what else a graph keeps
 
 -- the dyndep files that are still named are inputs of their edges
-pub dyndeps_loaded : (graph : Graph) (additions : List Addition) (chosen : List (Option ℕ)) (gains : List Gain) (lines : List Line) (actions : List Action) → AreGrownLines graph.manifest.lines chosen gains lines
-    → AreLoadedActions graph.manifest.actions chosen additions actions → (e p : ℕ) → dyndep_of (action_at actions e) ≡ Some p → has_number (line_inputs (line_at lines e)) p ≡ true
-dyndeps_loaded graph additions chosen gains lines actions grown loaded e p names = by (get_or chosen e None) refl (action_at graph.manifest.actions e) refl (sym (ap dyndep_of (loaded.each e)) ∙ names)
+pub dyndeps_loaded : (graph : Graph) (additions : List Addition) (choice : ℕ → Option ℕ) (gains : List Gain) (lines : List Line) (actions : List Action) → AreGrownLines graph.manifest.lines choice gains lines
+    → AreLoadedActions graph.manifest.actions choice additions actions → (e p : ℕ) → dyndep_of (action_at actions e) ≡ Some p → has_number (line_inputs (line_at lines e)) p ≡ true
+dyndeps_loaded graph additions choice gains lines actions grown loaded e p names = by (choice e) refl (action_at graph.manifest.actions e) refl (sym (ap dyndep_of (loaded.each e)) ∙ names)
   where
     there : dyndep_at graph e ≡ Some p → has_number (line_inputs (line_at lines e)) p ≡ true
     there old =
         let line = line_at graph.manifest.lines e in
         let input = graph.dyndeps e p old in
         let within = line_within graph.manifest.lines e p (has_number-right (line_outputs line) (line_inputs line ++ line.validations) p (has_number-left (line_inputs line) line.validations p input)) in
-        subst (λ (l : Line). has_number (line_inputs l) p ≡ true) (sym (grown.each e within)) (inputs_more line (gain_of gains (get_or chosen e None)).outputs (gain_of gains (get_or chosen e None)).inputs p input)
+        subst (λ (l : Line). has_number (line_inputs l) p ≡ true) (sym (grown.each e within)) (inputs_more line (gain_of gains (choice e)).outputs (gain_of gains (choice e)).inputs p input)
 
-    by : (o : Option ℕ) → get_or chosen e None ≡ o → (a : Action) → action_at graph.manifest.actions e ≡ a → dyndep_of (action_with additions (action_at graph.manifest.actions e) (get_or chosen e None)) ≡ Some p → has_number (line_inputs (line_at lines e)) p ≡ true
+    by : (o : Option ℕ) → choice e ≡ o → (a : Action) → action_at graph.manifest.actions e ≡ a → dyndep_of (action_with additions (action_at graph.manifest.actions e) (choice e)) ≡ Some p → has_number (line_inputs (line_at lines e)) p ≡ true
     by None is a at names_it = there (sym (ap (λ (x : Option ℕ). dyndep_of (action_with additions (action_at graph.manifest.actions e) x)) is) ∙ names_it)
     by (Some k) is Alias at names_it = absurd (none_some p (sym (ap (λ (x : Option ℕ). dyndep_of (action_with additions (action_at graph.manifest.actions e) x)) is ∙ ap (λ (y : Action). dyndep_of (action_with additions y (Some k))) at) ∙ names_it))
     by (Some k) is (Command command) at names_it = absurd (none_some p (sym (ap (λ (x : Option ℕ). dyndep_of (action_with additions (action_at graph.manifest.actions e) x)) is ∙ ap (λ (y : Action). dyndep_of (action_with additions y (Some k))) at) ∙ names_it))
@@ -254,26 +254,22 @@ defaults_same graph paths more = more_texts graph.manifest.paths paths more grap
 
 -- ---- a file that makes a path twice
 
-abbrev load_all : List Action → List (Option ℕ) → List Addition → List Action
-load_all [] chosen additions = []
-load_all (a ∷ actions) [] additions = a ∷ load_all actions [] additions
-load_all (a ∷ actions) (o ∷ chosen) additions = action_with additions a o ∷ load_all actions chosen additions
+abbrev load_all : List Action → (ℕ → Option ℕ) → List Addition → List Action
+load_all [] choice additions = []
+load_all (a ∷ actions) choice additions = action_with additions a (choice 0) ∷ load_all actions (λ (e : ℕ). choice (suc e)) additions
 
-loaded_length : (actions : List Action) (chosen : List (Option ℕ)) (additions : List Addition) → length (load_all actions chosen additions) ≡ length actions
-loaded_length [] chosen additions = refl
-loaded_length (a ∷ actions) [] additions = ap suc (loaded_length actions [] additions)
-loaded_length (a ∷ actions) (o ∷ chosen) additions = ap suc (loaded_length actions chosen additions)
+loaded_length : (actions : List Action) (choice : ℕ → Option ℕ) (additions : List Addition) → length (load_all actions choice additions) ≡ length actions
+loaded_length [] choice additions = refl
+loaded_length (a ∷ actions) choice additions = ap suc (loaded_length actions (λ (e : ℕ). choice (suc e)) additions)
 
 alias_stays : (additions : List Addition) (o : Option ℕ) → Alias ≡ action_with additions Alias o
 alias_stays additions None = refl
 alias_stays additions (Some k) = refl
 
-loaded_each : (actions : List Action) (chosen : List (Option ℕ)) (additions : List Addition) (e : ℕ) → action_at (load_all actions chosen additions) e ≡ action_with additions (action_at actions e) (get_or chosen e None)
-loaded_each [] chosen additions e = alias_stays additions (get_or chosen e None)
-loaded_each (a ∷ actions) [] additions zero = refl
-loaded_each (a ∷ actions) [] additions (suc e) = loaded_each actions [] additions e
-loaded_each (a ∷ actions) (o ∷ chosen) additions zero = refl
-loaded_each (a ∷ actions) (o ∷ chosen) additions (suc e) = loaded_each actions chosen additions e
+loaded_each : (actions : List Action) (choice : ℕ → Option ℕ) (additions : List Addition) (e : ℕ) → action_at (load_all actions choice additions) e ≡ action_with additions (action_at actions e) (choice e)
+loaded_each [] choice additions e = alias_stays additions (choice e)
+loaded_each (a ∷ actions) choice additions zero = refl
+loaded_each (a ∷ actions) choice additions (suc e) = loaded_each actions (λ (n : ℕ). choice (suc n)) additions e
 
 -- what edges make does not hang on what they do
 same_outputs : (paths : List (List ℕ)) (lines : List Line) (actions others : List Action) → length actions ≡ length lines → length others ≡ length lines → (i : ℕ) → outputs (edge_at (edges_of paths lines actions) i) ≡ outputs (edge_at (edges_of paths lines others) i)
@@ -286,21 +282,21 @@ same_twice : (few many : List Edge) (p : List ℕ) → ((i : ℕ) → outputs (e
 same_twice few many p same (inl (i, j, other, one, two)) = inl (i, j, other, subst (λ (l : List (List ℕ)). has l p ≡ true) (same i) one, subst (λ (l : List (List ℕ)). has l p ≡ true) (same j) two)
 same_twice few many p same (inr (i, twice)) = inr (i, subst (λ (l : List (List ℕ)). StandsTwice l p) (same i) twice)
 
-module _ (graph : Graph) (once : IsMadeOnce (declared_by graph).edges) (file : ℕ) (low : file < length graph.manifest.paths) (additions : List Addition) (chosen : List (Option ℕ)) (are : AreChosen graph file additions chosen) where
-  remade : (p : List ℕ) → IsRemadeIn graph.manifest additions chosen p → IsRemadeBy (declared_by graph).edges (text_at graph.manifest.paths file) additions p
+module _ (graph : Graph) (once : IsMadeOnce (declared_by graph).edges) (file : ℕ) (low : file < length graph.manifest.paths) (additions : List Addition) (choice : ℕ → Option ℕ) (are : AreChosen graph file additions choice) where
+  remade : (p : List ℕ) → IsRemadeIn graph.manifest additions choice p → IsRemadeBy (declared_by graph).edges (text_at graph.manifest.paths file) additions p
   remade p is =
-      let actions = load_all graph.manifest.actions chosen additions in
-      let long = loaded_length graph.manifest.actions chosen additions in
+      let actions = load_all graph.manifest.actions choice additions in
+      let long = loaded_length graph.manifest.actions choice additions in
       let fits : length graph.manifest.actions ≡ length is.lines = graph.manifest.fits ∙ sym is.grown.fits in
       let fit : length actions ≡ length is.lines = long ∙ fits in
       record {
         next = edges_of is.paths is.lines actions;
-        grown = is_grown graph once file low additions chosen are is.paths is.more is.gains is.gained is.lines is.grown actions (record { fits = long; each = loaded_each graph.manifest.actions chosen additions });
+        grown = is_grown graph once file low additions choice are is.paths is.more is.gains is.gained is.lines is.grown actions (record { fits = long; each = loaded_each graph.manifest.actions choice additions });
         twice = same_twice (edges_of is.paths is.lines graph.manifest.actions) (edges_of is.paths is.lines actions) p (same_outputs is.paths is.lines graph.manifest.actions actions fits fit) is.twice.twice;
         first = subst (λ (l : List (List ℕ)). IsFirstRepeated l p) (all_outputs_of is.paths is.lines graph.manifest.actions fits ∙ sym (all_outputs_of is.paths is.lines actions fit)) is.twice.first;
       }
 
-  pub refused : (fault : ExtendFault) → IsLoadFault graph.manifest additions chosen fault → IsRefusedLoad graph (text_at graph.manifest.paths file) additions fault
+  pub refused : (fault : ExtendFault) → IsLoadFault graph.manifest additions choice fault → IsRefusedLoad graph (text_at graph.manifest.paths file) additions fault
   refused Memory is = tt
   refused (Unfit output) is = absurd is
   refused (MadeTwice p) is = remade p is

@@ -92,31 +92,6 @@ gains_push paths additions gains a gain are is = record {
   ];
 }
 
--- ---- users
-
-pub recorded_next : (manifest : Manifest) (recorded users new : List (List ℕ)) (k : ℕ) → AllByRecursion (λ p. p < length users) (list_at recorded k) → new ≡ pushed users (list_at recorded k) k
-    → ((p e : ℕ) → p < length manifest.paths → times (list_at users p) e ≡ times (line_inputs (line_at manifest.lines e)) p + cond (nat_lt e k) (times (list_at recorded e) p) 0)
-    → (p e : ℕ) → p < length manifest.paths → times (list_at new p) e ≡ times (line_inputs (line_at manifest.lines e)) p + cond (nat_lt e (k + 1)) (times (list_at recorded e) p) 0
-recorded_next manifest recorded users new k within is so_far p e lt =
-    ap (λ (l : List (List ℕ)). times (list_at l p) e) is ∙ (times_pushed users (list_at recorded k) p k e within ∙ by (cases_eq k e))
-  where
-    by : (k ≡ e) ⊎ (k ≢ e) → times (list_at users p) e + cond (k == e) (times (list_at recorded k) p) 0 ≡ times (line_inputs (line_at manifest.lines e)) p + cond (nat_lt e (k + 1)) (times (list_at recorded e) p) 0
-    by (inl same) =
-        let late : nat_lt e k ≡ false = grind (arith, same) in
-        let now : nat_lt e (k + 1) ≡ true = grind (arith, same) in
-        let before = so_far p e lt in
-        let none : cond (nat_lt e k) (times (list_at recorded e) p) 0 ≡ 0 = ap (λ (b : Bool). cond b (times (list_at recorded e) p) 0) late in
-        let mine : cond (k == e) (times (list_at recorded k) p) 0 ≡ times (list_at recorded k) p = ap (λ (b : Bool). cond b (times (list_at recorded k) p) 0) (eq-eqb k e same) in
-        let edge : times (list_at recorded k) p ≡ times (list_at recorded e) p = ap (λ (n : ℕ). times (list_at recorded n) p) same in
-        let whole : cond (nat_lt e (k + 1)) (times (list_at recorded e) p) 0 ≡ times (list_at recorded e) p = ap (λ (b : Bool). cond b (times (list_at recorded e) p) 0) now in
-        omega (arith, before, none, mine, edge, whole)
-    by (inr other) =
-        let mine : cond (k == e) (times (list_at recorded k) p) 0 ≡ 0 = ap (λ (b : Bool). cond b (times (list_at recorded k) p) 0) (false_from_ne_true (k == e) (λ is_same. other (eqb-true k e is_same))) in
-        let same : nat_lt e (k + 1) ≡ nat_lt e k = grind (arith, other) in
-        let whole : cond (nat_lt e (k + 1)) (times (list_at recorded e) p) 0 ≡ cond (nat_lt e k) (times (list_at recorded e) p) 0 = ap (λ (b : Bool). cond b (times (list_at recorded e) p) 0) same in
-        let before = so_far p e lt in
-        omega (arith, before, mine, whole)
-
 -- ---- one item more
 
 pub take_item : {X : Type 0} (xs : List X) (k : ℕ) (x : X) → k < length xs → x ≡ get_or xs k x → take (k + 1) xs ≡ take k xs ++ x ∷ []
@@ -128,38 +103,3 @@ gains_next paths statements gains now k statement gain lt is grown are one =
     subst (AreGainsIn paths (map addition_of (take (k + 1) statements))) (sym grown)
     (subst (λ (l : List Addition). AreGainsIn paths l (gains ++ gain ∷ [])) (sym (ap (map addition_of) (take_item statements k statement lt is) ∙ map-append addition_of (take k statements) (statement ∷ [])))
     (gains_push paths (map addition_of (take k statements)) gains (addition_of statement) gain are one))
-
--- ---- actions
-
-pub actions_next : (first old now : List Action) (chosen : List (Option ℕ)) (additions : List Addition) (place : ℕ) (loaded : Action) → place < length old → now ≡ set old place loaded
-    → loaded ≡ action_with additions (action_at old place) (get_or chosen place None)
-    → ((e : ℕ) → action_at old e ≡ cond (nat_lt e place) (action_with additions (action_at first e) (get_or chosen e None)) (action_at first e))
-    → (e : ℕ) → action_at now e ≡ cond (nat_lt e (place + 1)) (action_with additions (action_at first e) (get_or chosen e None)) (action_at first e)
-actions_next first old now chosen additions place loaded lt is here before e = ap (λ (l : List Action). action_at l e) is ∙ elim (cases_eq e place) [
-  | inl same ↦
-      let late : nat_lt place place ≡ false = grind arith in
-      let early : nat_lt place (place + 1) ≡ true = grind arith in
-      let was : action_at old place ≡ action_at first place = before place ∙ ap (λ (b : Bool). cond b (action_with additions (action_at first place) (get_or chosen place None)) (action_at first place)) late in
-      subst (λ (n : ℕ). action_at (set old place loaded) n ≡ cond (nat_lt n (place + 1)) (action_with additions (action_at first n) (get_or chosen n None)) (action_at first n)) (sym same)
-      (get_or-set_same old place loaded no_action lt
-      ∙ (here ∙ (ap (λ (a : Action). action_with additions a (get_or chosen place None)) was
-      ∙ sym (ap (λ (b : Bool). cond b (action_with additions (action_at first place) (get_or chosen place None)) (action_at first place)) early))))
-  | inr other ↦
-      let same : nat_lt e (place + 1) ≡ nat_lt e place = grind (arith, other) in
-      get_or-set_other old place e loaded no_action other
-      ∙ (before e ∙ sym (ap (λ (b : Bool). cond b (action_with additions (action_at first e) (get_or chosen e None)) (action_at first e)) same))
-]
-
-pub recorded_all : (manifest : Manifest) (recorded users : List (List ℕ)) (place : ℕ) → AreRecorded manifest recorded → length users ≡ length manifest.paths → length manifest.lines ≤ place
-    → ((p e : ℕ) → p < length manifest.paths → times (list_at users p) e ≡ times (line_inputs (line_at manifest.lines e)) p + cond (nat_lt e place) (times (list_at recorded e) p) 0) → AreUsers manifest recorded users
-recorded_all manifest recorded users place are fits whole counted = record {
-  fits = fits;
-  counted = λ p e lt. counted p e lt ∙ (ap (λ (n : ℕ). times (line_inputs (line_at manifest.lines e)) p + n) (by e p (cases_lt e place)) ∙ sym (times-append (line_inputs (line_at manifest.lines e)) (list_at recorded e) p));
-}
-  where
-    by : (e p : ℕ) → (e < place) ⊎ (place ≤ e) → cond (nat_lt e place) (times (list_at recorded e) p) 0 ≡ times (list_at recorded e) p
-    by e p (inl low) = let is : nat_lt e place ≡ true = grind (arith, low) in ap (λ (b : Bool). cond b (times (list_at recorded e) p) 0) is
-    by e p (inr past) =
-        let is : nat_lt e place ≡ false = grind (arith, past) in
-        let none : list_at recorded e ≡ [] = get_or_past recorded e [] (omega (arith, past, whole, are.fits)) in
-        ap (λ (b : Bool). cond b (times (list_at recorded e) p) 0) is ∙ sym (ap (λ (l : List ℕ). times l p) none)

@@ -12,11 +12,13 @@ use Rattle.paths.specs.declared.manifest.Manifest.{Manifest}
 use Rattle.paths.specs.Lists.{no_line, line_at, line_outputs, line_regular_inputs, line_inputs, line_paths, all_paths, grown_line}
 use Rattle.paths.specs.Commands.{no_action, dyndep_stop}
 use Rattle.paths.specs.Told.{graph_of}
+use Rattle.graph.specs.declared.fault.ExtendFault.{ExtendFault}
+use Rattle.graph.specs.declared.fault.ExtendFault.TheVariants.{Memory, Unfit, MadeTwice}
 use Rattle.graph.specs.declared.fault.GraphFault.{GraphFault}
-use Rattle.graph.specs.declared.fault.GraphFault.TheVariants.{Memory, MadeTwice as MadeTwiceFault, NoDyndepInput as NoDyndepInputFault, Occupied as OccupiedFault}
+use Rattle.graph.specs.declared.fault.GraphFault.TheVariants.{Memory as MemoryFault, MadeTwice as MadeTwiceFault, NoDyndepInput as NoDyndepInputFault, Occupied as OccupiedFault}
 use Rattle.graph.specs.declared.loaded.Gain.{Gain}
 use Rattle.graph.specs.Making.{IsMakingFault}
-use Rattle.graph.specs.Statements.{HasMore, AreGainsIn, gain_of, AreGrownLines, AreChoicesBelow, action_at, action_with, AreLoadedActions, IsMadeTwiceIn, IsPartsFault, extend_fault_of}
+use Rattle.graph.specs.Statements.{HasMore, AreGainsIn, gain_of, AreGrownLines, AreChoicesBelow, action_at, action_with, AreLoadedActions, IsMadeTwiceIn, IsLoadFault, IsFaultIn, IsPartsFault, extend_fault_of}
 use Rattle.graph.proofs.Asked.{flat_has}
 use Rattle.graph.proofs.Gaining.{more_length}
 use Rattle.graph.proofs.Makes.{in_all}
@@ -90,10 +92,7 @@ line_within lines e p h = elim (cases_lt e (length lines)) [
 -- ---- the manifest
 
 module _ (manifest : Manifest) (paths : List (List ℕ)) (more : HasMore manifest.paths paths) (additions : List Addition) (gains : List Gain) (gained : AreGainsIn paths additions gains)
-    (chosen : List (Option ℕ)) (below : AreChoicesBelow (length additions) chosen) (lines : List Line) (grown : AreGrownLines manifest.lines chosen gains lines) where
-  abbrev choice : ℕ → Option ℕ
-  choice e = get_or chosen e None
-
+    (choice : ℕ → Option ℕ) (below : AreChoicesBelow (length additions) choice) (lines : List Line) (grown : AreGrownLines manifest.lines choice gains lines) where
   pub gain_within : (o : Option ℕ) → ((k : ℕ) → o ≡ Some k → k < length additions) → (p : ℕ) → (has_number (gain_of gains o).outputs p ≡ true) ⊎ (has_number (gain_of gains o).inputs p ≡ true) → p < length paths
   gain_within None low p (inl h) = absurd (false≢true h)
   gain_within None low p (inr h) = absurd (false≢true h)
@@ -122,7 +121,7 @@ module _ (manifest : Manifest) (paths : List (List ℕ)) (more : HasMore manifes
   stops_more k = let low = manifest.dyndeps k in let long = more_length manifest.paths paths more in omega (arith, low, long)
 
   -- the dyndep files that are still named are inputs of their edges
-  module _ (actions : List Action) (loaded : AreLoadedActions manifest.actions chosen additions actions) where
+  module _ (actions : List Action) (loaded : AreLoadedActions manifest.actions choice additions actions) where
     pub stops_loaded : (k : ℕ) → dyndep_stop (get_or actions k no_action) ≤ length paths
     stops_loaded k = subst (λ (a : Action). dyndep_stop a ≤ length paths) (sym (loaded.each k)) (by (action_at manifest.actions k) (choice k) (stops_more k))
       where
@@ -156,7 +155,15 @@ made_twice_in manifest count p fault =
     }
 
 pub parts_fault : (manifest : Manifest) (count : ℕ) (fault : GraphFault) → IsMakingFault (graph_of manifest).edges count fault → IsPartsFault manifest (extend_fault_of fault)
-parts_fault manifest count Memory is = tt
+parts_fault manifest count MemoryFault is = tt
 parts_fault manifest count (MadeTwiceFault p) is = made_twice_in manifest count p is
 parts_fault manifest count (NoDyndepInputFault p) is = tt
 parts_fault manifest count (OccupiedFault occupied) is = tt
+
+-- ---- why edges do not get what they gain
+
+pub load_fault : (old : Manifest) (additions : List Addition) (choice : ℕ → Option ℕ) (gains : List Gain) (paths : List (List ℕ)) (lines : List Line) (fault : ExtendFault) → IsFaultIn paths lines old.actions fault → HasMore old.paths paths
+    → AreGainsIn paths additions gains → AreGrownLines old.lines choice gains lines → IsLoadFault old additions choice fault
+load_fault old additions choice gains paths lines Memory is more gained grown = tt
+load_fault old additions choice gains paths lines (Unfit output) is more gained grown = is
+load_fault old additions choice gains paths lines (MadeTwice p) is more gained grown = record { paths = paths; more = more; gains = gains; gained = gained; lines = lines; grown = grown; twice = is }

@@ -14,14 +14,18 @@ use Rattle.paths.specs.Commands.{no_action}
 use Rattle.paths.specs.Told.{text_at}
 use Rattle.graph.specs.declared.back.Before.{Before}
 use Rattle.graph.specs.declared.back.LoadedEdge.{LoadedEdge}
+use Rattle.graph.specs.declared.choice.Choice.{Choice}
 use Rattle.graph.specs.declared.graph.Graph.{Graph}
+use Rattle.graph.specs.declared.loaded.Gain.{Gain}
 use Rattle.graph.specs.Held.{list_at, dyndep_of}
 use Rattle.graph.specs.Extended.{dyndep_at}
+use Rattle.graph.specs.InTurn.{AreGivenTo}
 use Rattle.graph.specs.LoadedEdges.{numbers_in}
 use Rattle.graph.specs.Statements.{is_place, action_at, action_with, loaded_action, addition_at, owner_in, owners_of, IsChoice, IsFirstOf, AreChosen, AreLoadedActions, HasMore}
 use Rattle.graph.specs.Told.{declared_by}
 use Rattle.graph.specs.Back.{has_restat, undone, IsLoadedEdge, AreLoadedEdges, AreUndoneBy, IsManifestBefore, Undoes, HasGainedAt, MayBeTakenBack}
 use Rattle.graph.proofs.Choosing.{owner_some, is_at, place_is, names_number, named_within}
+use Rattle.graph.proofs.Naming.{namer_within}
 use Rattle.graph.proofs.Places.{map_get}
 use Rattle.graph.proofs.Undoing.{number_there, number_at, forgotten_is}
 
@@ -36,11 +40,14 @@ back_to : (file : ℕ) (restat given : Bool) (a : Action) → dyndep_of a ≡ So
 back_to file restat given Alias names same = absurd (none_some file names)
 back_to file restat given (Command command) names same = ap (λ (r : Bool). Command (record command { restat = r; dyndep = Some file })) same ∙ ap (λ (o : Option ℕ). Command (record command { dyndep = o })) (sym names)
 
-module _ (graph : Graph) (file : ℕ) (low : file < length graph.manifest.paths) (additions : List Addition) (chosen : List (Option ℕ)) (are : AreChosen graph file additions chosen)
-    (edges : List LoadedEdge) (loaded : AreLoadedEdges graph.manifest.actions chosen (length chosen) edges) where
+module _ (graph : Graph) (file : ℕ) (low : file < length graph.manifest.paths) (additions : List Addition) (choice : ℕ → Option ℕ) (are : AreChosen graph file additions choice)
+    (edges : List LoadedEdge) (loaded : AreLoadedEdges graph.manifest.actions choice edges) where
   -- an edge for which a statement was chosen names the file
-  chosen_names : (e k : ℕ) → get_or chosen e None ≡ Some k → e < length chosen → dyndep_at graph e ≡ Some file
-  chosen_names e k is within = by (are.choices e within)
+  chosen_names : (e k : ℕ) → choice e ≡ Some k → dyndep_at graph e ≡ Some file
+  chosen_names e k is =
+      let at = (subst (IsChoice (owners_of (declared_by graph).edges name additions) (length additions) e) is (are.choices e)).1 in
+      let one = map_get owner additions k (Some (suc e)) at.at in
+      names_number graph e file low (owner_some (declared_by graph).edges name one.0.output (suc e) one.2).0
     where
       name : List ℕ
       name = text_at graph.manifest.paths file
@@ -48,38 +55,34 @@ module _ (graph : Graph) (file : ℕ) (low : file < length graph.manifest.paths)
       owner : Addition → Option ℕ
       owner a = owner_in (declared_by graph).edges name a.output
 
-      by : IsChoice (owners_of (declared_by graph).edges name additions) (length additions) e (get_or chosen e None) → dyndep_at graph e ≡ Some file
-      by choice =
-          let at = (subst (IsChoice (owners_of (declared_by graph).edges name additions) (length additions) e) is choice).1 in
-          let one = map_get owner additions k (Some (suc e)) at.at in
-          names_number graph e file low (owner_some (declared_by graph).edges name one.0.output (suc e) one.2).0
-
   some_chosen : (o : Option ℕ) → is_some o ≡ true → (k : ℕ) × (o ≡ Some k)
   some_chosen None is = absurd (false≢true is)
   some_chosen (Some k) is = (k, refl)
 
-  pub undone_by : (actions : List Action) → AreLoadedActions graph.manifest.actions chosen additions actions → AreUndoneBy file edges actions graph.manifest.actions
+  pub undone_by : (actions : List Action) → AreLoadedActions graph.manifest.actions choice additions actions → AreUndoneBy file edges actions graph.manifest.actions
   undone_by actions grown = record {
     fits = sym grown.fits;
-    within = λ k l at. let place = (loaded.each k l at).within in let a = are.fits in let b = graph.manifest.fits in let c = grown.fits in omega (arith, place, a, b, c);
+    within = λ k l at.
+        let one = some_chosen (choice l.edge) (loaded.each k l at).some in
+        let place = namer_within graph l.edge file (chosen_names l.edge one.0 one.1) in
+        let b = graph.manifest.fits in
+        let c = grown.fits in
+        omega (arith, place, b, c);
     each = λ k l at.
         let is = loaded.each k l at in
-        let one = some_chosen (get_or chosen l.edge None) is.some in
+        let one = some_chosen (choice l.edge) is.some in
         let was = action_at graph.manifest.actions l.edge in
         let now : action_at actions l.edge ≡ loaded_action (addition_at additions one.0).restat was = grown.each l.edge ∙ ap (action_with additions was) one.1 in
-        ap (undone file l.restat) now ∙ back_to file l.restat (addition_at additions one.0).restat was (chosen_names l.edge one.0 one.1 is.within) is.restat;
+        ap (undone file l.restat) now ∙ back_to file l.restat (addition_at additions one.0).restat was (chosen_names l.edge one.0 one.1) is.restat;
     others = λ e absent. grown.each e ∙ unchosen e absent;
   }
     where
-      unchosen : (e : ℕ) → has_number (numbers_in edges) e ≡ false → action_with additions (action_at graph.manifest.actions e) (get_or chosen e None) ≡ action_at graph.manifest.actions e
-      unchosen e absent = by (get_or chosen e None) refl
+      unchosen : (e : ℕ) → has_number (numbers_in edges) e ≡ false → action_with additions (action_at graph.manifest.actions e) (choice e) ≡ action_at graph.manifest.actions e
+      unchosen e absent = by (choice e) refl
         where
-          by : (o : Option ℕ) → get_or chosen e None ≡ o → action_with additions (action_at graph.manifest.actions e) o ≡ action_at graph.manifest.actions e
+          by : (o : Option ℕ) → choice e ≡ o → action_with additions (action_at graph.manifest.actions e) o ≡ action_at graph.manifest.actions e
           by None is = refl
-          by (Some k) is = elim (cases_lt e (length chosen)) [
-            | inl within ↦ absurd (false≢true (sym absent ∙ loaded.all e within (ap is_some is)))
-            | inr past ↦ absurd (none_some k (sym (get_or_past chosen e None past) ∙ is))
-          ]
+          by (Some k) is = absurd (false≢true (sym absent ∙ loaded.all e (ap is_some is)))
 
   -- the edges are just those that named the file
   pub loaded_are : (e : ℕ) → has_number (numbers_in edges) e ≡ is_place (dyndep_at graph e) file
@@ -87,31 +90,24 @@ module _ (graph : Graph) (file : ℕ) (low : file < length graph.manifest.paths)
     | inl has ↦
         let at = number_at edges e has in
         let is = loaded.each at.0 at.1.0 at.1.1 in
-        let one = some_chosen (get_or chosen at.1.0.edge None) is.some in
-        has ∙ sym (is_at (dyndep_at graph e) file (subst (λ (n : ℕ). dyndep_at graph n ≡ Some file) at.1.2 (chosen_names at.1.0.edge one.0 one.1 is.within)))
+        let one = some_chosen (choice at.1.0.edge) is.some in
+        has ∙ sym (is_at (dyndep_at graph e) file (subst (λ (n : ℕ). dyndep_at graph n ≡ Some file) at.1.2 (chosen_names at.1.0.edge one.0 one.1)))
     | inr absent ↦ absent ∙ sym (false_from_ne_true (is_place (dyndep_at graph e) file) (λ is.
         let names = place_is (dyndep_at graph e) file is in
-        let within = number_within e names in
-        by e absent names within (get_or chosen e None) refl))
+        by e absent names (namer_within graph e file names) (choice e) refl))
   ]
     where
-      number_within : (e : ℕ) → dyndep_at graph e ≡ Some file → e < length graph.manifest.lines
-      number_within e names = elim (cases_lt e (length graph.manifest.lines)) [
-        | inl lt ↦ lt
-        | inr past ↦ absurd (none_some file (sym (ap dyndep_of (get_or_past graph.manifest.actions e no_action (let fit = graph.manifest.fits in omega (arith, past, fit)))) ∙ names))
-      ]
-
-      by : (e : ℕ) → has_number (numbers_in edges) e ≡ false → dyndep_at graph e ≡ Some file → e < length graph.manifest.lines → (o : Option ℕ) → get_or chosen e None ≡ o → ⊥
+      by : (e : ℕ) → has_number (numbers_in edges) e ≡ false → dyndep_at graph e ≡ Some file → e < length graph.manifest.lines → (o : Option ℕ) → choice e ≡ o → ⊥
       by e absent names within None is = are.each e within names is
-      by e absent names within (Some k) is = false≢true (sym absent ∙ loaded.all e (let fit = are.fits in omega (arith, within, fit)) (ap is_some is))
+      by e absent names within (Some k) is = false≢true (sym absent ∙ loaded.all e (ap is_some is))
 
 -- ---- the graph that was
 
-module _ (old loaded now : Graph) (lines : List Line) (edges : List LoadedEdge) (name paths : ℕ) where
+module _ (old loaded now : Graph) (gains : List Gain) (chosen : List Choice) (edges : List LoadedEdge) (name paths : ℕ) where
   -- what joined since then is taken back too
-  pub still_before : IsManifestBefore old.manifest loaded.manifest lines edges name paths → HasGainedAt (numbers_in edges) loaded now → IsManifestBefore old.manifest now.manifest lines edges name paths
+  pub still_before : IsManifestBefore old.manifest loaded.manifest gains chosen edges name paths → HasGainedAt (numbers_in edges) loaded now → IsManifestBefore old.manifest now.manifest gains chosen edges name paths
   still_before is gained = record {
-    lines = is.lines;
+    lines = subst (AreGivenTo gains chosen old.manifest.lines) (sym gained.lines) is.lines;
     paths = is.paths;
     more = record { added = is.more.added ++ gained.paths.added; grows = gained.paths.grows ∙ (ap (λ (l : List (List ℕ)). l ++ gained.paths.added) is.more.grows ∙ append_assoc old.manifest.paths is.more.added gained.paths.added) };
     actions = subst (λ (l : List Action). AreUndoneBy name edges l old.manifest.actions) (sym gained.actions) is.actions;

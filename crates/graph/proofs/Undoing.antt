@@ -15,13 +15,15 @@ use Rattle.paths.specs.declared.manifest.Manifest.{Manifest}
 use Rattle.paths.specs.Commands.{no_action}
 use Rattle.paths.specs.Told.{text_at}
 use Rattle.graph.specs.declared.back.LoadedEdge.{LoadedEdge}
+use Rattle.graph.specs.declared.choice.Choice.{Choice}
 use Rattle.graph.specs.declared.graph.Graph.{Graph}
 use Rattle.graph.specs.Held.{list_at, dyndep_of}
 use Rattle.graph.specs.Extended.{dyndep_at}
 use Rattle.graph.specs.LoadedEdges.{numbers_in}
-use Rattle.graph.specs.Statements.{is_place, action_at, action_with, loaded_action, addition_at, IsChoice, IsFirstOf, owners_of, AreChosen, AreLoadedActions}
-use Rattle.graph.specs.Told.{declared_by}
-use Rattle.graph.specs.Back.{has_restat, loaded_by, undone, IsLoadedEdge, AreLoadedEdges, AreUndoneBy}
+use Rattle.graph.specs.Statements.{action_at}
+use Rattle.graph.specs.Chosen.{chosen_edges, choice_in, AreRising}
+use Rattle.graph.specs.Back.{has_restat, loaded_by, loaded_all, undone, AreLoadedEdges, AreUndoneBy}
+use Rattle.graph.proofs.Chosen.{no_choice, choice_here, choice_past, choice_at}
 use Rattle.graph.proofs.Choosing.{owner_some, is_at, place_is, names_number, named_within}
 use Rattle.graph.proofs.Places.{map_get}
 
@@ -173,42 +175,54 @@ forgotten_is edges first now before size gone kept fits others none = ext_get_or
 
 -- ---- which edges were loaded
 
-numbers_push : (xs ys : List LoadedEdge) → numbers_in (xs ++ ys) ≡ numbers_in xs ++ numbers_in ys
-numbers_push xs ys = map-append (λ (l : LoadedEdge). l.edge) xs ys
+numbers_more : (xs ys : List LoadedEdge) → numbers_in (xs ++ ys) ≡ numbers_in xs ++ numbers_in ys
+numbers_more xs ys = map-append (λ (l : LoadedEdge). l.edge) xs ys
 
--- what stands in a list with one more is that, or stood there
-pub push_cases : (xs : List LoadedEdge) (x : LoadedEdge) (k : ℕ) (l : LoadedEdge) → slice_get (xs ++ x ∷ []) k ≡ Some l → (slice_get xs k ≡ Some l) ⊎ (x ≡ l)
-push_cases [] x zero l at = inr (some_is x l at)
-push_cases [] x (suc k) l at = absurd (none_is l at)
-push_cases (y ∷ xs) x zero l at = inl at
-push_cases (y ∷ xs) x (suc k) l at = push_cases xs x k l at
+-- what stands in two lists stands in one of them
+either_list : (xs ys : List LoadedEdge) (k : ℕ) (l : LoadedEdge) → slice_get (xs ++ ys) k ≡ Some l → ((j : ℕ) × (slice_get xs j ≡ Some l)) ⊎ ((j : ℕ) × (slice_get ys j ≡ Some l))
+either_list [] ys k l at = inr (k, at)
+either_list (x ∷ xs) ys zero l at = inl (0, at)
+either_list (x ∷ xs) ys (suc k) l at = elim (either_list xs ys k l at) [
+  | inl here ↦ inl (suc here.0, here.1)
+  | inr later ↦ inr later
+]
 
-module _ (actions : List Action) (chosen : List (Option ℕ)) where
-  pub loaded_none : AreLoadedEdges actions chosen 0 []
-  loaded_none = record { each = λ k l at. absurd (none_is l at); all = λ e low some. absurd (omega (arith, low)) }
+by_one : (actions : List Action) (e : ℕ) (o : Option ℕ) (k : ℕ) (l : LoadedEdge) → slice_get (loaded_by e (action_at actions e) o) k ≡ Some l → (l.edge ≡ e) × ((is_some o ≡ true) × (l.restat ≡ has_restat (action_at actions l.edge)))
+by_one actions e None k l at = absurd (none_is l at)
+by_one actions e (Some s) zero l at =
+    let is = some_is (record { edge = e; restat = has_restat (action_at actions e) }) l at in
+    (sym (ap (λ (x : LoadedEdge). x.edge) is), (refl, sym (ap (λ (x : LoadedEdge). x.restat) is) ∙ ap (λ (n : ℕ). has_restat (action_at actions n)) (ap (λ (x : LoadedEdge). x.edge) is)))
+by_one actions e (Some s) (suc k) l at = absurd (none_is l at)
 
-  wider : (count : ℕ) (l : LoadedEdge) → IsLoadedEdge actions chosen count l → IsLoadedEdge actions chosen (count + 1) l
-  wider count l is = record { within = let low = is.within in omega (arith, low); some = is.some; restat = is.restat }
+-- each is of one of the list
+by_list : (actions : List Action) (chosen : List Choice) (k : ℕ) (l : LoadedEdge) → slice_get (loaded_all actions chosen) k ≡ Some l
+    → (j : ℕ) × (j < length chosen) × ((get_or chosen j no_choice).edge ≡ l.edge) × (is_some (get_or chosen j no_choice).statement ≡ true) × (l.restat ≡ has_restat (action_at actions l.edge))
+by_list actions [] k l at = absurd (none_is l at)
+by_list actions (c ∷ cs) k l at = elim (either_list (loaded_by c.edge (action_at actions c.edge) c.statement) (loaded_all actions cs) k l at) [
+  | inl here ↦ let is = by_one actions c.edge c.statement here.0 l here.1 in (0, omega arith, sym is.0, is.1.0, is.1.1)
+  | inr later ↦ let rest = by_list actions cs later.0 l later.1 in (suc rest.0, let low = rest.1 in omega (arith, low), rest.2, rest.3, rest.4)
+]
 
-  pub loaded_next : (edges next : List LoadedEdge) (place : ℕ) (choice : Option ℕ) → get_or chosen place None ≡ choice → next ≡ edges ++ loaded_by place (action_at actions place) choice
-      → AreLoadedEdges actions chosen place edges → AreLoadedEdges actions chosen (place + 1) next
-  loaded_next edges next place None is pushed are = subst (AreLoadedEdges actions chosen (place + 1)) (sym (pushed ∙ append-nil edges)) record {
-    each = λ k l at. wider place l (are.each k l at);
-    all = λ e low some. elim (below_next e place low) [
-      | inl less ↦ are.all e less some
-      | inr last ↦ absurd (false≢true (sym (ap (λ (n : ℕ). is_some (get_or chosen n None)) last ∙ ap is_some is) ∙ some))
-    ];
-  }
-  loaded_next edges next place (Some c) is pushed are = subst (AreLoadedEdges actions chosen (place + 1)) (sym pushed) record {
-    each = λ k l at. elim (push_cases edges one k l at) [
-      | inl before ↦ wider place l (are.each k l before)
-      | inr here ↦ subst (IsLoadedEdge actions chosen (place + 1)) here record { within = omega arith; some = ap is_some is; restat = refl }
-    ];
-    all = λ e low some. subst (λ (l : List ℕ). has_number l e ≡ true) (sym (numbers_push edges (one ∷ []))) (elim (below_next e place low) [
-      | inl less ↦ has_number-left (numbers_in edges) (place ∷ []) e (are.all e less some)
-      | inr last ↦ has_number-right (numbers_in edges) (place ∷ []) e (or_left (place == e) false (eq-eqb place e (sym last)))
-    ]);
-  }
-    where
-      one : LoadedEdge
-      one = record { edge = place; restat = has_restat (action_at actions place) }
+-- and each that has a statement is there
+listed : (actions : List Action) (chosen : List Choice) (e : ℕ) → is_some (choice_in chosen e) ≡ true → has_number (numbers_in (loaded_all actions chosen)) e ≡ true
+listed actions [] e some = absurd (false≢true some)
+listed actions (c ∷ cs) e some = subst (λ (l : List ℕ). has_number l e ≡ true) (sym (numbers_more (loaded_by c.edge (action_at actions c.edge) c.statement) (loaded_all actions cs))) (elim (cases_Bool (c.edge == e)) [
+  | inl here ↦ has_number-left (numbers_in (loaded_by c.edge (action_at actions c.edge) c.statement)) (numbers_in (loaded_all actions cs)) e (one c.statement (ap is_some (sym (choice_here c cs e here)) ∙ some) here)
+  | inr past ↦ has_number-right (numbers_in (loaded_by c.edge (action_at actions c.edge) c.statement)) (numbers_in (loaded_all actions cs)) e (listed actions cs e (ap is_some (sym (choice_past c cs e past)) ∙ some))
+])
+  where
+    one : (o : Option ℕ) → is_some o ≡ true → (c.edge == e) ≡ true → has_number (numbers_in (loaded_by c.edge (action_at actions c.edge) o)) e ≡ true
+    one None some is = absurd (false≢true some)
+    one (Some s) some is = or_left (c.edge == e) false is
+
+-- the edges for which a statement was chosen are just these
+pub loaded_each : (actions : List Action) (chosen : List Choice) → AreRising (chosen_edges chosen) → AreLoadedEdges actions (choice_in chosen) (loaded_all actions chosen)
+loaded_each actions chosen rising = record {
+  each = λ k l at.
+      let is = by_list actions chosen k l at in
+      record {
+        some = ap is_some (ap (choice_in chosen) (sym is.2) ∙ choice_at chosen is.0 rising is.1) ∙ is.3;
+        restat = is.4;
+      };
+  all = listed actions chosen;
+}

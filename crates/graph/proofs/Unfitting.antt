@@ -116,30 +116,28 @@ module _ (edges : List Edge) (once : IsMadeOnce edges) (file : List ℕ) (additi
 
 -- ---- edges without statements
 
-module _ (graph : Graph) (once : IsMadeOnce (declared_by graph).edges) (file : ℕ) (low : file < length graph.manifest.paths) (additions : List Addition) (chosen : List (Option ℕ)) (fits : length chosen ≡ length graph.manifest.lines)
-    (choices : AreChoices (owners_of (declared_by graph).edges (text_at graph.manifest.paths file) additions) (length additions) chosen) where
+module _ (graph : Graph) (once : IsMadeOnce (declared_by graph).edges) (file : ℕ) (low : file < length graph.manifest.paths) (additions : List Addition) (choice : ℕ → Option ℕ)
+    (choices : AreChoices (owners_of (declared_by graph).edges (text_at graph.manifest.paths file) additions) (length additions) choice) where
   abbrev edges : List Edge
   edges = (declared_by graph).edges
 
   abbrev name : List ℕ
   name = text_at graph.manifest.paths file
 
-  choice_none : (e : ℕ) (choice : Option ℕ) → IsChoice (owners_of edges name additions) (length additions) e choice → NoneIsOf (owners_of edges name additions) (length additions) (suc e) → choice ≡ None
+  choice_none : (e : ℕ) (o : Option ℕ) → IsChoice (owners_of edges name additions) (length additions) e o → NoneIsOf (owners_of edges name additions) (length additions) (suc e) → o ≡ None
   choice_none e None is none = refl
   choice_none e (Some k) is none = absurd (none k is.0 is.1.at)
 
-  pub lacks_choice : (i : ℕ) → LacksStatement name additions (edge_at edges i) → (e : ℕ) × (suc e ≡ i) × LacksChoice graph file chosen e
+  pub lacks_choice : (i : ℕ) → LacksStatement name additions (edge_at edges i) → (e : ℕ) × (suc e ≡ i) × LacksChoice graph file choice e
   lacks_choice zero lacks = absurd (none_some name lacks.names)
   lacks_choice (suc e) lacks =
       let within = named_within graph name e lacks.names in
-      (e, refl, record { within = within; names = names_number graph e file low lacks.names; none = choice_none e (get_or chosen e None) (choices e (omega (arith, within, fits))) (lacks_none edges once name additions (suc e) lacks) })
+      (e, refl, record { within = within; names = names_number graph e file low lacks.names; none = choice_none e (choice e) (choices e) (lacks_none edges once name additions (suc e) lacks) })
 
-  pub lacks_statement : (e : ℕ) → LacksChoice graph file chosen e → LacksStatement name additions (edge_at edges (suc e))
-  lacks_statement e lacks =
-      let low_here = lacks.within in
-      none_lacks edges once name additions (suc e) (names_text graph e file low lacks.names) (subst (IsChoice (owners_of edges name additions) (length additions) e) lacks.none (choices e (omega (arith, low_here, fits))))
+  pub lacks_statement : (e : ℕ) → LacksChoice graph file choice e → LacksStatement name additions (edge_at edges (suc e))
+  lacks_statement e lacks = none_lacks edges once name additions (suc e) (names_text graph e file low lacks.names) (subst (IsChoice (owners_of edges name additions) (length additions) e) lacks.none (choices e))
 
-  pub first_lacking : (e : ℕ) → IsLowestLacking graph file chosen e → (output : List ℕ) → output ≡ first_output (edge_at edges (suc e)) → IsUnfit edges name additions output
+  pub first_lacking : (e : ℕ) → IsLowestLacking graph file choice e → (output : List ℕ) → output ≡ first_output (edge_at edges (suc e)) → IsUnfit edges name additions output
   first_lacking e lowest output is = inl (
     suc e,
     record {
@@ -149,7 +147,7 @@ module _ (graph : Graph) (once : IsMadeOnce (declared_by graph).edges) (file : �
     is,
   )
 
-  pub first_bad : ((e : ℕ) → LacksChoice graph file chosen e → ⊥) → (b : ℕ) (a : Addition) → slice_get additions b ≡ Some a → (FitsAt (owners_of edges name additions) b → ⊥) → AllFitBelow (owners_of edges name additions) b
+  pub first_bad : ((e : ℕ) → LacksChoice graph file choice e → ⊥) → (b : ℕ) (a : Addition) → slice_get additions b ≡ Some a → (FitsAt (owners_of edges name additions) b → ⊥) → AllFitBelow (owners_of edges name additions) b
       → (output : List ℕ) → output ≡ a.output → IsUnfit edges name additions output
   first_bad none b a at unfit all output is = inr (
     (λ i lacks. let one = lacks_choice i lacks in none one.0 one.2),

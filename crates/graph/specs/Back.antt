@@ -1,16 +1,18 @@
 -- What undoes the load of a dyndep file.
-use Rattle.std.specs.Prelude.{◌≡◌, ℕ, ◌<◌, Bool, true, false, List, [], ◌∷◌, length, slice_get, slice_index_or, Option, Some, None, is_some}
+use Rattle.std.specs.Prelude.{◌≡◌, ℕ, ◌<◌, ◌++◌, Bool, true, false, List, [], ◌∷◌, length, slice_get, Option, Some, None, is_some}
 use Rattle.model.specs.Graph.{has_number}
-use Rattle.paths.specs.declared.line.Line.{Line}
 use Rattle.paths.specs.declared.manifest.Action.{Action}
 use Rattle.paths.specs.declared.manifest.Action.TheVariants.{Alias, Command}
 use Rattle.paths.specs.declared.manifest.Manifest.{Manifest}
 use Rattle.graph.specs.declared.back.Before.{Before}
 use Rattle.graph.specs.declared.back.LoadedEdge.{LoadedEdge}
+use Rattle.graph.specs.declared.choice.Choice.{Choice}
 use Rattle.graph.specs.declared.graph.Graph.{Graph}
+use Rattle.graph.specs.declared.loaded.Gain.{Gain}
 use Rattle.graph.specs.Held.{list_at}
 use Rattle.graph.specs.LoadedEdges.{numbers_in}
 use Rattle.graph.specs.Extended.{dyndep_at}
+use Rattle.graph.specs.InTurn.{AreGivenTo}
 use Rattle.graph.specs.Statements.{is_place, action_at, HasMore}
 
 -- ---- edges whose file was loaded
@@ -24,16 +26,20 @@ abbrev pub loaded_by : ℕ → Action → Option ℕ → List LoadedEdge
 loaded_by edge action None = []
 loaded_by edge action (Some k) = record { edge = edge; restat = has_restat action } ∷ []
 
--- a statement was chosen for the edge, one of the first so many, and it is told whether its outputs could stay as they were
-pub record IsLoadedEdge (actions : List Action) (chosen : List (Option ℕ)) (count : ℕ) (loaded : LoadedEdge) : Type 0 where
-  pub within : loaded.edge < count
-  pub some : is_some (slice_index_or chosen loaded.edge None) ≡ true
+-- those of these for which a statement was chosen
+abbrev pub loaded_all : List Action → List Choice → List LoadedEdge
+loaded_all actions [] = []
+loaded_all actions (c ∷ cs) = loaded_by c.edge (action_at actions c.edge) c.statement ++ loaded_all actions cs
+
+-- a statement was chosen for the edge, and it is told whether its outputs could stay as they were
+pub record IsLoadedEdge (actions : List Action) (choice : ℕ → Option ℕ) (loaded : LoadedEdge) : Type 0 where
+  pub some : is_some (choice loaded.edge) ≡ true
   pub restat : loaded.restat ≡ has_restat (action_at actions loaded.edge)
 
--- of the first so many edges just those for which a statement was chosen
-pub record AreLoadedEdges (actions : List Action) (chosen : List (Option ℕ)) (count : ℕ) (edges : List LoadedEdge) : Type 0 where
-  pub each : (k : ℕ) (loaded : LoadedEdge) → slice_get edges k ≡ Some loaded → IsLoadedEdge actions chosen count loaded
-  pub all : (e : ℕ) → e < count → is_some (slice_index_or chosen e None) ≡ true → has_number (numbers_in edges) e ≡ true
+-- just the edges for which a statement was chosen
+pub record AreLoadedEdges (actions : List Action) (choice : ℕ → Option ℕ) (edges : List LoadedEdge) : Type 0 where
+  pub each : (k : ℕ) (loaded : LoadedEdge) → slice_get edges k ≡ Some loaded → IsLoadedEdge actions choice loaded
+  pub all : (e : ℕ) → is_some (choice e) ≡ true → has_number (numbers_in edges) e ≡ true
 
 -- ---- what they did
 
@@ -49,9 +55,9 @@ pub record AreUndoneBy (file : ℕ) (edges : List LoadedEdge) (actions before : 
   pub each : (k : ℕ) (loaded : LoadedEdge) → slice_get edges k ≡ Some loaded → undone file loaded.restat (action_at actions loaded.edge) ≡ action_at before loaded.edge
   pub others : (e : ℕ) → has_number (numbers_in edges) e ≡ false → action_at actions e ≡ action_at before e
 
--- the manifest was this one, but for more paths, other lines, and what these edges do
-pub record IsManifestBefore (before now : Manifest) (old_lines : List Line) (edges : List LoadedEdge) (file count : ℕ) : Type 0 where
-  pub lines : old_lines ≡ before.lines
+-- the manifest was this one, but for more paths, what edges gained, and what these edges do
+pub record IsManifestBefore (before now : Manifest) (gains : List Gain) (chosen : List Choice) (edges : List LoadedEdge) (file count : ℕ) : Type 0 where
+  pub lines : AreGivenTo gains chosen before.lines now.lines
   pub paths : count ≡ length before.paths
   pub more : HasMore before.paths now.paths
   pub actions : AreUndoneBy file edges now.actions before.actions
@@ -60,11 +66,16 @@ pub record IsManifestBefore (before now : Manifest) (old_lines : List Line) (edg
   pub defaults : now.defaults ≡ before.defaults
   pub builddir : now.builddir ≡ before.builddir
 
+-- so it was before the load that this undoes
+abbrev pub WasManifest : Manifest → Manifest → Before → Type 0
+WasManifest was now before = IsManifestBefore was now before.gains.items before.chosen.items before.edges.items before.file before.paths
+
 -- ---- a graph
 
 -- This undoes the load of the file by which the one graph became the other; its edges are just those that named the file.
 pub record Undoes (old loaded : Graph) (file : ℕ) (before : Before) : Type 0 where
-  pub manifest : IsManifestBefore old.manifest loaded.manifest before.lines before.edges.items before.file before.paths
+  pub manifest : WasManifest old.manifest loaded.manifest before
+  pub of : before.file ≡ file
   pub makers : before.makers ≡ old.makers
   pub users : before.users ≡ old.users
   pub recorded : loaded.recorded ≡ old.recorded

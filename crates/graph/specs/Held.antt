@@ -1,5 +1,5 @@
 -- What a graph keeps beside what build files declare, in numbers.
-use Rattle.std.specs.Prelude.{◌≡◌, ◌⊎◌, ℕ, suc, ◌==◌, ◌<◌, ◌≤◌, ◌-◌, Bool, true, false, if◌then◌else◌, nat_eq, List, [], ◌∷◌, ◌++◌, length, take, get_or, slice_set, Option, Some, None}
+use Rattle.std.specs.Prelude.{◌≡◌, ◌⊎◌, ℕ, suc, ◌==◌, ◌<◌, ◌≤◌, ◌-◌, Bool, true, false, if◌then◌else◌, nat_eq, List, [], ◌∷◌, ◌++◌, length, take, replicate, get_or, slice_set, Option, Some, None}
 use Rattle.indexmap.specs.IndexSet.{insert_key}
 use Rattle.model.specs.Graph.{has_number}
 use Rattle.paths.specs.declared.manifest.Action.{Action}
@@ -16,6 +16,10 @@ list_at lists k = get_or lists k []
 abbrev pub times : List ℕ → ℕ → ℕ
 times [] n = 0
 times (m ∷ ms) n = if m == n then suc (times ms n) else times ms n
+
+-- so many lists, of which those behind are empty
+abbrev pub more_lists : List (List ℕ) → ℕ → List (List ℕ)
+more_lists lists count = lists ++ replicate (count - length lists) []
 
 -- no number stands twice in the list
 abbrev pub StandOnce : List ℕ → Type 0

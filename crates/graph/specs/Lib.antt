@@ -14,6 +14,11 @@ pub mod Extended
 pub mod LoadedEdges
 pub mod Back
 pub mod Statements
+pub mod Alone
+pub mod Places
+pub mod Placed
+pub mod Chosen
+pub mod InTurn
 pub mod Targets
 pub mod Alias
 pub mod ReadingOf

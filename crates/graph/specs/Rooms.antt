@@ -37,12 +37,3 @@ pub record AreLaid (count end : ℕ) (rooms : List Room) : Type 0 where
   pub in_order : (k : ℕ) → (get_or rooms k no_room).stop ≤ (get_or rooms k no_room).end
   pub within : (k : ℕ) → (get_or rooms k no_room).end ≤ end
   pub apart : (j k : ℕ) → j ≢ k → AreApart (get_or rooms j no_room) (get_or rooms k no_room)
-
--- the same room, of which nothing is used
-abbrev pub emptied_room : Room → Room
-emptied_room room = record { start = room.start; stop = room.start; end = room.end }
-
--- so many empty rooms, each of which is where it was, or of no place
-pub record AreEmptied (count : ℕ) (old rooms : List Room) : Type 0 where
-  pub fits : length rooms ≡ count
-  pub each : (k : ℕ) → (get_or rooms k no_room ≡ emptied_room (get_or old k no_room)) ⊎ (get_or rooms k no_room ≡ no_room)

@@ -1,5 +1,5 @@
 -- Which statement of a dyndep file is chosen for which edge, and what edges get by it, in numbers.
-use Rattle.std.specs.Prelude.{◌≡◌, ℕ, suc, ◌<◌, ◌++◌, ◌||◌, ◌==◌, Bool, true, false, if◌then◌else◌, List, [], map, length, get_or, slice_get, slice_index_or, Option, Some, None, MatchOption, bytes_eq}
+use Rattle.std.specs.Prelude.{◌≡◌, ℕ, suc, ◌<◌, ◌++◌, ◌||◌, ◌==◌, Bool, true, false, if◌then◌else◌, List, [], map, length, get_or, slice_get, Option, Some, None, MatchOption, bytes_eq}
 use Rattle.model.specs.declared.graph.Edge.{Edge}
 use Rattle.model.specs.Graph.{has_number, edge_at, maker, all_outputs, Addition, IsMadeTwice}
 use Rattle.dyndep.specs.declared.addition.Addition.{Addition as Statement}
@@ -64,8 +64,8 @@ pub record IsFirstOf (owners : List (Option ℕ)) (k i : ℕ) : Type 0 where
 abbrev pub IsChoice : List (Option ℕ) → ℕ → ℕ → Option ℕ → Type 0
 IsChoice owners count e choice = MatchOption choice (NoneIsOf owners count (suc e)) (λ k. (k < count) × IsFirstOf owners k (suc e))
 
-abbrev pub AreChoices : List (Option ℕ) → ℕ → List (Option ℕ) → Type 0
-AreChoices owners count chosen = (e : ℕ) → e < length chosen → IsChoice owners count e (slice_index_or chosen e None)
+abbrev pub AreChoices : List (Option ℕ) → ℕ → (ℕ → Option ℕ) → Type 0
+AreChoices owners count choice = (e : ℕ) → IsChoice owners count e (choice e)
 
 -- the statement is the first of an edge
 abbrev pub FitsAt : List (Option ℕ) → ℕ → Type 0
@@ -79,41 +79,39 @@ abbrev pub IsBadBelow : List (Option ℕ) → ℕ → Option ℕ → Type 0
 IsBadBelow owners count bad = MatchOption bad (AllFitBelow owners count) (λ b. (b < count) × (FitsAt owners b → ⊥) × AllFitBelow owners b)
 
 -- each edge that names the file has its statement, and each statement its edge
-pub record AreChosen (graph : Graph) (file : ℕ) (additions : List Addition) (chosen : List (Option ℕ)) : Type 0 where
-  pub fits : length chosen ≡ length graph.manifest.lines
-  pub choices : AreChoices (owners_of (declared_by graph).edges (text_at graph.manifest.paths file) additions) (length additions) chosen
+pub record AreChosen (graph : Graph) (file : ℕ) (additions : List Addition) (choice : ℕ → Option ℕ) : Type 0 where
+  pub choices : AreChoices (owners_of (declared_by graph).edges (text_at graph.manifest.paths file) additions) (length additions) choice
   pub all : AllFitBelow (owners_of (declared_by graph).edges (text_at graph.manifest.paths file) additions) (length additions)
-  pub each : (e : ℕ) → e < length graph.manifest.lines → dyndep_at graph e ≡ Some file → slice_index_or chosen e None ≡ None → ⊥
+  pub each : (e : ℕ) → e < length graph.manifest.lines → dyndep_at graph e ≡ Some file → choice e ≡ None → ⊥
 
 -- the edge names the file, and has no statement
-pub record LacksChoice (graph : Graph) (file : ℕ) (chosen : List (Option ℕ)) (e : ℕ) : Type 0 where
+pub record LacksChoice (graph : Graph) (file : ℕ) (choice : ℕ → Option ℕ) (e : ℕ) : Type 0 where
   pub within : e < length graph.manifest.lines
   pub names : dyndep_at graph e ≡ Some file
-  pub none : slice_index_or chosen e None ≡ None
+  pub none : choice e ≡ None
 
 -- each edge that names the file has its statement
-abbrev pub NoneLacks : Graph → ℕ → List (Option ℕ) → Type 0
-NoneLacks graph file chosen = (e : ℕ) → LacksChoice graph file chosen e → ⊥
+abbrev pub NoneLacks : Graph → ℕ → (ℕ → Option ℕ) → Type 0
+NoneLacks graph file choice = (e : ℕ) → LacksChoice graph file choice e → ⊥
 
-pub record IsLowestLacking (graph : Graph) (file : ℕ) (chosen : List (Option ℕ)) (e : ℕ) : Type 0 where
-  pub lacks : LacksChoice graph file chosen e
-  pub lowest : (k : ℕ) → k < e → LacksChoice graph file chosen k → ⊥
+pub record IsLowestLacking (graph : Graph) (file : ℕ) (choice : ℕ → Option ℕ) (e : ℕ) : Type 0 where
+  pub lacks : LacksChoice graph file choice e
+  pub lowest : (k : ℕ) → k < e → LacksChoice graph file choice k → ⊥
 
 -- the statement is given to its edge, which had none
-pub record HasChosen (owner : Option ℕ) (place : ℕ) (old new : List (Option ℕ)) : Type 0 where
+pub record HasChosen (owner : Option ℕ) (place : ℕ) (old new : ℕ → Option ℕ) : Type 0 where
   pub edge : ℕ
-  pub within : edge < length old
   pub owns : owner ≡ Some (suc edge)
-  pub none : slice_index_or old edge None ≡ None
-  pub here : slice_index_or new edge None ≡ Some place
-  pub others : (e : ℕ) → (e ≡ edge → ⊥) → slice_index_or new e None ≡ slice_index_or old e None
+  pub none : old edge ≡ None
+  pub here : new edge ≡ Some place
+  pub others : (e : ℕ) → (e ≡ edge → ⊥) → new e ≡ old e
 
 -- nothing is given, as the statement is of no edge that has none
-pub record HasPassed (owner : Option ℕ) (old new : List (Option ℕ)) : Type 0 where
-  pub same : new ≡ old
-  pub taken : (e : ℕ) → owner ≡ Some (suc e) → slice_index_or old e None ≡ None → ⊥
+pub record HasPassed (owner : Option ℕ) (old new : ℕ → Option ℕ) : Type 0 where
+  pub same : (e : ℕ) → new e ≡ old e
+  pub taken : (e : ℕ) → owner ≡ Some (suc e) → old e ≡ None → ⊥
 
-abbrev pub IsGiven : Bool → Option ℕ → ℕ → List (Option ℕ) → List (Option ℕ) → Type 0
+abbrev pub IsGiven : Bool → Option ℕ → ℕ → (ℕ → Option ℕ) → (ℕ → Option ℕ) → Type 0
 IsGiven true owner place old new = HasChosen owner place old new
 IsGiven false owner place old new = HasPassed owner old new
 
@@ -168,13 +166,13 @@ gain_of gains (Some k) = gain_at gains k
 abbrev pub line_with : List Gain → Line → Option ℕ → Line
 line_with gains line choice = grown_line line (gain_of gains choice).outputs (gain_of gains choice).inputs
 
-pub record AreGrownLines (lines : List Line) (chosen : List (Option ℕ)) (gains : List Gain) (grown : List Line) : Type 0 where
+pub record AreGrownLines (lines : List Line) (choice : ℕ → Option ℕ) (gains : List Gain) (grown : List Line) : Type 0 where
   pub fits : length grown ≡ length lines
-  pub each : (e : ℕ) → e < length lines → line_at grown e ≡ line_with gains (line_at lines e) (slice_index_or chosen e None)
+  pub each : (e : ℕ) → e < length lines → line_at grown e ≡ line_with gains (line_at lines e) (choice e)
 
 -- the places of chosen statements are below this
-abbrev pub AreChoicesBelow : ℕ → List (Option ℕ) → Type 0
-AreChoicesBelow count chosen = (e k : ℕ) → slice_index_or chosen e None ≡ Some k → k < count
+abbrev pub AreChoicesBelow : ℕ → (ℕ → Option ℕ) → Type 0
+AreChoicesBelow count choice = (e k : ℕ) → choice e ≡ Some k → k < count
 
 -- what the edge does once its dyndep file is loaded
 abbrev pub loaded_action : Bool → Action → Action
@@ -188,9 +186,9 @@ action_with additions action (Some k) = loaded_action (addition_at additions k).
 abbrev pub action_at : List Action → ℕ → Action
 action_at actions e = get_or actions e no_action
 
-pub record AreLoadedActions (actions : List Action) (chosen : List (Option ℕ)) (additions : List Addition) (loaded : List Action) : Type 0 where
+pub record AreLoadedActions (actions : List Action) (choice : ℕ → Option ℕ) (additions : List Addition) (loaded : List Action) : Type 0 where
   pub fits : length loaded ≡ length actions
-  pub each : (e : ℕ) → action_at loaded e ≡ action_with additions (action_at actions e) (slice_index_or chosen e None)
+  pub each : (e : ℕ) → action_at loaded e ≡ action_with additions (action_at actions e) (choice e)
 
 -- ---- a manifest with what edges get
 
@@ -205,12 +203,12 @@ pub record HasOnlyMore (old new : Manifest) : Type 0 where
   pub builddir : new.builddir ≡ old.builddir
 
 -- lines and actions have what the chosen statements say
-pub record IsLoadedManifest (old new : Manifest) (additions : List Addition) (chosen : List (Option ℕ)) : Type 0 where
+pub record IsLoadedManifest (old new : Manifest) (additions : List Addition) (choice : ℕ → Option ℕ) : Type 0 where
   pub paths : HasMore old.paths new.paths
   pub gains : List Gain
   pub gained : AreGainsIn new.paths additions gains
-  pub lines : AreGrownLines old.lines chosen gains new.lines
-  pub actions : AreLoadedActions old.actions chosen additions new.actions
+  pub lines : AreGrownLines old.lines choice gains new.lines
+  pub actions : AreLoadedActions old.actions choice additions new.actions
   pub named : new.named ≡ old.named
   pub pools : new.pools ≡ old.pools
   pub defaults : new.defaults ≡ old.defaults
@@ -222,26 +220,29 @@ pub record IsMadeTwiceIn (paths : List (List ℕ)) (lines : List Line) (actions 
   pub first : IsFirstRepeated (all_outputs (edges_of paths lines actions)) p
 
 -- a path that is made twice by the edges that the manifest would have
-pub record IsRemadeIn (old : Manifest) (additions : List Addition) (chosen : List (Option ℕ)) (p : List ℕ) : Type 0 where
+pub record IsRemadeIn (old : Manifest) (additions : List Addition) (choice : ℕ → Option ℕ) (p : List ℕ) : Type 0 where
   pub paths : List (List ℕ)
   pub more : HasMore old.paths paths
   pub gains : List Gain
   pub gained : AreGainsIn paths additions gains
   pub lines : List Line
-  pub grown : AreGrownLines old.lines chosen gains lines
+  pub grown : AreGrownLines old.lines choice gains lines
   pub twice : IsMadeTwiceIn paths lines old.actions p
 
 -- why edges do not get what the statements say
-abbrev pub IsLoadFault : Manifest → List Addition → List (Option ℕ) → ExtendFault → Type 0
-IsLoadFault old additions chosen Memory = Unit {0}
-IsLoadFault old additions chosen (Unfit output) = ⊥
-IsLoadFault old additions chosen (MadeTwice p) = IsRemadeIn old additions chosen p
+abbrev pub IsLoadFault : Manifest → List Addition → (ℕ → Option ℕ) → ExtendFault → Type 0
+IsLoadFault old additions choice Memory = Unit {0}
+IsLoadFault old additions choice (Unfit output) = ⊥
+IsLoadFault old additions choice (MadeTwice p) = IsRemadeIn old additions choice p
 
 -- why a manifest has no makers
+abbrev pub IsFaultIn : List (List ℕ) → List Line → List Action → ExtendFault → Type 0
+IsFaultIn paths lines actions Memory = Unit {0}
+IsFaultIn paths lines actions (Unfit output) = ⊥
+IsFaultIn paths lines actions (MadeTwice p) = IsMadeTwiceIn paths lines actions p
+
 abbrev pub IsPartsFault : Manifest → ExtendFault → Type 0
-IsPartsFault manifest Memory = Unit {0}
-IsPartsFault manifest (Unfit output) = ⊥
-IsPartsFault manifest (MadeTwice p) = IsMadeTwiceIn manifest.paths manifest.lines manifest.actions p
+IsPartsFault manifest fault = IsFaultIn manifest.paths manifest.lines manifest.actions fault
 
 -- the same fault; a dyndep file is never lacking here
 abbrev pub extend_fault_of : GraphFault → ExtendFault

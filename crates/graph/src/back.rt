@@ -1,12 +1,13 @@
 //! A dyndep file that was loaded is taken back.
 
-ghost use Rattle.std.specs.Prelude.{◌≡◌, ◌<◌, ◌≤◌, ◌++◌, ◌^◌, ℕ, List, Some, length, slice_get, slice_index_or, IfOk, OnOk, OnErr};
-ghost use Rattle.graph.specs.Back.{has_restat, undone, loaded_by, AreLoadedEdges, AreUndoneBy, IsManifestBefore, MayBeTakenBack};
-ghost use Rattle.graph.specs.Statements.{action_at, action_with};
+ghost use Rattle.std.specs.Prelude.{◌≡◌, ◌<◌, ◌++◌, List, All, length, IfOk, OnOk};
+ghost use Rattle.graph.specs.Back.{has_restat, undone, loaded_by, loaded_all, AreUndoneBy, WasManifest, MayBeTakenBack};
 
+use crate::choice::Choice;
 use crate::graph::Graph;
+use crate::loaded::{Gain, shrink_lines};
 use crate::users::Users;
-use paths::{Action, EdgeId, Lines, Manifest, PathId};
+use paths::{Action, EdgeId, Manifest, PathId};
 use std::alloc::{AllocError, Global};
 use std::mem;
 use text::Items;
@@ -19,11 +20,14 @@ pub struct LoadedEdge {
     pub restat: bool,
 }
 
-/// What undoes the load of a dyndep file: the parts of the graph that were put in other ones' place, and how the edges that named
-/// the file were before.
+/// What undoes the load of a dyndep file: what edges gained, the parts of the graph that were put in other ones' place, and how the
+/// edges that named the file were before.
 #[derive(Drop)]
 pub struct Before {
-    pub lines: Lines,
+    /// The edges that named the file, and their statements.
+    pub chosen: Vec<Choice>,
+    /// What each statement adds.
+    pub gains: Vec<Gain>,
     pub makers: Vec<Option<EdgeId>>,
     pub users: Users,
     /// The edges that named the file.
@@ -41,35 +45,21 @@ impl Graph {
         ensures { (old loaded : Graph) → MayBeTakenBack old loaded self.old before → self.new ≡ old }
     {
         self.recorded.forget(&before.edges);
-        restore(
-            alloc,
-            &mut self.manifest,
-            before.lines,
-            &before.edges,
-            before.file,
-            before.paths,
-        );
+        restore(alloc, &mut self.manifest, &before);
         self.makers = before.makers;
         self.users = before.users;
     }
 }
 
 /// Gives a manifest the paths and lines that it had, and edges what they did.
-fn restore(
-    alloc: Global,
-    manifest: &mut Manifest,
-    lines: Lines,
-    edges: &[LoadedEdge],
-    file: PathId,
-    paths: usize,
-)
-    requires { (before : Manifest) × IsManifestBefore before manifest.old lines edges.now file paths }
-    ensures { (before : Manifest) → IsManifestBefore before manifest.old lines edges.now file paths → manifest.new ≡ before }
+fn restore(alloc: Global, manifest: &mut Manifest, before: &Before)
+    requires { (was : Manifest) × WasManifest was manifest.old before.now }
+    ensures { (was : Manifest) → WasManifest was manifest.old before.now → manifest.new ≡ was }
 {
-    manifest.paths.truncate(paths);
-    manifest.lines = lines;
+    manifest.paths.truncate(before.paths);
+    shrink_lines(&mut manifest.lines, &before.chosen, &before.gains);
     let mut actions = mem::replace(&mut manifest.actions, Items::new(alloc)).into_vec();
-    unload(&mut actions, edges, file);
+    unload(&mut actions, &before.edges, before.file);
     manifest.actions = Items::from_vec(actions);
 }
 
@@ -96,20 +86,14 @@ fn unload_action(action: &mut Action, file: PathId, restat: bool)
 pub(crate) fn loaded_edges(
     alloc: Global,
     actions: &[Action],
-    chosen: &[Option<usize>],
+    chosen: &[Choice],
 ) -> Result<Vec<LoadedEdge>, AllocError>
-    requires few { length actions.now ≤ 2 ^ 32 }
-    requires fits { length chosen.now ≡ length actions.now }
-    ensures { IfOk result (λ edges. AreLoadedEdges actions.now chosen.now (length chosen.now) edges.items) }
+    requires { All (λ (choice : Choice). choice.edge < length actions.now) chosen.now }
+    ensures { IfOk result (λ edges. edges.items ≡ loaded_all actions.now chosen.now) }
 {
-    let mut edges = Vec::new(alloc);
-    for place in 0..chosen.len() {
-        push_loaded(
-            &mut edges,
-            &actions[place],
-            EdgeId::at_below(place),
-            chosen[place],
-        )?;
+    let mut edges = Vec::with_capacity(alloc, chosen.len())?;
+    for choice in chosen {
+        push_loaded(&mut edges, &actions[choice.edge.index()], *choice)?;
     }
     Ok(edges)
 }
@@ -118,18 +102,20 @@ pub(crate) fn loaded_edges(
 fn push_loaded(
     edges: &mut Vec<LoadedEdge>,
     action: &Action,
-    edge: EdgeId,
-    choice: Option<usize>,
+    choice: Choice,
 ) -> Result<(), AllocError>
-    ensures { OnOk result (edges.new.items ≡ edges.old.items ++ loaded_by edge action.now choice) }
+    ensures { OnOk result (edges.new.items ≡ edges.old.items ++ loaded_by choice.edge action.now choice.statement) }
 {
-    if choice.is_some() {
-        edges.push(LoadedEdge {
-            edge,
-            restat: has_restat(action),
-        })?;
+    match choice.statement {
+        Some(_) => {
+            edges.push(LoadedEdge {
+                edge: choice.edge,
+                restat: has_restat(action),
+            })?;
+            Ok(())
+        }
+        None => Ok(()),
     }
-    Ok(())
 }
 
 /// Whether outputs that the command left alone count as unchanged.

@@ -79,7 +79,7 @@ fn users_of(alloc: Global, manifest: &Manifest, counts: &[usize]) -> Result<User
 }
 
 /// Puts each edge behind those that name its inputs.
-pub(crate) fn use_inputs(users: &mut Users, manifest: &Manifest) -> Result<(), AllocError>
+fn use_inputs(users: &mut Users, manifest: &Manifest) -> Result<(), AllocError>
     requires { users.old ≡ replicate (length manifest.now.paths) [] }
     ensures { OnOk result (AreUsers manifest.now (replicate (length manifest.now.lines) []) users.new) }
 {

@@ -1,11 +1,10 @@
 //! The edges that a build needs.
 
-ghost use Rattle.std.specs.Prelude.{◌≡◌, ◌<◌, IfOk, IfErr, vec_len, length};
-ghost use Rattle.graph.specs.Cone.{is_listed, mark_at, IsConeFrom, IsConeFault};
-ghost use Rattle.graph.specs.Links.{links_of, AllEdges, EachIsEdge};
-ghost use Rattle.graph.specs.ConeOf.{IsConeForAll, IsFaultForEach};
+ghost use Rattle.std.specs.Prelude.{◌≡◌, vec_len};
+ghost use Rattle.graph.specs.Places.{ArePlaces};
 
 use crate::graph::Graph;
+use crate::placed::places_of;
 use crate::walk::Walk;
 use paths::{EdgeId, PathId};
 use std::alloc::{AllocError, AllocFailed, Global};
@@ -56,6 +55,9 @@ pub enum Mark {
 }
 
 impl Mark {
+    ghost use Rattle.std.specs.Prelude.{◌≡◌};
+    ghost use Rattle.graph.specs.Cone.{is_listed};
+
     pub fn is_listed(self) -> bool
         ensures { result ≡ is_listed self }
     {
@@ -64,17 +66,28 @@ impl Mark {
 }
 
 /// The edges that are needed, each once and after the makers of its inputs and recorded inputs. It takes 4 bytes for each
-/// of them and for each target, and one for each edge of the graph.
+/// of them and for each target, and nine for each edge of the graph.
 #[derive(Drop)]
 pub struct Cone {
     pub order: Vec<EdgeId>,
     /// For each edge of the graph, whether it is listed.
     pub marks: Vec<Mark>,
+    /// For each edge of the graph its place in the order, if it is listed.
+    pub places: Vec<usize>,
     /// What is built: the targets that were asked for, or what is built where there are none.
     pub targets: Vec<PathId>,
+    ghost sized: { vec_len places ≡ vec_len marks },
+    ghost placed: { ArePlaces order.items places.items },
 }
 
 impl Cone {
+    ghost use Rattle.std.specs.Prelude.{◌≡◌, ◌<◌, IfOk, IfErr, true, vec_len, length};
+    ghost use Rattle.graph.specs.Cone.{is_listed, mark_at, IsConeFrom, IsConeFault};
+    ghost use Rattle.graph.specs.Links.{links_of, AllEdges, EachIsEdge};
+    ghost use Rattle.graph.specs.ConeOf.{IsConeForAll, IsFaultForEach};
+    ghost use Rattle.graph.specs.Placed.{StandsBefore};
+    ghost use Rattle.graph.specs.Places.{place_in};
+
     /// These edges, those that make what they need, those that make what they name for validation, and so on. A circle
     /// of edges that need one another is refused; validations make none.
     #[inline(always)]
@@ -97,9 +110,29 @@ impl Cone {
         walk.list_requested()?;
         walk.list_validators()?;
         let Walk { order, marks, .. } = walk;
+        let places = places_of(alloc, &order, graph.edges())?;
         Ok(Cone {
             order,
             marks,
+            places,
+            targets,
+        })
+    }
+
+    /// The same cone, in memory of its own.
+    pub fn copied(&self, alloc: Global) -> Result<Cone, AllocError>
+        ensures order { IfOk result (λ cone. cone.order.items ≡ self.now.order.items) }
+        ensures marks { IfOk result (λ cone. cone.marks.items ≡ self.now.marks.items) }
+        ensures targets { IfOk result (λ cone. cone.targets.items ≡ self.now.targets.items) }
+    {
+        let order = self.order.as_slice().to_vec(alloc)?;
+        let marks = self.marks.as_slice().to_vec(alloc)?;
+        let places = self.places.as_slice().to_vec(alloc)?;
+        let targets = self.targets.as_slice().to_vec(alloc)?;
+        Ok(Cone {
+            order,
+            marks,
+            places,
             targets,
         })
     }
@@ -110,5 +143,37 @@ impl Cone {
         ensures { result ≡ is_listed (mark_at self.now.marks.items edge) }
     {
         self.marks[edge.index()].is_listed()
+    }
+
+    /// Whether the first edge is listed, and stands in front of the second.
+    pub(crate) fn is_before(&self, first: EdgeId, second: EdgeId) -> bool
+        requires first { first < vec_len self.now.marks }
+        requires second { second < vec_len self.now.marks }
+        ensures { result ≡ true → StandsBefore self.now first second }
+    {
+        if !self.has(first) {
+            return false;
+        }
+        self.place(first) < self.place(second)
+    }
+
+    /// Whether the first edge is listed, and stands in front of the second, if that is listed.
+    pub(crate) fn is_before_listed(&self, first: EdgeId, second: EdgeId) -> bool
+        requires first { first < vec_len self.now.marks }
+        requires second { second < vec_len self.now.marks }
+        ensures { result ≡ true → is_listed (mark_at self.now.marks.items second) ≡ true → StandsBefore self.now first second }
+    {
+        if !self.has(second) {
+            return true;
+        }
+        self.is_before(first, second)
+    }
+
+    /// The place of the edge in the order, if it is listed.
+    fn place(&self, edge: EdgeId) -> usize
+        requires { edge < vec_len self.now.marks }
+        ensures { result ≡ place_in self.now.places.items edge }
+    {
+        self.places[edge.index()]
     }
 }

@@ -1,6 +1,7 @@
 //! What a loaded dyndep file says joins the graph.
 
 ghost use Rattle.std.specs.Prelude.{◌≡◌, ◌<◌, length, IfOk, IfErr, OnOk, OnErr};
+ghost use Rattle.graph.specs.Alone.{HasChangedBy};
 ghost use Rattle.graph.specs.Back.{Undoes};
 ghost use Rattle.graph.specs.Extended.{HasTaken, HasRefused};
 
@@ -31,6 +32,7 @@ impl Graph {
         requires { file < length self.old.manifest.paths }
         ensures loaded { OnOk result (HasTaken self.old self.new file additions.now) }
         ensures before { IfOk result (λ before. Undoes self.old self.new file before) }
+        ensures alone { IfOk result (λ before. HasChangedBy before self.old self.new) }
         ensures fault { IfErr result (λ fault. HasRefused self.old file additions.now fault) }
         ensures err { OnErr result (self.new ≡ self.old) }
     {
@@ -38,12 +40,14 @@ impl Graph {
         let edges = loaded_edges(alloc, self.manifest.actions.as_slice(), &chosen)?;
         let known = self.manifest.paths.len();
         let kept = Kept {
+            makers: self.makers.as_slice(),
             recorded: &self.recorded,
             users: &self.users,
         };
         match load(alloc, &mut self.manifest, kept, additions, &chosen) {
             Ok(loaded) => Ok(Before {
-                lines: loaded.lines,
+                chosen,
+                gains: loaded.gains,
                 makers: mem::replace(&mut self.makers, loaded.makers),
                 users: mem::replace(&mut self.users, loaded.users),
                 edges,

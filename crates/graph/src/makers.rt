@@ -86,7 +86,11 @@ fn claim_all(manifest: &Manifest, count: usize, makers: &mut [Option<EdgeId>]) -
 }
 
 /// Makes the edge the maker of these outputs; `MadeTwice` for the first that has one.
-fn claim(makers: &mut [Option<EdgeId>], outputs: &[PathId], edge: EdgeId) -> Result<(), Flaw>
+pub(crate) fn claim(
+    makers: &mut [Option<EdgeId>],
+    outputs: &[PathId],
+    edge: EdgeId,
+) -> Result<(), Flaw>
     requires { All (λ p. p < length makers.old) outputs.now }
     ensures fits { length makers.new ≡ length makers.old }
     ensures claimed { OnOk result (HaveClaimed makers.old makers.new outputs.now edge) }

@@ -1,10 +1,10 @@
 //! For each path the edges that name it, in flat memory.
 
-ghost use Rattle.std.specs.Prelude.{◌≡◌, ◌<◌, ◌+◌, ◌++◌, ◌∷◌, ◌-◌, ◌≤◌, ℕ, List, All, [], length, take, drop, map, IfOk, OnOk, OnErr};
+ghost use Rattle.std.specs.Prelude.{◌≡◌, ◌<◌, ◌+◌, ◌++◌, ◌∷◌, ◌-◌, ◌≤◌, ℕ, List, All, [], length, take, drop, IfOk, OnOk, OnErr};
 ghost use Rattle.std.proofs.Math.ListN.{replicate};
 ghost use Rattle.paths.specs.Lists.{between, Extends};
-ghost use Rattle.graph.specs.Rooms.{IsMoved, AreLaid, AreEmptied, emptied_room};
-ghost use Rattle.graph.specs.Held.{list_at, push_at, pushed, pop_at};
+ghost use Rattle.graph.specs.Rooms.{IsMoved, AreLaid};
+ghost use Rattle.graph.specs.Held.{list_at, more_lists, push_at, pushed, pop_at};
 
 use paths::{EdgeId, PathId};
 use std::alloc::{AllocError, Global};
@@ -76,21 +76,41 @@ impl Users {
         Ok(Users { edges, rooms })
     }
 
-    /// So many paths that no edge names, those that are here with the room that they have, and places for so many edges more. Each room stays
-    /// where it is, so what lists left when they moved is laid out as well: each moved into more than twice what it left.
-    pub(crate) fn emptied(
+    /// The same lists for so many paths, where those behind have none, with places for so many edges more. What lists left when they moved
+    /// is copied as well: each moved into more than twice what it left.
+    pub(crate) fn copied(
         &self,
         alloc: Global,
         paths: usize,
         more: usize,
     ) -> Result<Users, AllocError>
-        ensures { IfOk result (λ users. users ≡ replicate paths []) }
+        requires { length self.now ≤ paths }
+        ensures { IfOk result (λ users. users ≡ more_lists self.now paths) }
     {
-        let rooms = emptied_rooms(alloc, &self.rooms, paths)?;
-        let places = self.edges.len();
-        let mut edges = Vec::with_capacity(alloc, places.saturating_add(more))?;
-        edges.resize(places, EdgeId::at_below(0))?;
+        let mut users = self.same(alloc, paths, more)?;
+        users.add_paths(paths - self.len())?;
+        Ok(users)
+    }
+
+    /// The same lists, with room for so many paths in all and for so many edges more.
+    fn same(&self, alloc: Global, paths: usize, more: usize) -> Result<Users, AllocError>
+        ensures { IfOk result (λ users. users ≡ self.now) }
+    {
+        let mut edges = Vec::with_capacity(alloc, self.edges.len().saturating_add(more))?;
+        edges.extend_from_slice(&self.edges)?;
+        let mut rooms = Vec::with_capacity(alloc, paths)?;
+        rooms.extend_from_slice(&self.rooms)?;
         Ok(Users { edges, rooms })
+    }
+
+    /// So many more paths, which no edge names.
+    fn add_paths(&mut self, count: usize) -> Result<(), AllocError>
+        ensures { OnOk result (self.new ≡ self.old ++ replicate count []) }
+    {
+        for _done in 0..count {
+            self.add_path()?;
+        }
+        Ok(())
     }
 
     /// How many paths there are.
@@ -287,26 +307,6 @@ fn sum(counts: &[usize]) -> usize {
         sum = sum.saturating_add(*count);
     }
     sum
-}
-
-/// Rooms for so many paths, empty, each where it is here. A path that is not here has none.
-fn emptied_rooms(alloc: Global, old: &[Room], paths: usize) -> Result<Vec<Room>, AllocError>
-    ensures { IfOk result (λ rooms. AreEmptied paths old.now rooms.items) }
-{
-    let mut rooms = Vec::with_capacity(alloc, paths)?;
-    rooms.extend_from_slice(&old[..old.len().min(paths)])?;
-    rooms.resize(paths, Room::NONE)?;
-    empty(rooms.as_mut_slice());
-    Ok(rooms)
-}
-
-/// Empties each room, which stays where it is.
-fn empty(rooms: &mut [Room])
-    ensures { rooms.new ≡ map emptied_room rooms.old }
-{
-    for room in rooms.iter_mut() {
-        room.stop = room.start;
-    }
 }
 
 /// Puts an empty room of so many places behind the others, which end here, and gives its end.

@@ -24,7 +24,7 @@ use Rattle.records.specs.declared.records.Records.{Records}
 use Rattle.judge.specs.declared.looks.Looks.{Looks}
 use Rattle.judge.specs.Judged.{IsReasonBy, MayBeJudgedBy, HasPathsOf, HasOldDepfile, IsAnswer, IsReasonFound}
 use Rattle.judge.specs.Looking.{HasLooked}
-use Rattle.judge.specs.Dues.{due_at, IsFoundClean, IsUnjudged, AreFoundClean}
+use Rattle.judge.specs.Dues.{due_at, AwaitsJudgement, IsFoundClean, AreFoundClean}
 use Rattle.judge.proofs.CommandDues.{read_in_all, read_alike}
 use Rattle.judge.proofs.FilesStay.{Follow, Stay}
 use Rattle.judge.proofs.NumbersAsTexts.{same_or_other}
@@ -127,21 +127,34 @@ module _ (follow : Follow) (stay : Stay) (tells : Bool) (graph : Graph) (records
 
 -- ---- one edge more
 
+module _ (tells : Bool) (graph : Graph) (records : Records) (plan : Plan) (old new : World) (seen : Looks) (order : List ℕ) (k : ℕ) (within : k < length order) (due : List Bool)
+    (fits : get_or order k 0 < length due) (is : Bool)
+  where
+    abbrev added : ℕ
+    added = get_or order k 0
+
+    -- of which that is known
+    pub clean_added : AreFoundClean tells graph records plan old new seen (take k order) due → (is ≡ false → AwaitsJudgement graph plan added → IsFoundClean tells graph records old new seen added)
+        → AreFoundClean tells graph records plan old new seen (take (k + 1) order) (set due added is)
+    clean_added so_far found x listed not_due awaits = elim (same_or_other added x) [
+      | inl here ↦
+          subst (λ (q : ℕ). IsFoundClean tells graph records old new seen q) (sym here)
+          (found (sym (get_or-set_same due added is false fits) ∙ subst (λ (q : ℕ). due_at (set due added is) q ≡ false) here not_due) (subst (λ (q : ℕ). AwaitsJudgement graph plan q) here awaits))
+      | inr other ↦
+          so_far x (sym (ap (λ (l : List ℕ). has_number l x) (take_more order k 0 within) ∙ has_number-push_other (take k order) added x (λ h. other (sym h))) ∙ listed)
+          (sym (get_or-set_other due added x is false other) ∙ not_due) awaits
+    ]
+
 module _ (follow : Follow) (stay : Stay) (tells : Bool) (graph : Graph) (records : Records) (plan : Plan) (a b c : World) (one two : Looks) (first : HasLooked tells graph a b one two) (second : OnlyLooks tells b c)
     (order : List ℕ) (k : ℕ) (within : k < length order) (due : List Bool) (fits : get_or order k 0 < length due) (is : Bool)
   where
     abbrev edge : ℕ
     edge = get_or order k 0
 
-    pub clean_one_more : AreFoundClean tells graph records plan a b one (take k order) due → (is ≡ false → IsUnjudged graph plan edge → IsFoundClean tells graph records b c two edge)
+    -- of which that was found in the second of two calls
+    pub clean_one_more : AreFoundClean tells graph records plan a b one (take k order) due → (is ≡ false → AwaitsJudgement graph plan edge → IsFoundClean tells graph records b c two edge)
         → AreFoundClean tells graph records plan a c one (take (k + 1) order) (set due edge is)
-    clean_one_more so_far found x listed not_due unjudged = elim (same_or_other edge x) [
-      | inl here ↦
-          subst (λ (q : ℕ). IsFoundClean tells graph records a c one q) (sym here)
-          (clean_second follow stay tells graph records edge a b c one two first second
-          (found (sym (get_or-set_same due edge is false fits) ∙ subst (λ (q : ℕ). due_at (set due edge is) q ≡ false) here not_due) (subst (λ (q : ℕ). IsUnjudged graph plan q) here unjudged)))
-      | inr other ↦
-          clean_first follow stay tells graph records x a b c one second
-          (so_far x (sym (ap (λ (l : List ℕ). has_number l x) (take_more order k 0 within) ∙ has_number-push_other (take k order) edge x (λ h. other (sym h))) ∙ listed)
-          (sym (get_or-set_other due edge x is false other) ∙ not_due) unjudged)
-    ]
+    clean_one_more so_far found =
+        clean_added tells graph records plan a c one order k within due fits is
+        (λ x listed not_due awaits. clean_first follow stay tells graph records x a b c one second (so_far x listed not_due awaits))
+        (λ not_due awaits. clean_second follow stay tells graph records edge a b c one two first second (found not_due awaits))

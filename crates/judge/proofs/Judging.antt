@@ -1,5 +1,5 @@
 -- What the plan tells of an edge: whether it was judged, and how.
-use Rattle.std.proofs.Common.{◌≡◌, ◌⊎◌, ◌↔◌, inl, inr, ℕ, ◌==◌, cond, Bool, true, false, List, [], ◌∷◌, Some, None, refl, sym, ◌∙◌, ap, subst}
+use Rattle.std.proofs.Common.{◌≡◌, ◌⊎◌, ◌↔◌, inl, inr, ℕ, suc, ◌==◌, cond, if◌then◌else◌, Bool, true, false, List, [], ◌∷◌, Option, Some, None, refl, sym, ◌∙◌, ap, subst}
 use Rattle.std.proofs.lemmas.Bool.{false≢true, false_from_ne_true, or_cases, or_left, or_right}
 use Rattle.model.specs.declared.event.Moment.{Moment}
 use Rattle.model.specs.declared.graph.Edge.{Edge}
@@ -8,10 +8,17 @@ use Rattle.model.specs.OutOfDate.{IsDue, WasJudged, Stale, Below, AliasOfNothing
 use Rattle.model.specs.Records.{Store}
 use Rattle.model.specs.Schedule.{Step, Judged, Started, Ended, judged_in, clean_in, out_of_date_in, started_in, well_in, failed_in}
 use Rattle.theory.proofs.Orderly.{IsKept}
+use Rattle.graph.specs.declared.graph.Graph.{Graph}
+use Rattle.graph.specs.Linked.{StandFor}
+use Rattle.graph.specs.Links.{links_of}
+use Rattle.graph.specs.Told.{declared_by}
+use Rattle.plan.specs.declared.plan.Plan.{Plan}
 use Rattle.plan.specs.declared.step.Standing.{Standing}
 use Rattle.plan.specs.declared.step.Standing.TheVariants.{Unjudged, Clean, OutOfDate, Running, Well, Failed}
 use Rattle.plan.specs.Planned.{standing_in}
-use Rattle.judge.specs.UnderWay.{was_due}
+use Rattle.plan.specs.Standing.{standing_at}
+use Rattle.judge.specs.UnderWay.{was_due, judged_due, IsUnjudged, StandsIn}
+use Rattle.judge.specs.Dues.{AwaitsJudgement}
 
 -- ---- steps
 
@@ -98,3 +105,32 @@ module _ (edges : List Edge) (before : List Step) (kept : IsKept edges before) (
       | inl so ↦ ((λ due. WasJudged i (out_of_date_by so.1)), (λ due. so.0))
       | inr so ↦ ((λ due. absurd (false≢true (sym so.0 ∙ due))), (λ due. absurd (clean_not so.1 i refl due)))
     ]
+
+-- ---- by where an edge stands in a plan
+
+told_of : (phony : Bool) (o : Option Bool) (d : Bool) → (if phony then None else o) ≡ Some d → (phony ≡ false) × (o ≡ Some d)
+told_of true o d is = absurd (none_some d is)
+told_of false o d is = (refl, is)
+
+none_of : (phony : Bool) (o : Option Bool) → (if phony then None else o) ≡ None → phony ≡ false → o ≡ None
+none_of true o is command = absurd (false≢true (sym command))
+none_of false o is command = is
+
+-- an edge that awaits its judgement was not judged
+pub awaits_none : (graph : Graph) (plan : Plan) (e : ℕ) (d : Bool) → AwaitsJudgement graph plan e → judged_due graph plan e ≡ Some d → ⊥
+awaits_none graph plan e d awaits is =
+    let none : None ≡ was_due (standing_at plan.standings.items e) = sym (ap was_due awaits.1) in
+    none_some d (none ∙ (told_of ((links_of graph).phony e) (was_due (standing_at plan.standings.items e)) d is).1)
+
+module _ (graph : Graph) (lists : StandFor (declared_by graph).edges graph.manifest.paths (links_of graph)) (plan : Plan) (before : List Step) (e : ℕ) (stands : StandsIn graph plan before e) where
+  -- of an edge that was judged the plan tells what the steps do
+  pub judged_as : (d : Bool) → judged_due graph plan e ≡ Some d → was_due (standing_in before (suc e)) ≡ Some d
+  judged_as d is =
+      let told = told_of ((links_of graph).phony e) (was_due (standing_at plan.standings.items e)) d is in
+      ap was_due (sym (stands (sym (lists.phony_is e) ∙ told.0))) ∙ told.1
+
+  -- and so of one that was not
+  pub unjudged_as : IsKept (declared_by graph).edges before → judged_due graph plan e ≡ None → IsUnjudged graph before e
+  unjudged_as kept is command =
+      unjudged_by (declared_by graph).edges before kept (suc e)
+      (ap was_due (sym (stands command)) ∙ none_of ((links_of graph).phony e) (was_due (standing_at plan.standings.items e)) is (lists.phony_is e ∙ command))

@@ -5,6 +5,7 @@ use Rattle.model.specs.World.{World}
 use Rattle.theory.proofs.SiteCalls.{looks_none, looks_then}
 use Rattle.graph.specs.declared.graph.Graph.{Graph}
 use Rattle.judge.specs.declared.looks.Looks.{Looks}
+use Rattle.judge.specs.declared.sums.Sums.{Sums}
 use Rattle.judge.specs.Looking.{HasLooked}
 use Rattle.judge.specs.declared.looks.Look.{Look}
 use Rattle.judge.specs.declared.looks.Look.TheVariants.{Unasked}
@@ -37,3 +38,11 @@ asked_look (Some stamp) = refl
 -- a path of which the stamp was noted was asked for
 pub asked_now : (seen new : List Look) (p : ℕ) (stamp : Option ℕ) → p < length seen → new ≡ slice_set seen p (look_of stamp) → is_asked (look_at new p) ≡ true
 asked_now seen new p stamp lt is = ap (λ (l : List Look). is_asked (look_at l p)) is ∙ (ap is_asked (get_or-set_same seen p (look_of stamp) Unasked lt) ∙ asked_look stamp)
+
+-- the same looks, with other sums
+abbrev pub with_sums : Looks → Sums → Looks
+with_sums looks sums = record { seen = looks.seen; sums = sums }
+
+-- sums are nothing that was seen
+pub looked_cleared : (tells : Bool) (graph : Graph) (w : World) (looks : Looks) (sums : Sums) → HasLooked tells graph w w looks (with_sums looks sums)
+looked_cleared tells graph w looks sums = record { looks = looks_none tells w; fits = refl; seen = λ told set kept seen. seen; stays = λ p asked. refl }

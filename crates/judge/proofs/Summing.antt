@@ -146,6 +146,10 @@ module _ (graph : Graph) (flags : List Bool) where
   pub sums_stay : (seen new : List Look) → Stays seen new → (sums : Sums) → AreSums graph flags seen sums → AreSums graph flags new sums
   sums_stay seen new stays sums so e inputs is = sum_stays seen new stays e inputs (so e inputs is)
 
+  -- and so it is of the same sums
+  pub sums_kept : (seen new : List Look) → Stays seen new → (sums later : Sums) → later ≡ sums → AreSums graph flags seen sums → AreSums graph flags new later
+  sums_kept seen new stays sums later same so = subst (λ (s : Sums). AreSums graph flags new s) (sym {A = Sums} same) (sums_stay seen new stays sums so)
+
   -- what lasts does so by what was seen since
   lasting_stays : (seen new : List Look) → Stays seen new → (e : ℕ) (inputs : Inputs) → IsLasting graph flags seen e inputs → IsLasting graph flags new e inputs
   lasting_stays seen new stays e inputs lasting = record {
@@ -160,6 +164,9 @@ module _ (graph : Graph) (flags : List Bool) where
 
   pub marks_stay : (seen new : List Look) → Stays seen new → (sums : Sums) → AreMarked graph flags seen sums → AreMarked graph flags new sums
   marks_stay seen new stays sums so e inputs is other = lasting_stays seen new stays e inputs (so e inputs is other)
+
+  pub marks_kept : (seen new : List Look) → Stays seen new → (sums later : Sums) → later ≡ sums → AreMarked graph flags seen sums → AreMarked graph flags new later
+  marks_kept seen new stays sums later same so = subst (λ (s : Sums). AreMarked graph flags new s) (sym {A = Sums} same) (marks_stay seen new stays sums so)
 
   noted_by : (seen : List Look) (e q : ℕ) (sum : Inputs) (old new : Option Inputs) (b : Bool) → (b ≡ true → e ≡ q) → new ≡ cond b (Some sum) old → IsSum graph flags seen e sum
       → ((inputs : Inputs) → old ≡ Some inputs → IsSum graph flags seen q inputs) → (inputs : Inputs) → new ≡ Some inputs → IsSum graph flags seen q inputs

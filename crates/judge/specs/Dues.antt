@@ -27,7 +27,7 @@ use Rattle.judge.specs.Facts.{AreIn}
 use Rattle.judge.specs.Judged.{IsReasonFound}
 use Rattle.judge.specs.Stores.{IsStoreOf}
 use Rattle.judge.specs.Quiet.{StillFinds, OfSteps, IfQuietAt}
-use Rattle.judge.specs.UnderWay.{StandsIn, IsUnderWay}
+use Rattle.judge.specs.UnderWay.{IsUnjudged, IsUnderWay}
 
 -- ---- by the numbers
 
@@ -118,13 +118,13 @@ abbrev pub IsFoundClean : Bool → Graph → Records → World → World → Loo
 IsFoundClean tells graph records old new seen e = (later : World) → OnlyLooks tells new later → IsReasonFound tells graph records old later seen [] e None
 
 -- the edge has a command, which the plan has not judged
-abbrev pub IsUnjudged : Graph → Plan → ℕ → Type 0
-IsUnjudged graph plan e = ((links_of graph).phony e ≡ false) × (standing_at plan.standings.items e ≡ Unjudged)
+abbrev pub AwaitsJudgement : Graph → Plan → ℕ → Type 0
+AwaitsJudgement graph plan e = ((links_of graph).phony e ≡ false) × (standing_at plan.standings.items e ≡ Unjudged)
 
 -- so it is of each of these edges that was not judged, and is not due by these flags
 abbrev pub AreFoundClean : Bool → Graph → Records → Plan → World → World → Looks → List ℕ → List Bool → Type 0
 AreFoundClean tells graph records plan old new seen listed due =
-    (e : ℕ) → has_number listed e ≡ true → due_at due e ≡ false → IsUnjudged graph plan e → IsFoundClean tells graph records old new seen e
+    (e : ℕ) → has_number listed e ≡ true → due_at due e ≡ false → AwaitsJudgement graph plan e → IsFoundClean tells graph records old new seen e
 
 -- ---- What calls say that are given a site: `world` tells the world of the site, which the call found as `old` and left as `new`. What is
 -- known of files is what was seen of them before.
@@ -170,16 +170,16 @@ abbrev pub FindsCleanCommand : {S E : Type 0} → Bool → (S → World) → S �
 FindsCleanCommand tells world old new graph records seen e result =
     IfOk result (λ is. is ≡ false → IsFoundClean tells graph records (world old) (world new) seen e)
 
--- whether the edge is due, which stands in the plan where the steps have left it
-abbrev pub FindsDue : {S E : Type 0} → Bool → (S → World) → S → S → Graph → Records → Plan → Looks → List Bool → ℕ → Result Bool E → Type 0
-FindsDue tells world old new graph records plan seen due e result =
+-- whether the edge, which was not judged, is due
+abbrev pub FindsDue : {S E : Type 0} → Bool → (S → World) → S → S → Graph → Records → Looks → List Bool → ℕ → Result Bool E → Type 0
+FindsDue tells world old new graph records seen due e result =
     IfOk result (λ is. OfBuild graph records (λ store targets before.
-    StandsIn graph plan before e → IsDueAt tells world old new graph store targets before seen due e is))
+    IsUnjudged graph before e → IsDueAt tells world old new graph store targets before seen due e is))
 
--- where it is not, and was not judged, no reason was found
-abbrev pub FindsClean : {S E : Type 0} → Bool → (S → World) → S → S → Graph → Records → Plan → Looks → ℕ → Result Bool E → Type 0
-FindsClean tells world old new graph records plan seen e result =
-    IfOk result (λ is. is ≡ false → IsUnjudged graph plan e → IsFoundClean tells graph records (world old) (world new) seen e)
+-- where it has a command and is not, no reason was found
+abbrev pub FindsClean : {S E : Type 0} → Bool → (S → World) → S → S → Graph → Records → Looks → ℕ → Result Bool E → Type 0
+FindsClean tells world old new graph records seen e result =
+    IfOk result (λ is. is ≡ false → (links_of graph).phony e ≡ false → IsFoundClean tells graph records (world old) (world new) seen e)
 
 -- So it is after the steps of any build of which the records, the cone and the plan are these.
 abbrev pub IfUnderWay : {S : Type 0} → Bool → (S → World) → S → S → Graph → Records → Cone → Plan → Looks → (Store → List (List ℕ) → List Step → List Moment → Type 0) → Type 0

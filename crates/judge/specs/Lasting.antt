@@ -50,8 +50,8 @@ abbrev pub StayMarked : Graph → List Bool → List Look → List Look → Sums
 StayMarked graph flags seen later old new = AreMarked graph flags seen old → AreMarked graph flags later new
 
 -- so it is, by what was seen before and behind a call
-abbrev pub MarksStay : Graph → List Bool → Looks → Looks → Sums → Sums → Type 0
-MarksStay graph flags before after old new = StayMarked graph flags before.seen.items after.seen.items old new
+abbrev pub MarksStay : Graph → List Bool → Looks → Looks → Type 0
+MarksStay graph flags before after = StayMarked graph flags before.seen.items after.seen.items before.sums after.sums
 
 -- they are right, whatever graph, flags and looks they are right by
 abbrev pub AreAnyMarked : Sums → Type 0

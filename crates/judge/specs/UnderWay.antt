@@ -1,13 +1,14 @@
 -- A build under way, of which it is asked what is due.
-use Rattle.std.specs.Prelude.{◌≡◌, ℕ, suc, Bool, true, false, List, Option, Some, None}
+use Rattle.std.specs.Prelude.{◌≡◌, ℕ, suc, Bool, true, false, if◌then◌else◌, List, Option, Some, None}
 use Rattle.model.specs.Graph.{has_number, IsCommand}
 use Rattle.model.specs.Records.{Store, recorded_inputs}
-use Rattle.model.specs.Schedule.{Step}
+use Rattle.model.specs.Schedule.{Step, judged_in}
 use Rattle.theory.specs.Order.{IsOrderly}
 use Rattle.paths.specs.Told.{texts_at}
 use Rattle.graph.specs.declared.cone.Cone.{Cone}
 use Rattle.graph.specs.declared.graph.Graph.{Graph}
 use Rattle.graph.specs.Linked.{IsConeOf}
+use Rattle.graph.specs.Links.{links_of}
 use Rattle.graph.specs.Told.{declared_by}
 use Rattle.plan.specs.declared.plan.Plan.{Plan}
 use Rattle.plan.specs.declared.step.Standing.{Standing}
@@ -28,6 +29,14 @@ was_due Well = Some true
 was_due Failed = Some true
 was_due Alias = None
 was_due Known = None
+
+-- so it is of the edge that counts as e in the code, by where it stands in the plan; None of a phony edge
+abbrev pub judged_due : Graph → Plan → ℕ → Option Bool
+judged_due graph plan e = if (links_of graph).phony e then None else was_due (standing_at plan.standings.items e)
+
+-- the edge, if it has a command, was not judged by these steps
+abbrev pub IsUnjudged : Graph → List Step → ℕ → Type 0
+IsUnjudged graph before e = IsCommand (declared_by graph).edges (suc e) → has_number (judged_in before) (suc e) ≡ false
 
 -- in the plan the edge that counts as e in the code, if it has a command, stands where these steps have left it
 abbrev pub StandsIn : Graph → Plan → List Step → ℕ → Type 0

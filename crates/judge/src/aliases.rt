@@ -13,115 +13,122 @@ use model::SiteFault;
 use paths::{EdgeId, PathId};
 use site::Site;
 
-/// Whether the phony edge is due, where it is known which edges before it are: it has no inputs and its file is absent, or one
-/// of its regular inputs is an absent source or made by a due edge.
-pub fn is_alias_due<S: Site>(
-    site: &mut S,
-    graph: &Graph,
-    looks: &mut Looks,
-    due: &[bool],
-    edge: EdgeId,
-) -> Result<bool, SiteFault>
-    requires running { (S.world site.old).stopped ≡ false }
-    requires fits { length looks.old.seen.items ≡ length graph.now.manifest.paths }
-    requires within { edge < length graph.now.manifest.lines }
-    requires due { length due.now ≡ length graph.now.manifest.lines }
-    requires alias { (links_of graph.now).phony edge ≡ true }
-    ensures looked { HasLookedAt S.tells S.world site.old site.new graph.now looks.old looks.new }
-    ensures cause { HasCause (S.world site.old) (S.world site.new) result }
-    ensures due { FindsDueAlias S.tells S.world site.old site.new graph.now looks.old due.now edge result }
-{
-    lists_stand(graph);
-    if graph.inputs(edge).is_empty() {
-        has_absent(site, graph, looks, graph.outputs(edge))
-    } else {
-        has_due_path(site, graph, looks, due, graph.regular_inputs(edge))
-    }
-}
-
-/// Whether one of these paths is absent.
-fn has_absent<S: Site>(
-    site: &mut S,
-    graph: &Graph,
-    looks: &mut Looks,
-    paths: &[PathId],
-) -> Result<bool, SiteFault>
-    requires running { (S.world site.old).stopped ≡ false }
-    requires fits { length looks.old.seen.items ≡ length graph.now.manifest.paths }
-    requires within { All (λ p. p < length graph.now.manifest.paths) paths.now }
-    ensures looked { HasLookedAt S.tells S.world site.old site.new graph.now looks.old looks.new }
-    ensures cause { HasCause (S.world site.old) (S.world site.new) result }
-    ensures has { FindsAnyAbsent S.tells S.world site.old site.new graph.now looks.old paths.now result }
-{
-    looks_follow();
-    for path in paths {
-        if is_absent(site, graph, looks, *path)? {
-            return Ok(true);
+impl Looks {
+    /// Whether the phony edge is due, where it is known which edges before it are: it has no inputs and its file is absent, or one
+    /// of its regular inputs is an absent source or made by a due edge.
+    pub(crate) fn is_alias_due<S: Site>(
+        &mut self,
+        site: &mut S,
+        graph: &Graph,
+        due: &[bool],
+        edge: EdgeId,
+    ) -> Result<bool, SiteFault>
+        requires running { (S.world site.old).stopped ≡ false }
+        requires fits { length self.old.seen.items ≡ length graph.now.manifest.paths }
+        requires within { edge < length graph.now.manifest.lines }
+        requires due { length due.now ≡ length graph.now.manifest.lines }
+        requires alias { (links_of graph.now).phony edge ≡ true }
+        ensures looked { HasLookedAt S.tells S.world site.old site.new graph.now self.old self.new }
+        ensures cause { HasCause (S.world site.old) (S.world site.new) result }
+        ensures sums { self.new.sums ≡ self.old.sums }
+        ensures due { FindsDueAlias S.tells S.world site.old site.new graph.now self.old due.now edge result }
+    {
+        lists_stand(graph);
+        if graph.inputs(edge).is_empty() {
+            self.has_absent(site, graph, graph.outputs(edge))
+        } else {
+            self.has_due_path(site, graph, due, graph.regular_inputs(edge))
         }
     }
-    Ok(false)
-}
 
-/// Whether there is no file at the path.
-pub fn is_absent<S: Site>(
-    site: &mut S,
-    graph: &Graph,
-    looks: &mut Looks,
-    path: PathId,
-) -> Result<bool, SiteFault>
-    requires running { (S.world site.old).stopped ≡ false }
-    requires fits { length looks.old.seen.items ≡ length graph.now.manifest.paths }
-    requires within { path < length graph.now.manifest.paths }
-    ensures looked { HasLookedAt S.tells S.world site.old site.new graph.now looks.old looks.new }
-    ensures cause { HasCause (S.world site.old) (S.world site.new) result }
-    ensures absent { FindsAbsent S.tells S.world site.old site.new graph.now looks.old path result }
-{
-    Ok(looks.stamp(site, graph, path)?.is_none())
-}
-
-/// Whether one of these paths is made by a due edge, or is an absent source.
-fn has_due_path<S: Site>(
-    site: &mut S,
-    graph: &Graph,
-    looks: &mut Looks,
-    due: &[bool],
-    paths: &[PathId],
-) -> Result<bool, SiteFault>
-    requires running { (S.world site.old).stopped ≡ false }
-    requires fits { length looks.old.seen.items ≡ length graph.now.manifest.paths }
-    requires within { All (λ p. p < length graph.now.manifest.paths) paths.now }
-    requires due { length due.now ≡ length graph.now.manifest.lines }
-    ensures looked { HasLookedAt S.tells S.world site.old site.new graph.now looks.old looks.new }
-    ensures cause { HasCause (S.world site.old) (S.world site.new) result }
-    ensures has { FindsAnyDue S.tells S.world site.old site.new graph.now looks.old due.now paths.now result }
-{
-    looks_follow();
-    for path in paths {
-        if is_due_path(site, graph, looks, due, *path)? {
-            return Ok(true);
+    /// Whether one of these paths is absent.
+    fn has_absent<S: Site>(
+        &mut self,
+        site: &mut S,
+        graph: &Graph,
+        paths: &[PathId],
+    ) -> Result<bool, SiteFault>
+        requires running { (S.world site.old).stopped ≡ false }
+        requires fits { length self.old.seen.items ≡ length graph.now.manifest.paths }
+        requires within { All (λ p. p < length graph.now.manifest.paths) paths.now }
+        ensures looked { HasLookedAt S.tells S.world site.old site.new graph.now self.old self.new }
+        ensures cause { HasCause (S.world site.old) (S.world site.new) result }
+        ensures sums { self.new.sums ≡ self.old.sums }
+        ensures has { FindsAnyAbsent S.tells S.world site.old site.new graph.now self.old paths.now result }
+    {
+        looks_follow();
+        for path in paths {
+            if self.is_absent(site, graph, *path)? {
+                return Ok(true);
+            }
         }
+        Ok(false)
     }
-    Ok(false)
-}
 
-/// Whether the path is made by a due edge, or is an absent source.
-fn is_due_path<S: Site>(
-    site: &mut S,
-    graph: &Graph,
-    looks: &mut Looks,
-    due: &[bool],
-    path: PathId,
-) -> Result<bool, SiteFault>
-    requires running { (S.world site.old).stopped ≡ false }
-    requires fits { length looks.old.seen.items ≡ length graph.now.manifest.paths }
-    requires within { path < length graph.now.manifest.paths }
-    requires due { length due.now ≡ length graph.now.manifest.lines }
-    ensures looked { HasLookedAt S.tells S.world site.old site.new graph.now looks.old looks.new }
-    ensures cause { HasCause (S.world site.old) (S.world site.new) result }
-    ensures due { FindsDuePath S.tells S.world site.old site.new graph.now looks.old due.now path result }
-{
-    match graph.maker(path) {
-        Some(edge) => Ok(due[edge.index()]),
-        None => is_absent(site, graph, looks, path),
+    /// Whether there is no file at the path.
+    pub(crate) fn is_absent<S: Site>(
+        &mut self,
+        site: &mut S,
+        graph: &Graph,
+        path: PathId,
+    ) -> Result<bool, SiteFault>
+        requires running { (S.world site.old).stopped ≡ false }
+        requires fits { length self.old.seen.items ≡ length graph.now.manifest.paths }
+        requires within { path < length graph.now.manifest.paths }
+        ensures looked { HasLookedAt S.tells S.world site.old site.new graph.now self.old self.new }
+        ensures cause { HasCause (S.world site.old) (S.world site.new) result }
+        ensures sums { self.new.sums ≡ self.old.sums }
+        ensures absent { FindsAbsent S.tells S.world site.old site.new graph.now self.old path result }
+    {
+        Ok(self.stamp(site, graph, path)?.is_none())
+    }
+
+    /// Whether one of these paths is made by a due edge, or is an absent source.
+    fn has_due_path<S: Site>(
+        &mut self,
+        site: &mut S,
+        graph: &Graph,
+        due: &[bool],
+        paths: &[PathId],
+    ) -> Result<bool, SiteFault>
+        requires running { (S.world site.old).stopped ≡ false }
+        requires fits { length self.old.seen.items ≡ length graph.now.manifest.paths }
+        requires within { All (λ p. p < length graph.now.manifest.paths) paths.now }
+        requires due { length due.now ≡ length graph.now.manifest.lines }
+        ensures looked { HasLookedAt S.tells S.world site.old site.new graph.now self.old self.new }
+        ensures cause { HasCause (S.world site.old) (S.world site.new) result }
+        ensures sums { self.new.sums ≡ self.old.sums }
+        ensures has { FindsAnyDue S.tells S.world site.old site.new graph.now self.old due.now paths.now result }
+    {
+        looks_follow();
+        for path in paths {
+            if self.is_due_path(site, graph, due, *path)? {
+                return Ok(true);
+            }
+        }
+        Ok(false)
+    }
+
+    /// Whether the path is made by a due edge, or is an absent source.
+    fn is_due_path<S: Site>(
+        &mut self,
+        site: &mut S,
+        graph: &Graph,
+        due: &[bool],
+        path: PathId,
+    ) -> Result<bool, SiteFault>
+        requires running { (S.world site.old).stopped ≡ false }
+        requires fits { length self.old.seen.items ≡ length graph.now.manifest.paths }
+        requires within { path < length graph.now.manifest.paths }
+        requires due { length due.now ≡ length graph.now.manifest.lines }
+        ensures looked { HasLookedAt S.tells S.world site.old site.new graph.now self.old self.new }
+        ensures cause { HasCause (S.world site.old) (S.world site.new) result }
+        ensures sums { self.new.sums ≡ self.old.sums }
+        ensures due { FindsDuePath S.tells S.world site.old site.new graph.now self.old due.now path result }
+    {
+        match graph.maker(path) {
+            Some(edge) => Ok(due[edge.index()]),
+            None => self.is_absent(site, graph, path),
+        }
     }
 }

@@ -8,48 +8,45 @@ ghost use Rattle.judge.specs.Looking.{HasLookedAt};
 ghost use Rattle.judge.specs.Dues.{is_made_due, reads_due, FindsDueCommand, FindsCleanCommand};
 ghost use Rattle.judge.specs.Summed.{AreSums};
 
-use crate::judgement::reason;
 use crate::laws::looks_follow;
 use crate::looks::Looks;
-use crate::sums::Sums;
 use graph::{Graph, lists_stand};
 use model::SiteFault;
 use paths::{EdgeId, PathId};
 use records::Records;
 use site::Site;
-use std::alloc::Global;
 
-/// Whether the command, which was not judged, is due, where it is known which edges before it are: it reads what a due edge
-/// makes, or it is out of date. Where the first is so no file is looked at: a command that runs may be writing it.
-pub fn is_command_due<S: Site>(
-    alloc: Global,
-    site: &mut S,
-    graph: &Graph,
-    looks: &mut Looks,
-    sums: &mut Sums,
-    records: &Records,
-    due: &[bool],
-    edge: EdgeId,
-) -> Result<bool, SiteFault>
-    requires running { (S.world site.old).stopped ≡ false }
-    requires fits { length looks.old.seen.items ≡ length graph.now.manifest.paths }
-    requires within { edge < length graph.now.manifest.lines }
-    requires due { length due.now ≡ length graph.now.manifest.lines }
-    requires command { (links_of graph.now).phony edge ≡ false }
-    requires summed { AreSums graph.now [] looks.old.seen.items sums.old }
-    ensures looked { HasLookedAt S.tells S.world site.old site.new graph.now looks.old looks.new }
-    ensures cause { HasCause (S.world site.old) (S.world site.new) result }
-    ensures summed { AreSums graph.now [] looks.new.seen.items sums.new }
-    ensures due { FindsDueCommand S.tells S.world site.old site.new graph.now records.now looks.old due.now edge result }
-    ensures clean { FindsCleanCommand S.tells S.world site.old site.new graph.now records.now looks.old edge result }
-{
-    looks_follow();
-    lists_stand(graph);
-    if reads_due(graph, due, edge) {
-        return Ok(true);
+impl Looks {
+    /// Whether the command, which was not judged, is due, where it is known which edges before it are: it reads what a due edge
+    /// makes, or it is out of date. Where the first is so no file is looked at: a command that runs may be writing it.
+    pub(crate) fn is_command_due<S: Site>(
+        &mut self,
+        site: &mut S,
+        graph: &Graph,
+        records: &Records,
+        due: &[bool],
+        edge: EdgeId,
+    ) -> Result<bool, SiteFault>
+        requires running { (S.world site.old).stopped ≡ false }
+        requires fits { length self.old.seen.items ≡ length graph.now.manifest.paths }
+        requires within { edge < length graph.now.manifest.lines }
+        requires due { length due.now ≡ length graph.now.manifest.lines }
+        requires command { (links_of graph.now).phony edge ≡ false }
+        requires summed { AreSums graph.now [] self.old.seen.items self.old.sums }
+        ensures looked { HasLookedAt S.tells S.world site.old site.new graph.now self.old self.new }
+        ensures cause { HasCause (S.world site.old) (S.world site.new) result }
+        ensures summed { AreSums graph.now [] self.new.seen.items self.new.sums }
+        ensures due { FindsDueCommand S.tells S.world site.old site.new graph.now records.now self.old due.now edge result }
+        ensures clean { FindsCleanCommand S.tells S.world site.old site.new graph.now records.now self.old edge result }
+    {
+        looks_follow();
+        lists_stand(graph);
+        if reads_due(graph, due, edge) {
+            return Ok(true);
+        }
+        let found = self.reason(site, graph, records, &[], edge)?;
+        Ok(found.is_some())
     }
-    let found = reason(alloc, site, graph, looks, sums, records, &[], edge)?;
-    Ok(found.is_some())
 }
 
 /// Whether a due edge makes one of its regular or recorded inputs. A phony edge among those that make them stands for what it

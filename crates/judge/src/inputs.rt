@@ -13,163 +13,145 @@ use crate::input_facts::Inputs;
 use crate::lasting::reads_made;
 use crate::laws::looks_follow;
 use crate::looks::{Look, Looks};
-use crate::stamp::stamp_of;
-use crate::sums::Sums;
 use graph::{Graph, Reading, lists_stand, reading_stands};
 use model::SiteFault;
 use paths::{EdgeId, PathId};
 use site::Site;
-use std::alloc::Global;
 use std::slice;
 
-/// The facts of what the edge reads, through phony edges too, and of its recorded inputs.
-pub(crate) fn inputs_of<S: Site>(
-    alloc: Global,
-    site: &mut S,
-    graph: &Graph,
-    looks: &mut Looks,
-    sums: &mut Sums,
-    changed: &[bool],
-    edge: EdgeId,
-) -> Result<Inputs, SiteFault>
-    requires running { (S.world site.old).stopped ≡ false }
-    requires fits { length looks.old.seen.items ≡ length graph.now.manifest.paths }
-    requires within { edge < length graph.now.manifest.lines }
-    requires summed { AreSums graph.now changed.now looks.old.seen.items sums.old }
-    ensures looked { HasLookedAt S.tells S.world site.old site.new graph.now looks.old looks.new }
-    ensures cause { HasCause (S.world site.old) (S.world site.new) result }
-    ensures summed { AreSums graph.now changed.now looks.new.seen.items sums.new }
-    ensures marked { MarksStay graph.now changed.now looks.old looks.new sums.old sums.new }
-    ensures inputs { FindsInputs S.tells S.world site.old site.new graph.now looks.old changed.now edge result }
-{
-    looks_follow();
-    lists_stand(graph);
-    reading_stands(graph);
-    let mut inputs = Inputs::new();
-    let regular = graph.regular_inputs(edge);
-    add_paths(site, graph, looks, changed, false, regular, &mut inputs)?;
-    add_aliases(
-        alloc,
-        site,
-        graph,
-        looks,
-        sums,
-        changed,
-        regular,
-        &mut inputs,
-    )?;
-    let recorded = graph.recorded_inputs(edge);
-    add_paths(site, graph, looks, changed, true, recorded, &mut inputs)?;
-    Ok(inputs)
-}
-
-/// Takes in what the phony edges read that make these paths.
-fn add_aliases<S: Site>(
-    alloc: Global,
-    site: &mut S,
-    graph: &Graph,
-    looks: &mut Looks,
-    sums: &mut Sums,
-    changed: &[bool],
-    paths: &[PathId],
-    inputs: &mut Inputs,
-) -> Result<(), SiteFault>
-    requires running { (S.world site.old).stopped ≡ false }
-    requires fits { length looks.old.seen.items ≡ length graph.now.manifest.paths }
-    requires summed { AreSums graph.now changed.now looks.old.seen.items sums.old }
-    ensures looked { HasLookedAt S.tells S.world site.old site.new graph.now looks.old looks.new }
-    ensures cause { HasCause (S.world site.old) (S.world site.new) result }
-    ensures summed { AreSums graph.now changed.now looks.new.seen.items sums.new }
-    ensures marked { MarksStay graph.now changed.now looks.old looks.new sums.old sums.new }
-    ensures joined { OnOk result (JoinsSeen graph.now changed.now looks.new paths.now inputs.old inputs.new) }
-{
-    looks_follow();
-    for path in paths {
-        add_alias(alloc, site, graph, looks, sums, changed, *path, inputs)?;
+impl Looks {
+    /// The facts of what the edge reads, through phony edges too, and of its recorded inputs.
+    pub(crate) fn inputs_of<S: Site>(
+        &mut self,
+        site: &mut S,
+        graph: &Graph,
+        changed: &[bool],
+        edge: EdgeId,
+    ) -> Result<Inputs, SiteFault>
+        requires running { (S.world site.old).stopped ≡ false }
+        requires fits { length self.old.seen.items ≡ length graph.now.manifest.paths }
+        requires within { edge < length graph.now.manifest.lines }
+        requires summed { AreSums graph.now changed.now self.old.seen.items self.old.sums }
+        ensures looked { HasLookedAt S.tells S.world site.old site.new graph.now self.old self.new }
+        ensures cause { HasCause (S.world site.old) (S.world site.new) result }
+        ensures summed { AreSums graph.now changed.now self.new.seen.items self.new.sums }
+        ensures marked { MarksStay graph.now changed.now self.old self.new }
+        ensures inputs { FindsInputs S.tells S.world site.old site.new graph.now self.old changed.now edge result }
+    {
+        looks_follow();
+        lists_stand(graph);
+        reading_stands(graph);
+        let mut inputs = Inputs::new();
+        let regular = graph.regular_inputs(edge);
+        self.add_paths(site, graph, changed, regular, &mut inputs)?;
+        self.add_aliases(site, graph, changed, regular, &mut inputs)?;
+        let recorded = graph.recorded_inputs(edge);
+        self.add_recorded(site, graph, changed, recorded, &mut inputs)?;
+        Ok(inputs)
     }
-    Ok(())
-}
 
-/// Takes in what the phony edge reads that makes the path, if one does.
-fn add_alias<S: Site>(
-    alloc: Global,
-    site: &mut S,
-    graph: &Graph,
-    looks: &mut Looks,
-    sums: &mut Sums,
-    changed: &[bool],
-    path: PathId,
-    inputs: &mut Inputs,
-) -> Result<(), SiteFault>
-    requires running { (S.world site.old).stopped ≡ false }
-    requires fits { length looks.old.seen.items ≡ length graph.now.manifest.paths }
-    requires summed { AreSums graph.now changed.now looks.old.seen.items sums.old }
-    ensures looked { HasLookedAt S.tells S.world site.old site.new graph.now looks.old looks.new }
-    ensures cause { HasCause (S.world site.old) (S.world site.new) result }
-    ensures summed { AreSums graph.now changed.now looks.new.seen.items sums.new }
-    ensures marked { MarksStay graph.now changed.now looks.old looks.new sums.old sums.new }
-    ensures joined { OnOk result (JoinsSeen graph.now changed.now looks.new (path ∷ []) inputs.old inputs.new) }
-{
-    looks_follow();
-    if let Some(alias) = graph.alias(path) {
-        let sum = sum_of(alloc, site, graph, looks, sums, changed, alias)?;
-        inputs.join(sum);
+    /// Takes in what the phony edges read that make these paths.
+    fn add_aliases<S: Site>(
+        &mut self,
+        site: &mut S,
+        graph: &Graph,
+        changed: &[bool],
+        paths: &[PathId],
+        inputs: &mut Inputs,
+    ) -> Result<(), SiteFault>
+        requires running { (S.world site.old).stopped ≡ false }
+        requires fits { length self.old.seen.items ≡ length graph.now.manifest.paths }
+        requires summed { AreSums graph.now changed.now self.old.seen.items self.old.sums }
+        ensures looked { HasLookedAt S.tells S.world site.old site.new graph.now self.old self.new }
+        ensures cause { HasCause (S.world site.old) (S.world site.new) result }
+        ensures summed { AreSums graph.now changed.now self.new.seen.items self.new.sums }
+        ensures marked { MarksStay graph.now changed.now self.old self.new }
+        ensures joined { OnOk result (JoinsSeen graph.now changed.now self.new paths.now inputs.old inputs.new) }
+    {
+        looks_follow();
+        for path in paths {
+            self.add_alias(site, graph, changed, *path, inputs)?;
+        }
+        Ok(())
     }
-    Ok(())
-}
 
-/// What the phony edge reads comes to, which is noted.
-fn sum_of<S: Site>(
-    alloc: Global,
-    site: &mut S,
-    graph: &Graph,
-    looks: &mut Looks,
-    sums: &mut Sums,
-    changed: &[bool],
-    edge: EdgeId,
-) -> Result<Inputs, SiteFault>
-    requires running { (S.world site.old).stopped ≡ false }
-    requires fits { length looks.old.seen.items ≡ length graph.now.manifest.paths }
-    requires within { edge < length graph.now.manifest.lines }
-    requires summed { AreSums graph.now changed.now looks.old.seen.items sums.old }
-    ensures looked { HasLookedAt S.tells S.world site.old site.new graph.now looks.old looks.new }
-    ensures cause { HasCause (S.world site.old) (S.world site.new) result }
-    ensures summed { AreSums graph.now changed.now looks.new.seen.items sums.new }
-    ensures marked { MarksStay graph.now changed.now looks.old looks.new sums.old sums.new }
-    ensures sum { IfOk result (IsSum graph.now changed.now looks.new.seen.items edge) }
-{
-    looks_follow();
-    if let Some(sum) = sums.get(edge) {
-        return Ok(sum);
+    /// Takes in what the phony edge reads that makes the path, if one does.
+    fn add_alias<S: Site>(
+        &mut self,
+        site: &mut S,
+        graph: &Graph,
+        changed: &[bool],
+        path: PathId,
+        inputs: &mut Inputs,
+    ) -> Result<(), SiteFault>
+        requires running { (S.world site.old).stopped ≡ false }
+        requires fits { length self.old.seen.items ≡ length graph.now.manifest.paths }
+        requires summed { AreSums graph.now changed.now self.old.seen.items self.old.sums }
+        ensures looked { HasLookedAt S.tells S.world site.old site.new graph.now self.old self.new }
+        ensures cause { HasCause (S.world site.old) (S.world site.new) result }
+        ensures summed { AreSums graph.now changed.now self.new.seen.items self.new.sums }
+        ensures marked { MarksStay graph.now changed.now self.old self.new }
+        ensures joined { OnOk result (JoinsSeen graph.now changed.now self.new (path ∷ []) inputs.old inputs.new) }
+    {
+        looks_follow();
+        if let Some(alias) = graph.alias(path) {
+            let sum = self.sum_of(site, graph, changed, alias)?;
+            inputs.join(sum);
+        }
+        Ok(())
     }
-    let (sum, lasts) = read_by(alloc, site, graph, looks, changed, edge)?;
-    sums.note(edge, sum, lasts)?;
-    Ok(sum)
-}
 
-/// What the edge reads comes to, and whether no command makes any of it.
-fn read_by<S: Site>(
-    alloc: Global,
-    site: &mut S,
-    graph: &Graph,
-    looks: &mut Looks,
-    changed: &[bool],
-    edge: EdgeId,
-) -> Result<(Inputs, bool), SiteFault>
-    requires running { (S.world site.old).stopped ≡ false }
-    requires fits { length looks.old.seen.items ≡ length graph.now.manifest.paths }
-    requires within { edge < length graph.now.manifest.lines }
-    ensures looked { HasLookedAt S.tells S.world site.old site.new graph.now looks.old looks.new }
-    ensures cause { HasCause (S.world site.old) (S.world site.new) result }
-    ensures sum { IfOk result (λ read. IsSum graph.now changed.now looks.new.seen.items edge read.0) }
-    ensures lasts { IfOk result (λ read. read.1 ≡ true → IsLasting graph.now changed.now looks.new.seen.items edge read.0) }
-{
-    looks_follow();
-    let reading = graph.reading(alloc, edge)?;
-    let mut inputs = Inputs::new();
-    let edges = edges_of(&reading);
-    add_edges(site, graph, looks, changed, edges, &mut inputs)?;
-    Ok((inputs, !reads_made(graph, edges)))
+    /// What the phony edge reads comes to, which is noted.
+    fn sum_of<S: Site>(
+        &mut self,
+        site: &mut S,
+        graph: &Graph,
+        changed: &[bool],
+        edge: EdgeId,
+    ) -> Result<Inputs, SiteFault>
+        requires running { (S.world site.old).stopped ≡ false }
+        requires fits { length self.old.seen.items ≡ length graph.now.manifest.paths }
+        requires within { edge < length graph.now.manifest.lines }
+        requires summed { AreSums graph.now changed.now self.old.seen.items self.old.sums }
+        ensures looked { HasLookedAt S.tells S.world site.old site.new graph.now self.old self.new }
+        ensures cause { HasCause (S.world site.old) (S.world site.new) result }
+        ensures summed { AreSums graph.now changed.now self.new.seen.items self.new.sums }
+        ensures marked { MarksStay graph.now changed.now self.old self.new }
+        ensures sum { IfOk result (IsSum graph.now changed.now self.new.seen.items edge) }
+    {
+        looks_follow();
+        if let Some(sum) = self.sums.get(edge) {
+            return Ok(sum);
+        }
+        let (sum, lasts) = self.read_by(site, graph, changed, edge)?;
+        self.sums.note(edge, sum, lasts)?;
+        Ok(sum)
+    }
+
+    /// What the edge reads comes to, and whether no command makes any of it.
+    fn read_by<S: Site>(
+        &mut self,
+        site: &mut S,
+        graph: &Graph,
+        changed: &[bool],
+        edge: EdgeId,
+    ) -> Result<(Inputs, bool), SiteFault>
+        requires running { (S.world site.old).stopped ≡ false }
+        requires fits { length self.old.seen.items ≡ length graph.now.manifest.paths }
+        requires within { edge < length graph.now.manifest.lines }
+        ensures looked { HasLookedAt S.tells S.world site.old site.new graph.now self.old self.new }
+        ensures cause { HasCause (S.world site.old) (S.world site.new) result }
+        ensures sums { self.new.sums ≡ self.old.sums }
+        ensures sum { IfOk result (λ read. IsSum graph.now changed.now self.new.seen.items edge read.0) }
+        ensures lasts { IfOk result (λ read. read.1 ≡ true → IsLasting graph.now changed.now self.new.seen.items edge read.0) }
+    {
+        looks_follow();
+        let reading = graph.reading(self.sums.alloc(), edge)?;
+        let mut inputs = Inputs::new();
+        let edges = edges_of(&reading);
+        self.add_edges(site, graph, changed, edges, &mut inputs)?;
+        Ok((inputs, !reads_made(graph, edges)))
+    }
 }
 
 /// The edges whose regular inputs are read.
@@ -182,97 +164,155 @@ fn edges_of(reading: &Reading) -> &[EdgeId]
     }
 }
 
-/// Takes in what these edges name themselves: their explicit and implicit inputs, as far as they count.
-fn add_edges<S: Site>(
-    site: &mut S,
-    graph: &Graph,
-    looks: &mut Looks,
-    changed: &[bool],
-    edges: &[EdgeId],
-    inputs: &mut Inputs,
-) -> Result<(), SiteFault>
-    requires running { (S.world site.old).stopped ≡ false }
-    requires fits { length looks.old.seen.items ≡ length graph.now.manifest.paths }
-    requires within { (d : ℕ) → has_number edges.now d ≡ true → d < length graph.now.manifest.lines }
-    ensures looked { HasLookedAt S.tells S.world site.old site.new graph.now looks.old looks.new }
-    ensures cause { HasCause (S.world site.old) (S.world site.new) result }
-    ensures taken { OnOk result (TakesEdges graph.now changed.now looks.new edges.now inputs.old inputs.new) }
-{
-    looks_follow();
-    lists_stand(graph);
-    for edge in edges {
-        let paths = graph.regular_inputs(*edge);
-        add_paths(site, graph, looks, changed, false, paths, inputs)?;
+impl Looks {
+    /// Takes in what these edges name themselves: their explicit and implicit inputs, as far as they count.
+    fn add_edges<S: Site>(
+        &mut self,
+        site: &mut S,
+        graph: &Graph,
+        changed: &[bool],
+        edges: &[EdgeId],
+        inputs: &mut Inputs,
+    ) -> Result<(), SiteFault>
+        requires running { (S.world site.old).stopped ≡ false }
+        requires fits { length self.old.seen.items ≡ length graph.now.manifest.paths }
+        requires within { (d : ℕ) → has_number edges.now d ≡ true → d < length graph.now.manifest.lines }
+        ensures looked { HasLookedAt S.tells S.world site.old site.new graph.now self.old self.new }
+        ensures cause { HasCause (S.world site.old) (S.world site.new) result }
+        ensures sums { self.new.sums ≡ self.old.sums }
+        ensures taken { OnOk result (TakesEdges graph.now changed.now self.new edges.now inputs.old inputs.new) }
+    {
+        looks_follow();
+        lists_stand(graph);
+        for edge in edges {
+            let paths = graph.regular_inputs(*edge);
+            self.add_paths(site, graph, changed, paths, inputs)?;
+        }
+        Ok(())
     }
-    Ok(())
+
+    /// Takes in those of these paths that count.
+    fn add_paths<S: Site>(
+        &mut self,
+        site: &mut S,
+        graph: &Graph,
+        changed: &[bool],
+        paths: &[PathId],
+        inputs: &mut Inputs,
+    ) -> Result<(), SiteFault>
+        requires running { (S.world site.old).stopped ≡ false }
+        requires fits { length self.old.seen.items ≡ length graph.now.manifest.paths }
+        requires within { (p : ℕ) → has_number paths.now p ≡ true → p < length graph.now.manifest.paths }
+        ensures looked { HasLookedAt S.tells S.world site.old site.new graph.now self.old self.new }
+        ensures cause { HasCause (S.world site.old) (S.world site.new) result }
+        ensures sums { self.new.sums ≡ self.old.sums }
+        ensures taken { OnOk result (TakesPaths graph.now changed.now false self.new paths.now inputs.old inputs.new) }
+    {
+        looks_follow();
+        // What is taken in stays in registers.
+        let mut taken = *inputs;
+        for path in paths {
+            self.add_path(site, graph, changed, *path, &mut taken)?;
+        }
+        *inputs = taken;
+        Ok(())
+    }
+
+    /// Takes in the path, where it counts. Most paths were asked for and have a file, and that counts always.
+    fn add_path<S: Site>(
+        &mut self,
+        site: &mut S,
+        graph: &Graph,
+        changed: &[bool],
+        path: PathId,
+        inputs: &mut Inputs,
+    ) -> Result<(), SiteFault>
+        requires running { (S.world site.old).stopped ≡ false }
+        requires fits { length self.old.seen.items ≡ length graph.now.manifest.paths }
+        requires within { path < length graph.now.manifest.paths }
+        ensures looked { HasLookedAt S.tells S.world site.old site.new graph.now self.old self.new }
+        ensures cause { HasCause (S.world site.old) (S.world site.new) result }
+        ensures sums { self.new.sums ≡ self.old.sums }
+        ensures taken { OnOk result (TakesPaths graph.now changed.now false self.new (path ∷ []) inputs.old inputs.new) }
+    {
+        if let Look::Stamp(stamp) = self.look(path) {
+            inputs.add(Some(stamp), is_changed(changed, path));
+            return Ok(());
+        }
+        let stamp = self.stamp_of(site, graph, path)?;
+        inputs.add_stamp(graph, changed, false, path, stamp);
+        Ok(())
+    }
+
+    /// Takes in these recorded inputs.
+    fn add_recorded<S: Site>(
+        &mut self,
+        site: &mut S,
+        graph: &Graph,
+        changed: &[bool],
+        paths: &[PathId],
+        inputs: &mut Inputs,
+    ) -> Result<(), SiteFault>
+        requires running { (S.world site.old).stopped ≡ false }
+        requires fits { length self.old.seen.items ≡ length graph.now.manifest.paths }
+        requires within { (p : ℕ) → has_number paths.now p ≡ true → p < length graph.now.manifest.paths }
+        ensures looked { HasLookedAt S.tells S.world site.old site.new graph.now self.old self.new }
+        ensures cause { HasCause (S.world site.old) (S.world site.new) result }
+        ensures sums { self.new.sums ≡ self.old.sums }
+        ensures taken { OnOk result (TakesPaths graph.now changed.now true self.new paths.now inputs.old inputs.new) }
+    {
+        looks_follow();
+        // What is taken in stays in registers.
+        let mut taken = *inputs;
+        for path in paths {
+            self.add_recorded_path(site, graph, changed, *path, &mut taken)?;
+        }
+        *inputs = taken;
+        Ok(())
+    }
+
+    /// Takes in the recorded input. Most were asked for and have a file.
+    fn add_recorded_path<S: Site>(
+        &mut self,
+        site: &mut S,
+        graph: &Graph,
+        changed: &[bool],
+        path: PathId,
+        inputs: &mut Inputs,
+    ) -> Result<(), SiteFault>
+        requires running { (S.world site.old).stopped ≡ false }
+        requires fits { length self.old.seen.items ≡ length graph.now.manifest.paths }
+        requires within { path < length graph.now.manifest.paths }
+        ensures looked { HasLookedAt S.tells S.world site.old site.new graph.now self.old self.new }
+        ensures cause { HasCause (S.world site.old) (S.world site.new) result }
+        ensures sums { self.new.sums ≡ self.old.sums }
+        ensures taken { OnOk result (TakesPaths graph.now changed.now true self.new (path ∷ []) inputs.old inputs.new) }
+    {
+        if let Look::Stamp(stamp) = self.look(path) {
+            inputs.add(Some(stamp), is_changed(changed, path));
+            return Ok(());
+        }
+        let stamp = self.stamp_of(site, graph, path)?;
+        inputs.add_stamp(graph, changed, true, path, stamp);
+        Ok(())
+    }
 }
 
-/// Takes in these paths: always, or those that count.
-fn add_paths<S: Site>(
-    site: &mut S,
-    graph: &Graph,
-    looks: &mut Looks,
-    changed: &[bool],
-    always: bool,
-    paths: &[PathId],
-    inputs: &mut Inputs,
-) -> Result<(), SiteFault>
-    requires running { (S.world site.old).stopped ≡ false }
-    requires fits { length looks.old.seen.items ≡ length graph.now.manifest.paths }
-    requires within { (p : ℕ) → has_number paths.now p ≡ true → p < length graph.now.manifest.paths }
-    ensures looked { HasLookedAt S.tells S.world site.old site.new graph.now looks.old looks.new }
-    ensures cause { HasCause (S.world site.old) (S.world site.new) result }
-    ensures taken { OnOk result (TakesPaths graph.now changed.now always looks.new paths.now inputs.old inputs.new) }
-{
-    looks_follow();
-    // What is taken in stays in registers.
-    let mut taken = *inputs;
-    for path in paths {
-        add_path(site, graph, looks, changed, always, *path, &mut taken)?;
-    }
-    *inputs = taken;
-    Ok(())
-}
-
-/// Takes in the path: always, or where it counts. Most paths were asked for and have a file, and that counts always.
-fn add_path<S: Site>(
-    site: &mut S,
-    graph: &Graph,
-    looks: &mut Looks,
-    changed: &[bool],
-    always: bool,
-    path: PathId,
-    inputs: &mut Inputs,
-) -> Result<(), SiteFault>
-    requires running { (S.world site.old).stopped ≡ false }
-    requires fits { length looks.old.seen.items ≡ length graph.now.manifest.paths }
-    requires within { path < length graph.now.manifest.paths }
-    ensures looked { HasLookedAt S.tells S.world site.old site.new graph.now looks.old looks.new }
-    ensures cause { HasCause (S.world site.old) (S.world site.new) result }
-    ensures taken { OnOk result (TakesPaths graph.now changed.now always looks.new (path ∷ []) inputs.old inputs.new) }
-{
-    if let Look::Stamp(stamp) = looks.look(path) {
-        inputs.add(Some(stamp), is_changed(changed, path));
-        return Ok(());
-    }
-    let stamp = stamp_of(site, graph, looks, path)?;
-    add_stamp(graph, changed, always, path, stamp, inputs);
-    Ok(())
-}
-
-/// Takes in the path, which has this stamp: always, or where it counts.
-fn add_stamp(
-    graph: &Graph,
-    changed: &[bool],
-    always: bool,
-    path: PathId,
-    stamp: Option<u64>,
-    inputs: &mut Inputs,
-)
-    ensures { TakesOne graph.now changed.now always path stamp inputs.old inputs.new }
-{
-    if always || stamp.is_some() || !graph.counts_if_present(path) {
-        inputs.add(stamp, is_changed(changed, path));
+impl Inputs {
+    /// Takes in the path, which has this stamp: always, or where it counts.
+    fn add_stamp(
+        &mut self,
+        graph: &Graph,
+        changed: &[bool],
+        always: bool,
+        path: PathId,
+        stamp: Option<u64>,
+    )
+        ensures { TakesOne graph.now changed.now always path stamp self.old self.new }
+    {
+        if always || stamp.is_some() || !graph.counts_if_present(path) {
+            self.add(stamp, is_changed(changed, path));
+        }
     }
 }
 

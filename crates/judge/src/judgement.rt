@@ -9,70 +9,59 @@ ghost use Rattle.judge.specs.Lasting.{MarksStay};
 ghost use Rattle.judge.specs.Summed.{AreSums};
 
 use crate::depfile::has_depfile;
-use crate::inputs::inputs_of;
 use crate::laws::looks_follow;
 use crate::looks::Looks;
-use crate::outputs::outputs_of;
 use crate::reason_table::{Facts, judge};
-use crate::sums::Sums;
 use graph::{Graph, lists_stand, numbers_stand};
 use model::{Reason, SiteFault};
 use paths::{Action, Command, EdgeId};
 use records::Records;
 use site::Site;
-use std::alloc::Global;
 
-/// Why the command of the edge has to run, if it has to: by its outputs and their records, by the paths that it reads, through
-/// phony edges too, and by its recorded inputs, as their files are now. `changed` says of each path whether this build made it
-/// anew; one past its end was not.
-///
-/// What was seen of a path is not asked for again, but for the depfile that the command is to leave. The answer is right for
-/// each set of paths that has all these and whose files stay as they are during the call, as that of the depfile does, whatever
-/// commands write elsewhere. It takes time for the outputs and inputs that are met; what a phony edge reads is met
-/// once, and then known by `sums`, which takes memory for each phony edge that is read through. Where a command makes some of that
-/// and there is no memory to mark it so, it is met again by the next call that reads it.
-pub fn reason<S: Site>(
-    alloc: Global,
-    site: &mut S,
-    graph: &Graph,
-    looks: &mut Looks,
-    sums: &mut Sums,
-    records: &Records,
-    changed: &[bool],
-    edge: EdgeId,
-) -> Result<Option<Reason>, SiteFault>
-    requires running { (S.world site.old).stopped ≡ false }
-    requires fits { length looks.old.seen.items ≡ length graph.now.manifest.paths }
-    requires within { edge < length graph.now.manifest.lines }
-    requires command { (links_of graph.now).phony edge ≡ false }
-    requires summed { AreSums graph.now changed.now looks.old.seen.items sums.old }
-    ensures looked { HasLookedAt S.tells S.world site.old site.new graph.now looks.old looks.new }
-    ensures cause { HasCause (S.world site.old) (S.world site.new) result }
-    ensures summed { AreSums graph.now changed.now looks.new.seen.items sums.new }
-    ensures marked { MarksStay graph.now changed.now looks.old looks.new sums.old sums.new }
-    ensures reason { FindsReason S.tells S.world site.old site.new graph.now records.now looks.old changed.now edge result }
-{
-    looks_follow();
-    lists_stand(graph);
-    let command = command_of(graph, edge);
-    let depfile = has_depfile(site, command)?;
-    let outputs = outputs_of(
-        site,
-        graph,
-        looks,
-        records,
-        &command.act,
-        graph.outputs(edge),
-    )?;
-    let inputs = inputs_of(alloc, site, graph, looks, sums, changed, edge)?;
-    Ok(judge(&Facts {
-        act: &command.act,
-        restat: command.restat,
-        deps: command.deps,
-        depfile,
-        outputs,
-        inputs,
-    }))
+impl Looks {
+    /// Why the command of the edge has to run, if it has to: by its outputs and their records, by the paths that it reads, through
+    /// phony edges too, and by its recorded inputs, as their files are now. `changed` says of each path whether this build made it
+    /// anew; one past its end was not.
+    ///
+    /// What was seen of a path is not asked for again, but for the depfile that the command is to leave. The answer is right for
+    /// each set of paths that has all these and whose files stay as they are during the call, as that of the depfile does, whatever
+    /// commands write elsewhere. It takes time for the outputs and inputs that are met; what a phony edge reads is met
+    /// once, and then known by the sums, which takes memory for each phony edge that is read through. Where a command makes some of that
+    /// and there is no memory to mark it so, it is met again by the next call that reads it.
+    pub fn reason<S: Site>(
+        &mut self,
+        site: &mut S,
+        graph: &Graph,
+        records: &Records,
+        changed: &[bool],
+        edge: EdgeId,
+    ) -> Result<Option<Reason>, SiteFault>
+        requires running { (S.world site.old).stopped ≡ false }
+        requires fits { length self.old.seen.items ≡ length graph.now.manifest.paths }
+        requires within { edge < length graph.now.manifest.lines }
+        requires command { (links_of graph.now).phony edge ≡ false }
+        requires summed { AreSums graph.now changed.now self.old.seen.items self.old.sums }
+        ensures looked { HasLookedAt S.tells S.world site.old site.new graph.now self.old self.new }
+        ensures cause { HasCause (S.world site.old) (S.world site.new) result }
+        ensures summed { AreSums graph.now changed.now self.new.seen.items self.new.sums }
+        ensures marked { MarksStay graph.now changed.now self.old self.new }
+        ensures reason { FindsReason S.tells S.world site.old site.new graph.now records.now self.old changed.now edge result }
+    {
+        looks_follow();
+        lists_stand(graph);
+        let command = command_of(graph, edge);
+        let depfile = has_depfile(site, command)?;
+        let outputs = self.outputs_of(site, graph, records, &command.act, graph.outputs(edge))?;
+        let inputs = self.inputs_of(site, graph, changed, edge)?;
+        Ok(judge(&Facts {
+            act: &command.act,
+            restat: command.restat,
+            deps: command.deps,
+            depfile,
+            outputs,
+            inputs,
+        }))
+    }
 }
 
 /// What the edge does.

@@ -7,8 +7,6 @@ ghost use Rattle.judge.specs.Dues.{due_at};
 ghost use Rattle.judge.specs.Lacks.{lack_in, IsLackOf, IsSourceOf, IsSourceFor, IsSourceAt, IsAskedLack, NamesDue};
 ghost use Rattle.judge.specs.Lacks.{FindsMissing, FindsFirst, FindsFirstOf, FindsFirstOfDue, FindsLack, FindsFlags};
 
-use crate::aliases::is_absent;
-use crate::due::due_edges;
 use crate::laws::looks_follow;
 use crate::looks::Looks;
 use graph::{Cone, Graph, lists_stand};
@@ -17,7 +15,6 @@ use paths::{EdgeId, PathId};
 use plan::Plan;
 use records::Records;
 use site::Site;
-use std::alloc::Global;
 
 /// A path that is absent and that no edge makes.
 #[derive(Clone, Copy, Debug, PartialEq, Eq)]
@@ -35,153 +32,154 @@ pub enum Found {
     Present(Vec<bool>),
 }
 
-/// The first requested path that is missing, else the first missing input of the lowest due edge of the cone, in the order
-/// of its lists; where none is missing, which edges are due. A command that the plan has judged is due where it was judged out of
-/// date. Which others are due the records of the logs say, with the files and what due edges make. A recorded input that is
-/// missing is no missing source. Whatever others write, what is named is a target, or an input of an edge of the cone.
-///
-/// Commands may run meanwhile: what a due edge makes is not looked at. What was found is so at each point of the same steps
-/// whose files are those of now at the paths that may be looked at.
-///
-/// What was seen of a path is not asked for again. Of a command that reads what a due edge makes only inputs are asked for,
-/// and it takes time for its regular and recorded inputs alone; any other command that was not judged is judged by
-/// `crate::judgement::reason`, which walks what it reads through phony edges. Memory is taken for one flag for each edge of the graph, and
-/// for what `reason` takes.
-pub fn sources<S: Site>(
-    alloc: Global,
-    site: &mut S,
-    graph: &Graph,
-    cone: &Cone,
-    plan: &Plan,
-    looks: &mut Looks,
-    records: &Records,
-) -> Result<Found, SiteFault>
-    requires running { (S.world site.old).stopped ≡ false }
-    requires fits { length looks.old.seen.items ≡ length graph.now.manifest.paths }
-    requires order { All (λ e. e < length graph.now.manifest.lines) cone.now.order.items }
-    requires targets { All (λ p. p < length graph.now.manifest.paths) cone.now.targets.items }
-    requires plan { vec_len plan.now.standings ≡ length graph.now.manifest.lines }
-    ensures looked { HasLookedAt S.tells S.world site.old site.new graph.now looks.old looks.new }
-    ensures cause { HasCause (S.world site.old) (S.world site.new) result }
-    ensures found { FindsLack S.tells S.world site.old site.new graph.now records.now cone.now plan.now looks.old result }
-    ensures due { FindsFlags S.tells S.world site.old site.new graph.now records.now cone.now plan.now looks.old result }
-    ensures within { IfOk result (λ found. IfSome (lack_in found) (IsLackOf graph.now)) }
-    ensures asked { IfOk result (λ found. IfSome (lack_in found) (λ lack. IsAskedLack cone.now lack)) }
-{
-    looks_follow();
-    lists_stand(graph);
-    let targets = cone.targets.as_slice();
-    match first_missing(site, graph, looks, targets)? {
-        Some(path) => Ok(Found::Missing(Lack {
-            path,
-            needed_by: None,
-        })),
-        None => {
-            let due = due_edges(alloc, site, graph, cone, plan, looks, records)?;
-            match lack_of_due(site, graph, looks, &due)? {
-                Some(lack) => Ok(Found::Missing(lack)),
-                None => Ok(Found::Present(due)),
+impl Looks {
+    /// The first requested path that is missing, else the first missing input of the lowest due edge of the cone, in the order
+    /// of its lists; where none is missing, which edges are due. A command that the plan has judged is due where it was judged out of
+    /// date. Which others are due the records of the logs say, with the files and what due edges make. A recorded input that is
+    /// missing is no missing source. Whatever others write, what is named is a target, or an input of an edge of the cone.
+    ///
+    /// Commands may run meanwhile: what a due edge makes is not looked at. What was found is so at each point of the same steps
+    /// whose files are those of now at the paths that may be looked at.
+    ///
+    /// What was seen of a path is not asked for again. Of a command that reads what a due edge makes only inputs are asked for,
+    /// and it takes time for its regular and recorded inputs alone; any other command that was not judged is judged by `reason`,
+    /// which walks what it reads through phony edges: the sums of before are forgotten, and these are as if nothing was made anew.
+    /// Memory is taken for one flag for each edge of the graph, and for what `reason` takes.
+    pub fn sources<S: Site>(
+        &mut self,
+        site: &mut S,
+        graph: &Graph,
+        cone: &Cone,
+        plan: &Plan,
+        records: &Records,
+    ) -> Result<Found, SiteFault>
+        requires running { (S.world site.old).stopped ≡ false }
+        requires fits { length self.old.seen.items ≡ length graph.now.manifest.paths }
+        requires order { All (λ e. e < length graph.now.manifest.lines) cone.now.order.items }
+        requires targets { All (λ p. p < length graph.now.manifest.paths) cone.now.targets.items }
+        requires plan { vec_len plan.now.standings ≡ length graph.now.manifest.lines }
+        ensures looked { HasLookedAt S.tells S.world site.old site.new graph.now self.old self.new }
+        ensures cause { HasCause (S.world site.old) (S.world site.new) result }
+        ensures found { FindsLack S.tells S.world site.old site.new graph.now records.now cone.now plan.now self.old result }
+        ensures due { FindsFlags S.tells S.world site.old site.new graph.now records.now cone.now plan.now self.old result }
+        ensures within { IfOk result (λ found. IfSome (lack_in found) (IsLackOf graph.now)) }
+        ensures asked { IfOk result (λ found. IfSome (lack_in found) (λ lack. IsAskedLack cone.now lack)) }
+    {
+        looks_follow();
+        lists_stand(graph);
+        let targets = cone.targets.as_slice();
+        match self.first_missing(site, graph, targets)? {
+            Some(path) => Ok(Found::Missing(Lack {
+                path,
+                needed_by: None,
+            })),
+            None => {
+                let due = self.due_edges(site, graph, cone, plan, records)?;
+                match self.lack_of_due(site, graph, &due)? {
+                    Some(lack) => Ok(Found::Missing(lack)),
+                    None => Ok(Found::Present(due)),
+                }
             }
         }
     }
-}
 
-/// The first missing input of the lowest due edge that has one.
-fn lack_of_due<S: Site>(
-    site: &mut S,
-    graph: &Graph,
-    looks: &mut Looks,
-    due: &[bool],
-) -> Result<Option<Lack>, SiteFault>
-    requires running { (S.world site.old).stopped ≡ false }
-    requires fits { length looks.old.seen.items ≡ length graph.now.manifest.paths }
-    requires due { length due.now ≡ length graph.now.manifest.lines }
-    ensures looked { HasLookedAt S.tells S.world site.old site.new graph.now looks.old looks.new }
-    ensures cause { HasCause (S.world site.old) (S.world site.new) result }
-    ensures found { FindsFirstOfDue S.tells S.world site.old site.new graph.now looks.old due.now result }
-    ensures within { IfOk result (λ found. IfSome found (IsLackOf graph.now)) }
-    ensures named { IfOk result (λ found. IfSome found (λ lack. NamesDue due.now lack.needed_by)) }
-{
-    looks_follow();
-    for place in 0..graph.edges() {
-        let edge = graph.manifest.edge(place);
-        if let Some(path) = missing_of_edge(site, graph, looks, due, edge)? {
-            return Ok(Some(Lack {
-                path,
-                needed_by: Some(edge),
-            }));
+    /// The first missing input of the lowest due edge that has one.
+    fn lack_of_due<S: Site>(
+        &mut self,
+        site: &mut S,
+        graph: &Graph,
+        due: &[bool],
+    ) -> Result<Option<Lack>, SiteFault>
+        requires running { (S.world site.old).stopped ≡ false }
+        requires fits { length self.old.seen.items ≡ length graph.now.manifest.paths }
+        requires due { length due.now ≡ length graph.now.manifest.lines }
+        ensures looked { HasLookedAt S.tells S.world site.old site.new graph.now self.old self.new }
+        ensures cause { HasCause (S.world site.old) (S.world site.new) result }
+        ensures found { FindsFirstOfDue S.tells S.world site.old site.new graph.now self.old due.now result }
+        ensures within { IfOk result (λ found. IfSome found (IsLackOf graph.now)) }
+        ensures named { IfOk result (λ found. IfSome found (λ lack. NamesDue due.now lack.needed_by)) }
+    {
+        looks_follow();
+        for place in 0..graph.edges() {
+            let edge = graph.manifest.edge(place);
+            if let Some(path) = self.missing_of_edge(site, graph, due, edge)? {
+                return Ok(Some(Lack {
+                    path,
+                    needed_by: Some(edge),
+                }));
+            }
         }
-    }
-    Ok(None)
-}
-
-/// The first missing input of the edge, where it is due.
-fn missing_of_edge<S: Site>(
-    site: &mut S,
-    graph: &Graph,
-    looks: &mut Looks,
-    due: &[bool],
-    edge: EdgeId,
-) -> Result<Option<PathId>, SiteFault>
-    requires running { (S.world site.old).stopped ≡ false }
-    requires fits { length looks.old.seen.items ≡ length graph.now.manifest.paths }
-    requires within { edge < length graph.now.manifest.lines }
-    requires due { length due.now ≡ length graph.now.manifest.lines }
-    ensures looked { HasLookedAt S.tells S.world site.old site.new graph.now looks.old looks.new }
-    ensures cause { HasCause (S.world site.old) (S.world site.new) result }
-    ensures first { FindsFirstOf S.tells S.world site.old site.new graph.now looks.old due.now edge result }
-    ensures within { IfOk result (λ found. IfSome found (IsSourceFor graph.now edge)) }
-    ensures marked { IfOk result (λ found. IfSome found (λ path. due_at due.now edge ≡ true)) }
-{
-    lists_stand(graph);
-    if due[edge.index()] {
-        first_missing(site, graph, looks, graph.inputs(edge))
-    } else {
         Ok(None)
     }
-}
 
-/// The first of these paths that is missing.
-fn first_missing<S: Site>(
-    site: &mut S,
-    graph: &Graph,
-    looks: &mut Looks,
-    paths: &[PathId],
-) -> Result<Option<PathId>, SiteFault>
-    requires running { (S.world site.old).stopped ≡ false }
-    requires fits { length looks.old.seen.items ≡ length graph.now.manifest.paths }
-    requires within { All (λ p. p < length graph.now.manifest.paths) paths.now }
-    ensures looked { HasLookedAt S.tells S.world site.old site.new graph.now looks.old looks.new }
-    ensures cause { HasCause (S.world site.old) (S.world site.new) result }
-    ensures first { FindsFirst S.tells S.world site.old site.new graph.now looks.old paths.now result }
-    ensures within { IfOk result (λ found. IfSome found (IsSourceOf graph.now paths.now)) }
-{
-    looks_follow();
-    for path in paths {
-        if is_missing(site, graph, looks, *path)? {
-            return Ok(Some(*path));
+    /// The first missing input of the edge, where it is due.
+    fn missing_of_edge<S: Site>(
+        &mut self,
+        site: &mut S,
+        graph: &Graph,
+        due: &[bool],
+        edge: EdgeId,
+    ) -> Result<Option<PathId>, SiteFault>
+        requires running { (S.world site.old).stopped ≡ false }
+        requires fits { length self.old.seen.items ≡ length graph.now.manifest.paths }
+        requires within { edge < length graph.now.manifest.lines }
+        requires due { length due.now ≡ length graph.now.manifest.lines }
+        ensures looked { HasLookedAt S.tells S.world site.old site.new graph.now self.old self.new }
+        ensures cause { HasCause (S.world site.old) (S.world site.new) result }
+        ensures first { FindsFirstOf S.tells S.world site.old site.new graph.now self.old due.now edge result }
+        ensures within { IfOk result (λ found. IfSome found (IsSourceFor graph.now edge)) }
+        ensures marked { IfOk result (λ found. IfSome found (λ path. due_at due.now edge ≡ true)) }
+    {
+        lists_stand(graph);
+        if due[edge.index()] {
+            self.first_missing(site, graph, graph.inputs(edge))
+        } else {
+            Ok(None)
         }
     }
-    Ok(None)
-}
 
-/// Whether no edge makes the path and it is absent.
-fn is_missing<S: Site>(
-    site: &mut S,
-    graph: &Graph,
-    looks: &mut Looks,
-    path: PathId,
-) -> Result<bool, SiteFault>
-    requires running { (S.world site.old).stopped ≡ false }
-    requires fits { length looks.old.seen.items ≡ length graph.now.manifest.paths }
-    requires within { path < length graph.now.manifest.paths }
-    ensures looked { HasLookedAt S.tells S.world site.old site.new graph.now looks.old looks.new }
-    ensures cause { HasCause (S.world site.old) (S.world site.new) result }
-    ensures missing { FindsMissing S.tells S.world site.old site.new graph.now looks.old path result }
-    ensures source { IfOk result (λ is. is ≡ true → IsSourceAt graph.now path) }
-{
-    match graph.maker(path) {
-        Some(_) => Ok(false),
-        None => is_absent(site, graph, looks, path),
+    /// The first of these paths that is missing.
+    fn first_missing<S: Site>(
+        &mut self,
+        site: &mut S,
+        graph: &Graph,
+        paths: &[PathId],
+    ) -> Result<Option<PathId>, SiteFault>
+        requires running { (S.world site.old).stopped ≡ false }
+        requires fits { length self.old.seen.items ≡ length graph.now.manifest.paths }
+        requires within { All (λ p. p < length graph.now.manifest.paths) paths.now }
+        ensures looked { HasLookedAt S.tells S.world site.old site.new graph.now self.old self.new }
+        ensures cause { HasCause (S.world site.old) (S.world site.new) result }
+        ensures first { FindsFirst S.tells S.world site.old site.new graph.now self.old paths.now result }
+        ensures within { IfOk result (λ found. IfSome found (IsSourceOf graph.now paths.now)) }
+    {
+        looks_follow();
+        for path in paths {
+            if self.is_missing(site, graph, *path)? {
+                return Ok(Some(*path));
+            }
+        }
+        Ok(None)
+    }
+
+    /// Whether no edge makes the path and it is absent.
+    fn is_missing<S: Site>(
+        &mut self,
+        site: &mut S,
+        graph: &Graph,
+        path: PathId,
+    ) -> Result<bool, SiteFault>
+        requires running { (S.world site.old).stopped ≡ false }
+        requires fits { length self.old.seen.items ≡ length graph.now.manifest.paths }
+        requires within { path < length graph.now.manifest.paths }
+        ensures looked { HasLookedAt S.tells S.world site.old site.new graph.now self.old self.new }
+        ensures cause { HasCause (S.world site.old) (S.world site.new) result }
+        ensures missing { FindsMissing S.tells S.world site.old site.new graph.now self.old path result }
+        ensures source { IfOk result (λ is. is ≡ true → IsSourceAt graph.now path) }
+    {
+        match graph.maker(path) {
+            Some(_) => Ok(false),
+            None => self.is_absent(site, graph, path),
+        }
     }
 }

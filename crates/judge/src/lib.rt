@@ -21,8 +21,7 @@ mod stamp;
 mod sums;
 
 pub use input_facts::Inputs;
-pub use judgement::reason;
-pub use lack::{Found, Lack, sources};
+pub use lack::{Found, Lack};
 pub use laws::{looks_follow, sums_follow};
 pub use looks::{Look, Looks};
 pub use model::Reason;

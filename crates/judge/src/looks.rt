@@ -8,6 +8,7 @@ ghost use Rattle.judge.specs.Looking.{HasLookedAt, StaysRight, FindsStamp, was_a
 ghost use Rattle.judge.specs.Looking.{KeepsAsked, HasAsked, KeepsAll, KeepsAllBut, StaysSeenIn, HasForgotten, KeepsOthers};
 ghost use Rattle.judge.specs.Seen.{look_at, look_of};
 
+use crate::sums::Sums;
 use graph::Graph;
 use model::SiteFault;
 use paths::PathId;
@@ -30,6 +31,8 @@ pub enum Look {
 #[derive(Drop)]
 pub struct Looks {
     pub seen: Vec<Look>,
+    /// What the inputs of phony edges come to by that.
+    pub sums: Sums,
 }
 
 impl Looks {
@@ -39,6 +42,7 @@ impl Looks {
     {
         Ok(Looks {
             seen: vec![in alloc; Look::Unasked; graph.paths()]?,
+            sums: Sums::new(alloc),
         })
     }
 
@@ -61,6 +65,7 @@ impl Looks {
         ensures kept { StaysRight S.tells S.world site.old site.new graph.now self.old self.new }
         ensures stamp { FindsStamp S.tells S.world site.old site.new graph.now self.old path result }
         ensures stays { KeepsAsked self.old self.new }
+        ensures sums { self.new.sums ≡ self.old.sums }
         ensures err { OnErr result (self.new ≡ self.old) }
     {
         let place = path.index();
@@ -87,6 +92,7 @@ impl Looks {
         requires within { (p : ℕ) → has_number paths.now p ≡ true → p < length graph.now.manifest.paths }
         ensures looked { HasLookedAt S.tells S.world site.old site.new graph.now self.old self.new }
         ensures cause { HasCause (S.world site.old) (S.world site.new) result }
+        ensures sums { self.new.sums ≡ self.old.sums }
         ensures asked { OnOk result (HasAsked paths.now self.new) }
     {
         for path in paths {
@@ -131,6 +137,7 @@ impl Looks {
         ensures forgotten { HasForgotten paths.now self.new }
         ensures others { KeepsOthers paths.now self.old self.new }
         ensures fits { length self.new.seen.items ≡ length self.old.seen.items }
+        ensures sums { self.new.sums ≡ self.old.sums }
     {
         for path in paths {
             self.forget_one(*path);
@@ -142,6 +149,7 @@ impl Looks {
         ensures forgotten { look_at self.new.seen.items path ≡ Unasked }
         ensures others { KeepsAllBut path self.old self.new }
         ensures fits { length self.new.seen.items ≡ length self.old.seen.items }
+        ensures sums { self.new.sums ≡ self.old.sums }
     {
         let place = path.index();
         if place < self.seen.len() {

@@ -9,41 +9,43 @@ ghost use Rattle.judge.specs.Facts.{FindsMade, IsDepsStart};
 use crate::laws::looks_follow;
 use crate::looks::Looks;
 use crate::output_facts::{OutputFacts, Outputs};
-use crate::stamp::stamp_of;
 use graph::Graph;
 use model::{Act, SiteFault};
 use paths::PathId;
 use records::Records;
 use site::Site;
 
-/// The facts of these outputs of an edge that does this now.
-pub(crate) fn outputs_of<S: Site>(
-    site: &mut S,
-    graph: &Graph,
-    looks: &mut Looks,
-    records: &Records,
-    act: &Act,
-    paths: &[PathId],
-) -> Result<Outputs, SiteFault>
-    requires running { (S.world site.old).stopped ≡ false }
-    requires fits { length looks.old.seen.items ≡ length graph.now.manifest.paths }
-    requires within { (p : ℕ) → has_number paths.now p ≡ true → p < length graph.now.manifest.paths }
-    ensures looked { HasLookedAt S.tells S.world site.old site.new graph.now looks.old looks.new }
-    ensures cause { HasCause (S.world site.old) (S.world site.new) result }
-    ensures outputs { FindsMade S.tells S.world site.old site.new graph.now records.now looks.old act.now paths.now result }
-{
-    looks_follow();
-    let mut outputs = Outputs::new();
-    for path in paths {
-        let stamp = stamp_of(site, graph, looks, *path)?;
-        let facts = OutputFacts {
-            stamp,
-            made: records.made(*path),
-            deps_start: deps_start(records, *path),
-        };
-        outputs.add(act, &facts);
+impl Looks {
+    /// The facts of these outputs of an edge that does this now.
+    pub(crate) fn outputs_of<S: Site>(
+        &mut self,
+        site: &mut S,
+        graph: &Graph,
+        records: &Records,
+        act: &Act,
+        paths: &[PathId],
+    ) -> Result<Outputs, SiteFault>
+        requires running { (S.world site.old).stopped ≡ false }
+        requires fits { length self.old.seen.items ≡ length graph.now.manifest.paths }
+        requires within { (p : ℕ) → has_number paths.now p ≡ true → p < length graph.now.manifest.paths }
+        ensures looked { HasLookedAt S.tells S.world site.old site.new graph.now self.old self.new }
+        ensures cause { HasCause (S.world site.old) (S.world site.new) result }
+        ensures sums { self.new.sums ≡ self.old.sums }
+        ensures outputs { FindsMade S.tells S.world site.old site.new graph.now records.now self.old act.now paths.now result }
+    {
+        looks_follow();
+        let mut outputs = Outputs::new();
+        for path in paths {
+            let stamp = self.stamp_of(site, graph, *path)?;
+            let facts = OutputFacts {
+                stamp,
+                made: records.made(*path),
+                deps_start: deps_start(records, *path),
+            };
+            outputs.add(act, &facts);
+        }
+        Ok(outputs)
     }
-    Ok(outputs)
 }
 
 /// The start that the deps record of the path names.

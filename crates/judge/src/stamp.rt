@@ -10,20 +10,23 @@ use model::SiteFault;
 use paths::PathId;
 use site::Site;
 
-/// The stamp of the file at the path, or nothing where there is no file.
-pub(crate) fn stamp_of<S: Site>(
-    site: &mut S,
-    graph: &Graph,
-    looks: &mut Looks,
-    path: PathId,
-) -> Result<Option<u64>, SiteFault>
-    requires running { (S.world site.old).stopped ≡ false }
-    requires fits { length looks.old.seen.items ≡ length graph.now.manifest.paths }
-    requires within { path < length graph.now.manifest.paths }
-    ensures looked { HasLookedAt S.tells S.world site.old site.new graph.now looks.old looks.new }
-    ensures cause { HasCause (S.world site.old) (S.world site.new) result }
-    ensures seen { IfOk result (λ stamp. IsNoted looks.new path stamp) }
-    ensures stamp { FindsStamp S.tells S.world site.old site.new graph.now looks.old path result }
-{
-    looks.stamp(site, graph, path)
+impl Looks {
+    /// The stamp of the file at the path, or nothing where there is no file.
+    pub(crate) fn stamp_of<S: Site>(
+        &mut self,
+        site: &mut S,
+        graph: &Graph,
+        path: PathId,
+    ) -> Result<Option<u64>, SiteFault>
+        requires running { (S.world site.old).stopped ≡ false }
+        requires fits { length self.old.seen.items ≡ length graph.now.manifest.paths }
+        requires within { path < length graph.now.manifest.paths }
+        ensures looked { HasLookedAt S.tells S.world site.old site.new graph.now self.old self.new }
+        ensures cause { HasCause (S.world site.old) (S.world site.new) result }
+        ensures sums { self.new.sums ≡ self.old.sums }
+        ensures seen { IfOk result (λ stamp. IsNoted self.new path stamp) }
+        ensures stamp { FindsStamp S.tells S.world site.old site.new graph.now self.old path result }
+    {
+        self.stamp(site, graph, path)
+    }
 }

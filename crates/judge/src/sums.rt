@@ -38,6 +38,11 @@ impl Sums {
         }
     }
 
+    /// With what memory is taken.
+    pub(crate) fn alloc(&self) -> Global {
+        self.alloc
+    }
+
     /// Forgets all that is known, and its memory.
     pub fn clear(&mut self)
         ensures summed { AreAnySums self.new }

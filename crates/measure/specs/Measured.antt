@@ -1,6 +1,7 @@
 -- What stands at a path, as a site measures it that tells its files.
 use Rattle.std.specs.Prelude.{ℕ, List, Option, Some, None, length}
-use Rattle.model.specs.World.{File}
+use Rattle.model.specs.World.{World, File, file_at}
+use Rattle.model.specs.Calls.{Sees}
 use Rattle.measure.specs.declared.measure.Measure.{Measure}
 
 -- it was put there when it was written
@@ -15,3 +16,11 @@ measured_at (Some file) = Some (measure_of file)
 abbrev pub read_at : Option File → Option (List ℕ × Measure)
 read_at None = None
 read_at (Some file) = Some (file.content, measure_of file)
+
+-- in a call between these worlds this was found of the file at the path
+abbrev pub SeesMeasure : List ℕ → World → World → Option Measure → Type 0
+SeesMeasure path old new found = Sees (λ history. measured_at (file_at history path)) found old.history new.history
+
+-- and so was what it holds, with that
+abbrev pub SeesRead : List ℕ → World → World → Option (List ℕ × Measure) → Type 0
+SeesRead path old new found = Sees (λ history. read_at (file_at history path)) found old.history new.history

@@ -1,9 +1,8 @@
 //! What a site tells of a file beside its stamp.
 
 ghost use Rattle.std.specs.Prelude.{IsTrue, IfOk};
-ghost use Rattle.model.specs.World.{file_at};
-ghost use Rattle.model.specs.Calls.{HasCause, KeepsWait, OnlyLooks, Sees};
-ghost use Rattle.measure.specs.Measured.{measured_at, read_at};
+ghost use Rattle.model.specs.Calls.{HasCause, KeepsWait, OnlyLooks};
+ghost use Rattle.measure.specs.Measured.{SeesMeasure, SeesRead};
 
 use site::{Site, SiteFault};
 use text::Bytes;
@@ -27,14 +26,14 @@ pub trait Measured: Site {
         ensures looks { OnlyLooks Self.tells (Self.world self.old) (Self.world self.new) }
         ensures cause { HasCause (Self.world self.old) (Self.world self.new) result }
         ensures waits { KeepsWait (Self.world self.old) (Self.world self.new) }
-        ensures measure { IsTrue Self.tells → IfOk result (λ found. Sees (λ history. measured_at (file_at history path.now)) found (Self.world self.old).history (Self.world self.new).history) };
+        ensures measure { IsTrue Self.tells → IfOk result (SeesMeasure path.now (Self.world self.old) (Self.world self.new)) };
 
     /// What the file at the path holds, and its measure, in one look, or nothing where there is no file.
     fn read_measured(&mut self, path: &str) -> Result<Option<(Bytes, Measure)>, SiteFault>
         ensures looks { OnlyLooks Self.tells (Self.world self.old) (Self.world self.new) }
         ensures cause { HasCause (Self.world self.old) (Self.world self.new) result }
         ensures waits { KeepsWait (Self.world self.old) (Self.world self.new) }
-        ensures content { IsTrue Self.tells → IfOk result (λ found. Sees (λ history. read_at (file_at history path.now)) found (Self.world self.old).history (Self.world self.new).history) };
+        ensures content { IsTrue Self.tells → IfOk result (SeesRead path.now (Self.world self.old) (Self.world self.new)) };
 
     /// What time it is, in the numbers of stamps; 0 where that is not known. No clause says that it is right: a clock is not told.
     fn now(&self) -> u64;

@@ -3,7 +3,7 @@
 ghost use Rattle.std.specs.Prelude.{◌≡◌, ◌≤◌, false, IfOk};
 
 use crate::told::{self, Telling};
-use builder::{Options, Report};
+use builder::{Held, Options, Report};
 use host::{Host, Trouble};
 use measure::Measured;
 use ninja_asked::{Asking, default_jobs};
@@ -22,7 +22,7 @@ use std::marker::Brand;
 use std::mem::forget;
 use std::{env, io};
 use text::Text;
-use tools::{Declared, Fault, Switches, Tool, Usage, split_switches};
+use tools::{Fault, Switches, Tool, Usage, split_switches};
 
 /// What the program finds around it.
 #[derive(Clone, Copy)]
@@ -251,7 +251,7 @@ fn build_over<S: Place + Measured + Drop>(
     site: S,
     given: &Given<'_>,
     options: &Options,
-) -> (Ended, Option<Declared>, S)
+) -> (Ended, Option<Held>, S)
     requires { S.tells ≡ false }
 {
     let mut seen: Seen<S, Brand> = Seen::new(alloc, site);
@@ -280,7 +280,7 @@ fn build_there<S: Place>(
     site: &mut S,
     given: &Given<'_>,
     options: &Options,
-) -> (Ended, Option<Declared>) {
+) -> (Ended, Option<Held>) {
     site.restart();
     build_here(alloc, site, given, options)
 }

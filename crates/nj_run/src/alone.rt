@@ -15,7 +15,6 @@ use builder::{
 };
 use depfile::has_reading;
 use dyndep_law::has_reading as has_dyndeps;
-use graph::Graph;
 use host::Host;
 use log_text::has_format;
 use measure::Measured;
@@ -28,14 +27,6 @@ use text::Text;
 
 /// So often it is read anew because somebody was waited for; then it is built whoever may be there.
 const ROUNDS: u32 = u32::MAX;
-
-/// The graph of a build that has ended, and what that holds beside, if it came so far: it has served, and who ends the program right after
-/// need not let it go.
-#[derive(Drop)]
-pub struct Left {
-    pub graph: Graph,
-    pub held: Option<Held>,
-}
 
 /// A site in whose folder others may build too: other programs, and commands that run on after a build that was killed. No clause
 /// says that it waits for them, since of other programs none tells anything: what one may rest on is that it does nothing else.
@@ -97,14 +88,14 @@ impl<S: Alone + Measured, B: Beginning> Alone for Seen<S, B> {
 }
 
 /// Builds the targets once nobody else is at work in the folder, as [`builder::build`] does: what it reads is what is there by then, and
-/// what may help whoever watches is noted of that. What is left of the build comes with the report, if there was a graph.
+/// what may help whoever watches is noted of that. What it holds at its end comes with the report, if it came so far.
 pub fn build_alone<S: Alone>(
     alloc: Global,
     site: &mut S,
     options: &Options,
     targets: &[Text],
     noted: &mut Noted<'_>,
-) -> (Report, Option<Left>)
+) -> (Report, Option<Held>)
     requires { IsIdle (S.world site.old).events }
     ensures { IsBuiltAlone S.tells S.outcome options.now targets.now (S.world site.old) (S.world site.new) result.0 }
 {
@@ -121,13 +112,13 @@ pub fn build_alone<S: Alone>(
     }
 }
 
-/// Builds what was read, as [`builder::build_read`] does, and hands out what is left, if that makes a graph.
+/// Builds what was read, as [`builder::build_read`] does, and hands out what that holds at its end, if it came so far.
 fn build_leaving<S: Site>(
     alloc: Global,
     site: &mut S,
     reading: Reading<'_>,
     options: &Options,
-) -> (Report, Option<Left>)
+) -> (Report, Option<Held>)
     requires idle { IsIdle (S.world site.old).events }
     requires running { (S.world site.old).stopped ≡ false }
     requires formed { IsGraph (graph_of reading.manifest) }
@@ -135,10 +126,7 @@ fn build_leaving<S: Site>(
 {
     let Reading { manifest, asked } = reading;
     match link(alloc, manifest, asked.folder.as_str()) {
-        Ok(mut graph) => {
-            let (report, held) = build_graph_holding(alloc, site, &mut graph, &asked, options);
-            (report, Some(Left { graph, held }))
-        }
+        Ok(graph) => build_graph_holding(alloc, site, graph, &asked, options),
         Err(report) => (report, None),
     }
 }

@@ -18,7 +18,7 @@ mod traces;
 mod whys;
 mod words_laws;
 
-pub use alone::{Alone, Left, build_alone, explain_alone};
+pub use alone::{Alone, build_alone, explain_alone};
 pub use command::options;
 pub use environment::Environment;
 pub use given::Options;

@@ -10,14 +10,14 @@ ghost use Rattle.nj_run.specs.Alone.{BuildsAlone};
 ghost use Rattle.nj_run.specs.Asked.{AreHandedOn, pattern_text};
 ghost use Rattle.nj_run.specs.Ends.{Comes, Ends, EndsFor, EndsNoted, EndsWell};
 
-use crate::alone::{Alone, Left, build_alone, explain_alone};
+use crate::alone::{Alone, build_alone, explain_alone};
 use crate::audited::audit_asked;
 use crate::command::options;
 use crate::environment::Environment;
 use crate::given::Options as Asked;
 use crate::noted::Noted;
 use crate::{told, whys};
-use builder::{Explained, Options, Report};
+use builder::{Explained, Held, Options, Report};
 use host::{Host, Trouble};
 use measure::Measured;
 use seen::Seen;
@@ -230,7 +230,7 @@ fn build_here<W: Write>(
 }
 
 /// What is left of the build has served. Where no build file is read any more the program ends right after this, and then all goes at once.
-fn leave(left: Option<Left>, may_read: bool) {
+fn leave(left: Option<Held>, may_read: bool) {
     if may_read {
         drop(left);
     } else {
@@ -258,7 +258,7 @@ pub(crate) fn build_over<S: Alone + Measured + Drop>(
     asked: &Asked<'_>,
     environment: Environment<'_>,
     noted: &mut Noted<'_>,
-) -> (Report, Option<Left>, S)
+) -> (Report, Option<Held>, S)
     requires idle { IsIdle (S.world site).events }
     requires untold { S.tells ≡ false }
     ensures { (later : World) × BuildsAlone false S.outcome asked.now (S.world site) later result.0 }
@@ -278,7 +278,7 @@ fn build_by_stamps<S: Alone + Drop>(
     asked: &Asked<'_>,
     pattern: Option<&str>,
     noted: &mut Noted<'_>,
-) -> (Report, Option<Left>, S)
+) -> (Report, Option<Held>, S)
     requires idle { IsIdle (S.world site).events }
     ensures { (later : World) × BuildsAlone S.tells S.outcome asked.now (S.world site) later result.0 }
 {
@@ -288,14 +288,14 @@ fn build_by_stamps<S: Alone + Drop>(
 }
 
 /// Builds what is asked for on a site, whatever folder is asked for, once nobody else is at work there. Where no pattern is given,
-/// lines have the default one. What is left of the build comes with the report, if there was a graph.
+/// lines have the default one. What it holds at its end comes with the report, if it came so far.
 pub fn build_on<S: Alone>(
     alloc: Global,
     site: &mut S,
     asked: &Asked<'_>,
     pattern: Option<&str>,
     noted: &mut Noted<'_>,
-) -> (Report, Option<Left>)
+) -> (Report, Option<Held>)
     requires idle { IsIdle (S.world site.old).events }
     ensures { BuildsAlone S.tells S.outcome asked.now (S.world site.old) (S.world site.new) result.0 }
 {

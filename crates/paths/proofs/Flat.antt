@@ -161,7 +161,3 @@ pub pushed_lines : (old new : List ℕ) (rows after : List Row) (row : Row) (lin
 pushed_lines old new rows after row lines line view lie added grown =
     ap (map (line_of new)) grown ∙ (map-append (line_of new) rows (row ∷ [])
     ∙ (ap (λ (l : List Line). l ++ line_of new row ∷ []) (left_lines old new rows lines view lie added.extends) ∙ ap (λ (l : Line). lines ++ l ∷ []) added.is))
-
-pub pushed_rows : (old new : List ℕ) (rows after : List Row) (row : Row) (line : Line) → AreRowsIn (length old) rows → IsAppended old new line row → after ≡ rows ++ row ∷ [] → AreRowsIn (length new) after
-pushed_rows old new rows after row line lie added grown =
-    subst (AreRowsIn (length new)) (sym grown) (rows_push (length new) rows row (left_rows old new rows lie added.extends) added.lies)

@@ -1,12 +1,13 @@
 -- A line that grows: its lists are put at the end once more.
-use Rattle.std.proofs.Common.{◌≡◌, ℕ, zero, suc, ◌+◌, ◌<◌, ◌≤◌, List, [], ◌∷◌, ◌++◌, map, length, take, get_or, refl, sym, ◌∙◌, ap, arith, length-append, append_assoc}
+use Rattle.std.proofs.Common.{◌≡◌, inl, ℕ, zero, suc, ◌+◌, ◌<◌, ◌≤◌, List, [], ◌∷◌, ◌++◌, map, length, take, get_or, refl, sym, ◌∙◌, ap, arith, length-append, append_assoc}
 use Rattle.std.proofs.Math.ListN.{set}
 use Rattle.std.proofs.Math.Seq.{take-suc}
 use Rattle.std.proofs.lemmas.List.{map-set}
 use Rattle.paths.specs.declared.line.Line.{Line}
 use Rattle.paths.specs.declared.lines.Row.{Row}
-use Rattle.paths.specs.Lists.{no_line, between, line_of, grown_line, IsRowIn, AreRowsIn, Extends, IsAppended}
+use Rattle.paths.specs.Lists.{no_line, between, line_of, grown_line, IsRowIn, AreRowsIn, AreLaidOut, Extends, IsAppended}
 use Rattle.paths.proofs.Flat.{between_more, between_last, same_line, left_lines, left_rows, row_found}
+use Rattle.paths.proofs.Apart.{apart_set, row_within}
 
 -- ---- a list that became longer
 
@@ -82,7 +83,7 @@ module _ (xs n1 n2 n3 n4 n5 n6 p1 p2 p3 p4 p5 p6 : List ℕ) (after : Row) (g1 :
   }
 
   pub lists_appended : IsAppended xs n6 (record { explicit_outputs = p1; implicit_outputs = p2; explicit_inputs = p3; implicit_inputs = p4; order_only_inputs = p5; validations = p6 }) after
-  lists_appended = record { extends = extends_front xs n1 n6 p1 g1 l1; lies = lists_lie; is = lists_are }
+  lists_appended = record { extends = extends_front xs n1 n6 p1 g1 l1; lies = lists_lie; is = lists_are; behind = omega (arith, e0) }
 
 module _ (xs n1 n2 n3 n4 n5 n6 : List ℕ) (row after : Row) (lies : IsRowIn (length xs) row) (outputs inputs : List ℕ)
     (g1 : n1 ≡ xs ++ between xs row.start row.explicit_outputs) (g2 : n2 ≡ n1 ++ (between n1 row.explicit_outputs row.implicit_outputs ++ outputs))
@@ -123,6 +124,7 @@ module _ (xs n1 n2 n3 n4 n5 n6 : List ℕ) (row after : Row) (lies : IsRowIn (le
       record {
         extends = whole.extends;
         lies = whole.lies;
+        behind = omega (arith, e0);
         is = whole.is ∙ same_line _ _ _ _ _ _ _ _ _ _ _ _
             refl
             (ap (λ (l : List ℕ). l ++ outputs) (still xs n1 row.explicit_outputs row.implicit_outputs x1 lies.implicit_outputs implicit_outputs_low))
@@ -134,13 +136,16 @@ module _ (xs n1 n2 n3 n4 n5 n6 : List ℕ) (row after : Row) (lies : IsRowIn (le
 
 -- ---- the row of an edge
 
-rows_set : (n : ℕ) (rows : List Row) (place : ℕ) (row : Row) → AreRowsIn n rows → IsRowIn n row → AreRowsIn n (set rows place row)
+pub rows_set : (n : ℕ) (rows : List Row) (place : ℕ) (row : Row) → AreRowsIn n rows → IsRowIn n row → AreRowsIn n (set rows place row)
 rows_set n [] place row lie lies = tt
 rows_set n (first ∷ rows) zero row lie lies = (lies, lie.1)
 rows_set n (first ∷ rows) (suc place) row lie lies = (lie.0, rows_set n rows place row lie.1 lies)
 
-pub grown_rows : (old new : List ℕ) (rows : List Row) (place : ℕ) (row : Row) (line : Line) → AreRowsIn (length old) rows → IsAppended old new line row → AreRowsIn (length new) (set rows place row)
-grown_rows old new rows place row line lie added = rows_set (length new) rows place row (left_rows old new rows lie added.extends) added.lies
+pub grown_rows : (old new : List ℕ) (rows : List Row) (place : ℕ) (row : Row) (line : Line) → AreLaidOut (length old) rows → IsAppended old new line row → AreLaidOut (length new) (set rows place row)
+grown_rows old new rows place row line laid added = record {
+  lie = rows_set (length new) rows place row (left_rows old new rows laid.lie added.extends) added.lies;
+  apart = apart_set rows place row laid.apart (λ k within. let low = row_within (length old) rows k laid.lie within in let behind = added.behind in inl (omega (arith, low, behind)));
+}
 
 pub grown_lines : (old new : List ℕ) (rows : List Row) (place : ℕ) (row : Row) (lines : List Line) (line : Line) → map (line_of old) rows ≡ lines → AreRowsIn (length old) rows → IsAppended old new line row
     → map (line_of new) (set rows place row) ≡ set lines place line

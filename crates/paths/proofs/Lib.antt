@@ -2,3 +2,5 @@ pub mod Places
 pub mod Flat
 pub mod Naming
 pub mod Growing
+pub mod Apart
+pub mod Shrinking

@@ -3,3 +3,4 @@ pub mod Lists
 pub mod Commands
 pub mod Told
 pub mod Grown
+pub mod Shrunk

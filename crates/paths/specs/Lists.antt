@@ -1,5 +1,5 @@
 -- The lists of paths that edges have, as they stand in flat memory.
-use Rattle.std.specs.Prelude.{◌≡◌, ℕ, ◌≤◌, ◌-◌, List, [], ◌++◌, length, take, drop, get_or}
+use Rattle.std.specs.Prelude.{◌≡◌, ◌⊎◌, ℕ, ◌<◌, ◌≤◌, ◌-◌, List, [], ◌++◌, length, take, drop, get_or}
 use Rattle.std.specs.List.{AllByRecursion, flat_map}
 use Rattle.paths.specs.declared.line.Line.{Line}
 use Rattle.paths.specs.declared.lines.Row.{Row}
@@ -71,8 +71,22 @@ pub record IsRowIn (count : ℕ) (row : Row) : Type 0 where
   pub validations : row.order_only_inputs ≤ row.validations
   pub within : row.validations ≤ count
 
+abbrev pub no_row : Row
+no_row = record { start = 0; explicit_outputs = 0; implicit_outputs = 0; explicit_inputs = 0; implicit_inputs = 0; order_only_inputs = 0; validations = 0 }
+
+abbrev pub row_at : List Row → ℕ → Row
+row_at rows k = get_or rows k no_row
+
 abbrev pub AreRowsIn : ℕ → List Row → Type 0
 AreRowsIn count rows = AllByRecursion (IsRowIn count) rows
+
+-- no two of them share a place
+abbrev pub AreApart : List Row → Type 0
+AreApart rows = (j k : ℕ) → j < k → k < length rows → ((row_at rows j).validations ≤ (row_at rows k).start) ⊎ ((row_at rows k).validations ≤ (row_at rows j).start)
+
+pub record AreLaidOut (count : ℕ) (rows : List Row) : Type 0 where
+  pub lie : AreRowsIn count rows
+  pub apart : AreApart rows
 
 -- ---- one more line
 
@@ -85,6 +99,7 @@ pub record IsAppended (old new : List ℕ) (line : Line) (row : Row) : Type 0 wh
   pub extends : Extends old new
   pub lies : IsRowIn (length new) row
   pub is : line_of new row ≡ line
+  pub behind : length old ≤ row.start
 
 -- the numbers of all paths of these lines
 abbrev pub all_paths : List Line → List ℕ

@@ -1,9 +1,10 @@
 //! The paths of all edges, in flat memory.
 
-ghost use Rattle.std.specs.Prelude.{◌≡◌, ◌<◌, ◌++◌, ◌∷◌, ◌≤◌, [], length, vec_len, IfOk, OnOk, OnErr};
+ghost use Rattle.std.specs.Prelude.{◌≡◌, ◌<◌, ◌++◌, ◌∷◌, ◌≤◌, ◌-◌, [], length, vec_len, IfOk, OnOk, OnErr};
 ghost use Rattle.model.specs.Graph.{has_number};
 ghost use Rattle.paths.specs.Lists.{line_at, line_of, line_outputs, line_regular_inputs, line_inputs, line_paths, all_paths, between, grown_line, IsAppended, IsRowIn, Extends};
 ghost use Rattle.paths.specs.Grown.{with_grown, IsGrownRow};
+ghost use Rattle.paths.specs.Shrunk.{with_shrunk, IsMovedTo, IsShrunkRow};
 
 use crate::id::{EdgeId, PathId};
 use crate::line::Line;
@@ -38,11 +39,11 @@ impl Model for Lines {
 
     ghost Value = { List Line };
 
-    ghost use Rattle.paths.specs.Lists.{line_of, AreRowsIn};
+    ghost use Rattle.paths.specs.Lists.{line_of, AreLaidOut};
 
     ghost view = { λ lines. map (line_of lines.numbers.items) lines.rows.items };
 
-    ghost invariant = { λ lines. AreRowsIn (length lines.numbers.items) lines.rows.items };
+    ghost invariant = { λ lines. AreLaidOut (length lines.numbers.items) lines.rows.items };
 }
 
 impl Lines {
@@ -161,6 +162,21 @@ impl Lines {
             .left
             .saturating_add(row.validations.saturating_sub(row.start));
         Ok(())
+    }
+
+    /// Takes the last so many implicit outputs and implicit inputs from the line of an edge, all where it has fewer. It takes no
+    /// memory, and no other line is touched: 4 bytes for each path that goes are lost, up to a copy of the lines.
+    pub fn shrink(&mut self, edge: EdgeId, outputs: usize, inputs: usize)
+        requires { edge < length self.old }
+        ensures { self.new ≡ with_shrunk self.old edge outputs inputs }
+    {
+        let place = edge.index();
+        let row = self.rows[place];
+        let shrunk = shrink_row(&mut self.numbers, row, outputs, inputs);
+        self.rows[place] = shrunk;
+        self.left = self
+            .left
+            .saturating_add(row.validations.saturating_sub(shrunk.validations));
     }
 
     /// Whether some edge names the path.
@@ -356,6 +372,50 @@ fn append_row(
         order_only_inputs: append_part(numbers, row.implicit_inputs, row.order_only_inputs)?,
         validations: append_part(numbers, row.order_only_inputs, row.validations)?,
     })
+}
+
+/// Moves the lists of a row together, of which the last so many implicit outputs and implicit inputs go. What stands outside of the row
+/// stays.
+fn shrink_row(numbers: &mut [PathId], row: Row, outputs: usize, inputs: usize) -> Row
+    requires { IsRowIn (length numbers.old) row }
+    ensures { IsShrunkRow numbers.old numbers.new row outputs inputs result }
+{
+    let gone = at_most(outputs, row.implicit_outputs - row.explicit_outputs);
+    let cut = at_most(inputs, row.implicit_inputs - row.explicit_inputs);
+    let end = row.implicit_inputs - cut;
+    move_to(
+        numbers,
+        row.implicit_outputs,
+        end,
+        row.implicit_outputs - gone,
+    );
+    move_to(numbers, row.implicit_inputs, row.validations, end - gone);
+    Row {
+        start: row.start,
+        explicit_outputs: row.explicit_outputs,
+        implicit_outputs: row.implicit_outputs - gone,
+        explicit_inputs: row.explicit_inputs - gone,
+        implicit_inputs: end - gone,
+        order_only_inputs: row.order_only_inputs - gone - cut,
+        validations: row.validations - gone - cut,
+    }
+}
+
+fn at_most(count: usize, most: usize) -> usize
+    ensures within { result ≤ most }
+    ensures left { most - result ≡ most - count }
+{
+    if count < most { count } else { most }
+}
+
+/// Moves what stands between two places to a place in front of it.
+fn move_to(numbers: &mut [PathId], start: usize, stop: usize, to: usize)
+    requires front { to ≤ start }
+    requires order { start ≤ stop }
+    requires within { stop ≤ length numbers.old }
+    ensures { IsMovedTo numbers.old numbers.new start (stop - start) to }
+{
+    numbers.copy_within(start..stop, to);
 }
 
 /// Puts what stands between two places at the end once more, and a list behind it; gives the place behind that.

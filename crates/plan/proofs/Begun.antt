@@ -1,5 +1,5 @@
 -- A plan in which nothing was done.
-use Rattle.std.proofs.Common.{◌≡◌, ℕ, zero, suc, ◌<◌, Bool, true, false, List, [], ◌∷◌, Option, Some, None, map, replicate, length, refl, sym, ◌∙◌, ap, arith}
+use Rattle.std.proofs.Common.{◌≡◌, ℕ, zero, suc, ◌<◌, Bool, true, false, List, [], ◌∷◌, ◌++◌, Option, Some, None, map, replicate, length, refl, sym, ◌∙◌, ap, arith}
 use Rattle.std.specs.Option.{is_none}
 use Rattle.std.proofs.lemmas.Bool.{false≢true, true≢false}
 use Rattle.model.specs.Graph.{has_number}
@@ -109,3 +109,8 @@ pub none_flagged : (count p : ℕ) → has (replicate count false) p ≡ false
 none_flagged zero p = refl
 none_flagged (suc count) zero = refl
 none_flagged (suc count) (suc p) = none_flagged count p
+
+pub longer_flags : (flags : List Bool) (more p : ℕ) → has (flags ++ replicate more false) p ≡ has flags p
+longer_flags [] more p = none_flagged more p
+longer_flags (flag ∷ flags) more zero = refl
+longer_flags (flag ∷ flags) more (suc p) = longer_flags flags more p

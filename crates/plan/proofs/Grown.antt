@@ -206,7 +206,7 @@ module _ (earlier task : Task) (more : IsGrownTask earlier task) where
   ]
 
   -- an edge of the cone is in it still
-  still_in_cone : (i : ℕ) → IsInCone earlier.graph.edges earlier.recorded earlier.targets i → IsInCone task.graph.edges task.recorded task.targets i
+  pub still_in_cone : (i : ℕ) → IsInCone earlier.graph.edges earlier.recorded earlier.targets i → IsInCone task.graph.edges task.recorded task.targets i
   still_in_cone _ (Wanted i p wanted made) = Wanted i p (subst (λ (ps : List (List ℕ)). has ps p ≡ true) (sym more.targets) wanted) (still_made p i made)
   still_in_cone _ (Needed i j p below need made) = Needed i j p (still_in_cone j below) (still_needed j p need) (still_made p i made)
   still_in_cone _ (Validating i j p below named made) =

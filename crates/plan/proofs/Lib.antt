@@ -22,5 +22,7 @@ pub mod Beginning
 pub mod Begun
 pub mod Loaded
 pub mod Due
+pub mod FilesThere
 pub mod Grown
 pub mod StepLaws
+pub mod Staying

@@ -33,6 +33,13 @@ pub record IsGrownTask (old new : Task) : Type 0 where
   pub jobs : new.jobs ≡ old.jobs
   pub keep : new.keep ≡ old.keep
 
+-- what the plan over this graph was that of, it is that of the same steps over the edges as they are now, where this is the cone of them
+abbrev pub GoesOnFrom : Graph → Graph → Cone → Plan → Plan → Type 0
+GoesOnFrom before graph cone old new =
+    (earlier task : Task) (steps : List Done) → IsPlanned earlier before old steps → AreTaken earlier steps
+    → IsTaskOf task graph → IsGrownTask earlier task → IsConeOf task.graph.edges task.recorded task.targets cone.order.items cone.marks.items
+    → IsPlanned task graph new steps × AreTaken task steps
+
 -- whatever the plan was that of, it is that of the same steps over the edges as they are now, where this is the cone of them
 abbrev pub GoesOn : Graph → Cone → Plan → Plan → Type 0
 GoesOn graph cone old new =

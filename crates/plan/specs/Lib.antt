@@ -10,9 +10,11 @@ pub mod Places
 pub mod Plan
 pub mod Changed
 pub mod Loads
+pub mod Coming
 pub mod First
 pub mod Planned
 pub mod Settling
 pub mod Steps
 pub mod Growing
 pub mod Extended
+pub mod Staying

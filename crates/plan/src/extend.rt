@@ -7,6 +7,7 @@ ghost use Rattle.plan.specs.Standing.{is_settled, maker_settled};
 ghost use Rattle.plan.specs.First.{first_at};
 ghost use Rattle.plan.specs.Growing.{grown_of, AreGrown, AreThereIn};
 
+use crate::coming::coming_of;
 use crate::first::{first_counts, first_ready, first_standing, maker_of};
 use crate::loads::loads_of;
 use crate::lowest::Lowest;
@@ -41,6 +42,7 @@ impl Plan {
         first_ready(&standings, &left, &mut ready, &mut pending);
         let changed = grown_flags(alloc, &self.changed, graph.paths())?;
         let loads = loads_of(alloc, graph, &standings)?;
+        let coming = coming_of(alloc, &loads, &there)?;
         self.standings = standings;
         self.there = there;
         self.left = left;
@@ -48,6 +50,7 @@ impl Plan {
         self.pending = pending;
         self.changed = changed;
         self.loads = loads;
+        self.coming = coming;
         self.settle_pending(graph);
         Ok(())
     }
@@ -118,20 +121,13 @@ fn is_settled(standing: Standing) -> bool
 }
 
 /// These flags, and false for each place behind them up to a count.
-fn grown_flags(alloc: Global, flags: &[bool], count: usize) -> Result<Vec<bool>, AllocError>
+pub fn grown_flags(alloc: Global, flags: &[bool], count: usize) -> Result<Vec<bool>, AllocError>
     requires { length flags.now ≤ count }
     ensures fits { IfOk result (λ grown. vec_len grown ≡ count) }
     ensures same { IfOk result (λ grown. (p : ℕ) → has grown.items p ≡ has flags.now p) }
 {
     let mut grown = Vec::with_capacity(alloc, count)?;
-    for place in 0..count {
-        grown.push(is_set(flags, place))?;
-    }
+    grown.extend_from_slice(flags)?;
+    grown.resize(count, false)?;
     Ok(grown)
-}
-
-fn is_set(flags: &[bool], place: usize) -> bool
-    ensures { result ≡ has flags.now place }
-{
-    matches!(flags.get(place), Some(true))
 }

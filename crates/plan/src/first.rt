@@ -54,7 +54,8 @@ pub fn sources(alloc: Global, graph: &Graph) -> Result<Vec<bool>, AllocError>
     Ok(there)
 }
 
-fn is_source(graph: &Graph, place: usize) -> bool
+/// Whether no edge makes the path with this number.
+pub fn is_source(graph: &Graph, place: usize) -> bool
     ensures { result ≡ is_none ((links_of graph.now).maker place) }
 {
     maker_of(graph, place).is_none()
@@ -89,7 +90,7 @@ pub fn first_counts(
 }
 
 /// How many inputs and recorded inputs of the edge are not there.
-fn missing_inputs(graph: &Graph, there: &[bool], edge: EdgeId) -> usize
+pub fn missing_inputs(graph: &Graph, there: &[bool], edge: EdgeId) -> usize
     requires { edge < length graph.now.manifest.lines }
     ensures { result ≡ count_by (is_missing there.now) (needs_at (links_of graph.now) edge) }
 {

@@ -4,6 +4,7 @@
 ghost use Rattle.model.specs.Schedule.{Task};
 ghost use Rattle.plan.specs.Planned.{IsDeclaredTask, IsTaskOf};
 ghost use Rattle.plan.specs.Extended.{LoadsGoOn};
+ghost use Rattle.plan.specs.Staying.{LoadsGoOnBy};
 ghost use Rattle.plan.specs.Steps.{StepsMove, StandingsTell, StepsName, ListsCount};
 
 use graph::{Graph, files_stand, lists_stand, numbers_stand};
@@ -40,4 +41,9 @@ pub fn lists_count()
 /// A plan that says a load may go on by `extend` once the graph has loaded the file.
 pub fn loads_go_on()
     ensures { LoadsGoOn }
+{}
+
+/// And by `extend_by`, where what undoes the load names the edges that have changed.
+pub fn loads_go_on_by()
+    ensures { LoadsGoOnBy }
 {}

@@ -2,6 +2,7 @@
 #![tactic(auto)]
 
 mod by_name;
+mod coming;
 mod extend;
 mod first;
 mod laws;
@@ -12,9 +13,12 @@ mod pool;
 mod pools;
 mod queue;
 mod settle;
+mod stay;
 mod step;
 
-pub use laws::{lists_count, loads_go_on, standings_tell, steps_move, steps_name, task_of};
+pub use laws::{
+    lists_count, loads_go_on, loads_go_on_by, standings_tell, steps_move, steps_name, task_of,
+};
 pub use lowest::Lowest;
 pub use plan::{Plan, note_changes};
 pub use queue::Queue;

@@ -3,9 +3,11 @@
 ghost use Rattle.std.specs.Prelude.{◌≡◌, ◌<◌, ◌≤◌, ◌^◌, ℕ, true, length, vec_len};
 ghost use Rattle.model.specs.Graph.{has_number};
 ghost use Rattle.graph.specs.Held.{StandOnce};
+ghost use Rattle.plan.specs.Coming.{IsComing};
 ghost use Rattle.plan.specs.Plan.{IsReady, IsWaiting, IsTallied};
 ghost use Rattle.plan.specs.Changed.{AreFlagged, AreSetAt, IsForEach, AreNoted};
 
+use crate::coming::{Coming, coming_of};
 use crate::first::{first_counts, first_ready, first_standings, is_there, sources};
 use crate::loads::loads_of;
 use crate::lowest::Lowest;
@@ -36,6 +38,8 @@ pub struct Plan {
     pub changed: Vec<bool>,
     /// The dyndep files that edges of the cone name, in the order in which they are loaded.
     pub loads: Vec<PathId>,
+    /// Whether one of them may be there.
+    pub coming: Coming,
     pub running: usize,
     pub failed: usize,
     pub well: usize,
@@ -50,6 +54,7 @@ pub struct Plan {
     ghost sets: { IsReady standings.items left.items ready pending },
     ghost waits: { IsWaiting standings.items queue },
     ghost tallied: { IsTallied standings.items running failed well },
+    ghost come: { IsComing loads.items there.items coming.files.items coming.any },
 }
 
 impl Plan {
@@ -107,6 +112,7 @@ impl Plan {
         let loads = loads_of(alloc, graph, &standings)?;
         let queue = queue_of(alloc, graph, &standings, !loads.is_empty())?;
         let changed = vec![in alloc; false; graph.paths()]?;
+        let coming = coming_of(alloc, &loads, &there)?;
         Ok(Plan {
             standings,
             left,
@@ -116,6 +122,7 @@ impl Plan {
             queue,
             changed,
             loads,
+            coming,
             running: 0,
             failed: 0,
             well: 0,
@@ -252,8 +259,18 @@ impl Plan {
         self.standings[edge.index()]
     }
 
-    /// The first dyndep file, in the order of loads, that is there.
+    /// The first dyndep file, in the order of loads, that is there. All are gone through only where one of them may be.
     fn next_load(&self) -> Option<PathId>
+        ensures { IsNextLoad self.now.there.items self.now.loads.items result }
+    {
+        if !self.coming.may_load() {
+            return None;
+        }
+        self.first_load()
+    }
+
+    /// The same, by going through all.
+    fn first_load(&self) -> Option<PathId>
         ensures { IsNextLoad self.now.there.items self.now.loads.items result }
     {
         for file in &self.loads {

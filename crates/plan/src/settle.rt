@@ -73,6 +73,7 @@ impl Plan {
             return;
         }
         self.there[place] = true;
+        self.coming.note(place);
         for user in graph.users(path) {
             self.count_down(user.index());
         }

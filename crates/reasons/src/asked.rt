@@ -28,6 +28,7 @@ pub(crate) fn ask_for<S: Site>(
     requires edges { (d : ℕ) → has_number edges.now d ≡ true → d < length graph.now.manifest.lines }
     ensures looked { HasLookedAt S.tells S.world site.old site.new graph.now looks.old looks.new }
     ensures cause { HasCause (S.world site.old) (S.world site.new) result }
+    ensures sums { looks.new.sums ≡ looks.old.sums }
     ensures outputs { OnOk result (HaveAsked looks.new.seen.items ((links_of graph.now).outputs edge)) }
     ensures regular { OnOk result (HaveAskedOf graph.now looks.new edges.now) }
     ensures recorded { OnOk result (HaveAsked looks.new.seen.items ((links_of graph.now).recorded edge)) }
@@ -52,6 +53,7 @@ fn ask_regular<S: Site>(
     requires edges { (d : ℕ) → has_number edges.now d ≡ true → d < length graph.now.manifest.lines }
     ensures looked { HasLookedAt S.tells S.world site.old site.new graph.now looks.old looks.new }
     ensures cause { HasCause (S.world site.old) (S.world site.new) result }
+    ensures sums { looks.new.sums ≡ looks.old.sums }
     ensures regular { OnOk result (HaveAskedOf graph.now looks.new edges.now) }
 {
     looks_follow();

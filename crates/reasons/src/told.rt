@@ -17,8 +17,8 @@ use crate::inputs::first_input;
 use crate::order::in_order;
 use crate::outputs::{first_output, summary_of};
 use crate::table::{first_found, is_sure, told_reason};
-use graph::{Cone, Graph, Reading, lists_stand, numbers_stand};
-use judge::{Looks, Reason, Sums, looks_follow, reason, sums_follow};
+use graph::{Cone, Graph, Reading, numbers_stand};
+use judge::{Looks, Reason, looks_follow, sums_follow};
 use model::SiteFault;
 use paths::{Action, Command, EdgeId, PathId};
 use records::Records;
@@ -95,11 +95,11 @@ fn tell_all<S: Site>(
     ensures all { TellsWhy S.tells S.world site.old site.new graph.now records.now flags.now looks.old looks.new told.new result }
 {
     looks_follow();
-    let mut sums = Sums::new(alloc);
     let mut firm = vec![in alloc; false; graph.edges()]?;
+    looks.sums.clear();
     for edge in order {
         tell_one(
-            alloc, site, graph, looks, &mut sums, records, flags, &mut firm, told, *edge,
+            alloc, site, graph, looks, records, flags, &mut firm, told, *edge,
         )?;
     }
     Ok(())
@@ -111,7 +111,6 @@ fn tell_one<S: Site>(
     site: &mut S,
     graph: &Graph,
     looks: &mut Looks,
-    sums: &mut Sums,
     records: &Records,
     flags: &[bool],
     firm: &mut Vec<bool>,
@@ -124,10 +123,10 @@ fn tell_one<S: Site>(
     requires flags { length flags.now ≡ length graph.now.manifest.lines }
     requires commands { AreNotPhony graph.now flags.now }
     requires firm { length firm.old.items ≡ length graph.now.manifest.lines }
-    requires summed { AreSums graph.now [] looks.old.seen.items sums.old }
+    requires summed { AreSums graph.now [] looks.old.seen.items looks.old.sums }
     ensures looked { HasLookedAt S.tells S.world site.old site.new graph.now looks.old looks.new }
     ensures cause { HasCause (S.world site.old) (S.world site.new) result }
-    ensures summed { AreSums graph.now [] looks.new.seen.items sums.new }
+    ensures summed { AreSums graph.now [] looks.new.seen.items looks.new.sums }
     ensures firm { length firm.new.items ≡ length graph.now.manifest.lines }
     ensures told { TellsEdge S.tells S.world site.old site.new graph.now records.now flags.now looks.old looks.new edge told.old told.new result }
 {
@@ -140,7 +139,6 @@ fn tell_one<S: Site>(
         site,
         graph,
         looks,
-        sums,
         records,
         flags,
         firm.as_slice(),
@@ -164,7 +162,6 @@ fn due_command<S: Site>(
     site: &mut S,
     graph: &Graph,
     looks: &mut Looks,
-    sums: &mut Sums,
     records: &Records,
     flags: &[bool],
     firm: &[bool],
@@ -176,16 +173,16 @@ fn due_command<S: Site>(
     requires command { (links_of graph.now).phony edge ≡ false }
     requires flags { length flags.now ≡ length graph.now.manifest.lines }
     requires firm { length firm.now ≡ length graph.now.manifest.lines }
-    requires summed { AreSums graph.now [] looks.old.seen.items sums.old }
+    requires summed { AreSums graph.now [] looks.old.seen.items looks.old.sums }
     ensures looked { HasLookedAt S.tells S.world site.old site.new graph.now looks.old looks.new }
     ensures cause { HasCause (S.world site.old) (S.world site.new) result }
-    ensures summed { AreSums graph.now [] looks.new.seen.items sums.new }
+    ensures summed { AreSums graph.now [] looks.new.seen.items looks.new.sums }
     ensures edge { IfOk result (λ command. command.edge ≡ edge) }
     ensures why { FindsWhy S.tells S.world site.old site.new graph.now records.now flags.now looks.old looks.new edge result }
 {
     looks_follow();
     sums_follow();
-    let found = reason(alloc, site, graph, looks, sums, records, &[], edge)?;
+    let found = looks.reason(site, graph, records, &[], edge)?;
     let reading = graph.reading(alloc, edge)?;
     let edges = edges_of(&reading);
     ask_for(site, graph, looks, edges, edge)?;

@@ -1,5 +1,7 @@
 -- What is known when a build begins, in the words of the laws of notes, and what may be noted.
-use Rattle.std.specs.Prelude.{◌≡◌, ℕ, Bool, is_some, List, Option, Some}
+use Rattle.std.specs.Prelude.{◌≡◌, ℕ, Bool, is_some, List, Option, Some, Vec}
+use Rattle.std.specs.Option.{option_map}
+use Rattle.std.specs.declared.alloc.Global.{Global}
 use Rattle.log_text.specs.declared.tail.Tail.{Tail}
 use Rattle.log_text.specs.Text.{IsRead}
 use Rattle.model.specs.World.{World}
@@ -38,6 +40,10 @@ pub record IsEntryOf (text : List ℕ) (k : Counts) (base : Option (List ℕ)) :
   pub read : IsRead forms text records tail
   pub is : (p : List ℕ) → noted_of k.notes p ≡ noted_in_force records p
   pub whole : BaseIsWhole text (noted_of k.notes) base
+
+-- the text, if there is one, may take the place of a text that tells these records
+abbrev pub TakesPlace : List ℕ → List Note → Option (Vec ℕ Global) → Type 0
+TakesPlace text records base = BaseIsWhole text (noted_in_force records) (option_map (λ (told : Vec ℕ Global). told.items) base)
 
 -- ---- numbers
 

@@ -15,3 +15,4 @@ pub mod First
 pub mod Going
 pub mod Known
 pub mod Entering
+pub mod ToldCalls

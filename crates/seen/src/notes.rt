@@ -6,12 +6,10 @@ ghost use Rattle.log_text.specs.Text.{IsRead};
 ghost use Rattle.log_text.specs.declared.tail.Tail.TheVariants.{Whole};
 ghost use Rattle.seen_log.specs.declared.note.Note.{Note};
 ghost use Rattle.seen_log.specs.Keeping.{Keeps};
-ghost use Rattle.seen_log.specs.Log.{noted_in_force};
 ghost use Rattle.seen_log.specs.Record.{forms};
-ghost use Rattle.seen_true.specs.Going.{BaseIsWhole};
 ghost use Rattle.seen.specs.Asking.{Asks};
 ghost use Rattle.seen.specs.Entering.{EntersSince, IsUnbegun};
-ghost use Rattle.seen.specs.Known.{IsEntryOf};
+ghost use Rattle.seen.specs.Known.{IsEntryOf, TakesPlace};
 ghost use Rattle.seen.specs.Makers.{AreJobs, listing, pairs_of};
 ghost use Rattle.seen.specs.Own.{AreOwnIn};
 
@@ -153,7 +151,7 @@ fn no_starts(alloc: Global, jobs: usize) -> Result<Vec<Option<u64>>, AllocError>
 
 /// The text that takes the place of a file of this text, which tells this and ends so, if one is to.
 fn base_of(alloc: Global, text: &[u8], log: &Log, tail: Tail) -> Result<Option<Vec<u8>>, AllocError>
-    ensures { (records : List Note) → IsRead forms text.now records tail → Keeps records log.now → IfOk result (λ base. BaseIsWhole text.now (noted_in_force records) (option_map (λ text. text.items) base)) }
+    ensures { (records : List Note) → IsRead forms text.now records tail → Keeps records log.now → IfOk result (TakesPlace text.now records) }
 {
     compaction_fits();
     if goes_on(text, tail) && !log.wants_compaction() {

@@ -78,8 +78,7 @@ impl<S: Measured, B: Beginning> Retold<S, B> {
     ghost use Rattle.std.specs.Prelude.{◌≡◌, [], false, true, IfOk, IsTrue, None, OnErr, OnOk, Some};
     ghost use Rattle.std.specs.Option.{option_map};
     ghost use Rattle.seen_true.specs.Going.{Notes, NotesStand};
-    ghost use Rattle.model.specs.Calls.{Appends, HasCause, KeepsWait, OnlyLooks, Sees, Writes};
-    ghost use Rattle.model.specs.World.{content_of, file_at, stamp_of};
+    ghost use Rattle.model.specs.Calls.{Appends, HasCause, KeepsWait, OnlyLooks, Writes};
     ghost use Rattle.seen_law.specs.Laws.{IsPlain, IsTold};
     ghost use Rattle.seen.specs.Asking.{Asks, Refuses};
     ghost use Rattle.seen.specs.Known.{MayLeave, MaySee, known_of};
@@ -88,6 +87,7 @@ impl<S: Measured, B: Beginning> Retold<S, B> {
     ghost use Rattle.seen.specs.Entering.{EntersSince, IsUnbegun};
     ghost use Rattle.seen.specs.Looking.{KnowsSame, looked_by};
     ghost use Rattle.seen.specs.Own.{is_own};
+    ghost use Rattle.seen.specs.ToldCalls.{SeesContent, SeesCounted};
 
     /// The site over this one, for one build, by what is known when it begins, and with the text that takes the place of the notes before a line is put
     /// behind them, where one is to.
@@ -206,7 +206,7 @@ impl<S: Measured, B: Beginning> Retold<S, B> {
         ensures cause { HasCause (told_world S.tells B.begun (S.world self.old.site)) (told_world S.tells B.begun (S.world self.new.site)) result }
         ensures waits { KeepsWait (told_world S.tells B.begun (S.world self.old.site)) (told_world S.tells B.begun (S.world self.new.site)) }
         ensures looked { IfOk result (λ looked. looked ≡ looked_by self.old.is_begun self.old.known path.now looked.found) }
-        ensures stamp { IsTrue S.tells → IfOk result (λ looked. Sees (λ history. stamp_of (file_at history path.now)) looked.counts (told_world S.tells B.begun (S.world self.old.site)).history (told_world S.tells B.begun (S.world self.new.site)).history) }
+        ensures stamp { IsTrue S.tells → IfOk result (SeesCounted S.tells B.begun path.now (S.world self.old.site) (S.world self.new.site)) }
         ensures same { KnowsSame self.old.known self.new.known }
         ensures one { self.new.is_for_one ≡ self.old.is_for_one }
         ensures noted { self.new.noted ≡ self.old.noted }
@@ -231,7 +231,7 @@ impl<S: Measured, B: Beginning> Retold<S, B> {
         ensures looks { OnlyLooks S.tells (told_world S.tells B.begun (S.world self.old.site)) (told_world S.tells B.begun (S.world self.new.site)) }
         ensures cause { HasCause (told_world S.tells B.begun (S.world self.old.site)) (told_world S.tells B.begun (S.world self.new.site)) result }
         ensures waits { KeepsWait (told_world S.tells B.begun (S.world self.old.site)) (told_world S.tells B.begun (S.world self.new.site)) }
-        ensures stamp { IsTrue S.tells → IfOk result (λ looked. Sees (λ history. stamp_of (file_at history path.now)) looked.counts (told_world S.tells B.begun (S.world self.old.site)).history (told_world S.tells B.begun (S.world self.new.site)).history) }
+        ensures stamp { IsTrue S.tells → IfOk result (SeesCounted S.tells B.begun path.now (S.world self.old.site) (S.world self.new.site)) }
         ensures grows { OnOk result (Grows self.old.noted.lines.items self.new.noted.lines.items) }
         ensures own { self.new.known.own ≡ self.old.known.own }
         ensures one { self.new.is_for_one ≡ self.old.is_for_one }
@@ -381,7 +381,7 @@ impl<S: Measured, B: Beginning> Retold<S, B> {
         ensures looks { OnlyLooks S.tells (told_world S.tells B.begun (S.world self.old.site)) (told_world S.tells B.begun (S.world self.new.site)) }
         ensures cause { HasCause (told_world S.tells B.begun (S.world self.old.site)) (told_world S.tells B.begun (S.world self.new.site)) result }
         ensures waits { KeepsWait (told_world S.tells B.begun (S.world self.old.site)) (told_world S.tells B.begun (S.world self.new.site)) }
-        ensures content { IsTrue S.tells → IfOk result (λ content. Sees (λ history. content_of (file_at history path.now)) content (told_world S.tells B.begun (S.world self.old.site)).history (told_world S.tells B.begun (S.world self.new.site)).history) }
+        ensures content { IsTrue S.tells → IfOk result (SeesContent S.tells B.begun path.now (S.world self.old.site) (S.world self.new.site)) }
         ensures one { self.new.is_for_one ≡ self.old.is_for_one }
     {
         looks_are_told();
@@ -396,7 +396,7 @@ impl<S: Measured, B: Beginning> Retold<S, B> {
         ensures looks { OnlyLooks S.tells (told_world S.tells B.begun (S.world self.old.site)) (told_world S.tells B.begun (S.world self.new.site)) }
         ensures cause { HasCause (told_world S.tells B.begun (S.world self.old.site)) (told_world S.tells B.begun (S.world self.new.site)) result }
         ensures waits { KeepsWait (told_world S.tells B.begun (S.world self.old.site)) (told_world S.tells B.begun (S.world self.new.site)) }
-        ensures content { IsTrue S.tells → IfOk result (λ content. Sees (λ history. content_of (file_at history path.now)) content (told_world S.tells B.begun (S.world self.old.site)).history (told_world S.tells B.begun (S.world self.new.site)).history) }
+        ensures content { IsTrue S.tells → IfOk result (SeesContent S.tells B.begun path.now (S.world self.old.site) (S.world self.new.site)) }
         ensures one { self.new.is_for_one ≡ self.old.is_for_one }
     {
         looks_are_told();
@@ -459,7 +459,8 @@ impl<S: Measured, B: Beginning> Texts for Retold<S, B> {
 
 impl<S: Measured, B: Beginning> Site for Retold<S, B> {
     ghost use Rattle.std.specs.Prelude.{◌≡◌, OnErr, OnOk};
-    ghost use Rattle.model.specs.Calls.{Appends, AppendsOrNot, HasCause, KeepsWait};
+    ghost use Rattle.model.specs.Calls.{HasCause, KeepsWait};
+    ghost use Rattle.seen.specs.ToldCalls.{AppendsTold, AppendsToldOrNot};
 
     ghost outcome = { S.outcome };
 
@@ -483,8 +484,8 @@ impl<S: Measured, B: Beginning> Site for Retold<S, B> {
     fn append(&mut self, path: &str, bytes: &[u8]) -> Result<(), SiteFault>
         ensures cause { HasCause (told_world S.tells B.begun (S.world self.old.site)) (told_world S.tells B.begun (S.world self.new.site)) result }
         ensures waits { KeepsWait (told_world S.tells B.begun (S.world self.old.site)) (told_world S.tells B.begun (S.world self.new.site)) }
-        ensures appends { OnOk result (Appends S.tells path.now bytes.now (told_world S.tells B.begun (S.world self.old.site)) (told_world S.tells B.begun (S.world self.new.site))) }
-        ensures err { OnErr result (AppendsOrNot S.tells path.now bytes.now (told_world S.tells B.begun (S.world self.old.site)) (told_world S.tells B.begun (S.world self.new.site))) }
+        ensures appends { OnOk result (AppendsTold S.tells B.begun path.now bytes.now (S.world self.old.site) (S.world self.new.site)) }
+        ensures err { OnErr result (AppendsToldOrNot S.tells B.begun path.now bytes.now (S.world self.old.site) (S.world self.new.site)) }
         ensures noted { self.new.noted ≡ self.old.noted }
     {
         writes_are_told();

@@ -1,7 +1,7 @@
 //! A site over a site.
 
 ghost use Rattle.std.specs.Prelude.{◌≡◌, [], false, IsTrue, OnErr, OnOk};
-ghost use Rattle.model.specs.Calls.{Appends, AppendsOrNot, HasCause, KeepsWait};
+ghost use Rattle.model.specs.Calls.{HasCause, KeepsWait};
 ghost use Rattle.model.specs.World.{World};
 ghost use Rattle.seen.specs.Asking.{Asks};
 ghost use Rattle.seen_true.specs.Going.{NotesStand};
@@ -47,7 +47,7 @@ pub struct Seen<S: Measured, B: Beginning> {
 }
 
 impl<S: Measured, B: Beginning> Seen<S, B> {
-    ghost use Rattle.seen.specs.First.{NotesFirst};
+    ghost use Rattle.seen.specs.First.{NotesBefore};
     ghost use Rattle.seen.specs.Noting.{Grows};
 
     /// The site over this one, for a build that begins with this. This takes no memory.
@@ -121,7 +121,7 @@ impl<S: Measured, B: Beginning> Seen<S, B> {
     #[tactic(auto, using(crate::proofs::Answered::asks_both, crate::proofs::Answered::asks_fault))]
     fn note_before(&mut self, path: &str, bytes: &[u8]) -> Result<(), SiteFault>
         ensures asks { Asks S.tells (told_world S.tells B.begun (S.world self.old.retold.site)) (told_world S.tells B.begun (S.world self.new.retold.site)) result }
-        ensures notes { OnOk result (NotesFirst S.tells B.begun self.old.retold.known.own.seen self.old.retold.noted.lines.items (S.world self.old.retold.site) (S.world self.new.retold.site)) }
+        ensures notes { OnOk result (NotesBefore S.tells B.begun S.world self.old.retold.known self.old.retold.noted self.old.retold.site self.new.retold.site) }
         ensures left { OnOk result (self.new.retold.noted.lines.items ≡ []) }
     {
         self.ask_for(path, bytes)?;
@@ -280,7 +280,8 @@ impl<S: Measured, B: Beginning> Texts for Seen<S, B> {
 }
 
 impl<S: Measured, B: Beginning> Site for Seen<S, B> {
-    ghost use Rattle.seen.specs.First.{IsNotedFirst};
+    ghost use Rattle.seen.specs.First.{Follow};
+    ghost use Rattle.seen.specs.ToldCalls.{AppendsTold, AppendsToldOrNot};
 
     ghost outcome = { S.outcome };
 
@@ -298,9 +299,9 @@ impl<S: Measured, B: Beginning> Site for Seen<S, B> {
     fn append(&mut self, path: &str, bytes: &[u8]) -> Result<(), SiteFault>
         ensures cause { HasCause (told_world S.tells B.begun (S.world self.old.retold.site)) (told_world S.tells B.begun (S.world self.new.retold.site)) result }
         ensures waits { KeepsWait (told_world S.tells B.begun (S.world self.old.retold.site)) (told_world S.tells B.begun (S.world self.new.retold.site)) }
-        ensures appends { OnOk result (Appends S.tells path.now bytes.now (told_world S.tells B.begun (S.world self.old.retold.site)) (told_world S.tells B.begun (S.world self.new.retold.site))) }
-        ensures err { OnErr result (AppendsOrNot S.tells path.now bytes.now (told_world S.tells B.begun (S.world self.old.retold.site)) (told_world S.tells B.begun (S.world self.new.retold.site))) }
-        ensures noted { OnOk result (IsNotedFirst S.tells B.begun self.old.retold.known.own.seen self.old.retold.noted.lines.items path.now bytes.now (S.world self.old.retold.site) (S.world self.new.retold.site)) }
+        ensures appends { OnOk result (AppendsTold S.tells B.begun path.now bytes.now (S.world self.old.retold.site) (S.world self.new.retold.site)) }
+        ensures err { OnErr result (AppendsToldOrNot S.tells B.begun path.now bytes.now (S.world self.old.retold.site) (S.world self.new.retold.site)) }
+        ensures noted { Follow S.tells B.begun S.world self.old.retold.known self.old.retold.noted self.old.retold.site self.new.retold.site path.now bytes.now result }
         ensures left { OnOk result (self.new.retold.noted.lines.items ≡ []) }
     {
         self.note_before(path, bytes)?;

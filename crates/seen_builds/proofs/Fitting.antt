@@ -44,6 +44,19 @@ pub record KnowsOwn (own : OwnFiles) (k : Knowing) : Type 0 where
   pub is_own_so : (p : List ℕ) → k.is_own p ≡ is_own files p
   pub seen : k.seen ≡ files.seen
 
+-- a file of that path is there
+named : (file path : List ℕ) → file ≡ path → bytes_eq file path ≡ true
+named file path same = subst (λ (l : List ℕ). bytes_eq l path ≡ true) (sym same) (bytes_same path)
+
+module _ (own : OwnFiles) (k : Knowing) (is : KnowsOwn own k) where
+  pub has_log : is_own is.files own.build_log ≡ true
+  has_log = or_left (bytes_eq is.files.log own.build_log) _ (named is.files.log own.build_log (is.are.log ∙ sym is.fits.build_log))
+
+  has_deps : is_own is.files own.deps_log ≡ true
+  has_deps =
+      or_right (bytes_eq is.files.log own.deps_log) _
+      (or_left (bytes_eq is.files.deps_log own.deps_log) _ (named is.files.deps_log own.deps_log (is.are.deps_log ∙ sym is.fits.deps_log)))
+
 module _ (own : OwnFiles) (k next : Knowing) (is : KnowsOwn own k) (next_is : KnowsOwn own next) where
   one_folder : file_in next_is.folder build_log_name ≡ file_in is.folder build_log_name
   one_folder = sym next_is.fits.build_log ∙ is.fits.build_log
@@ -63,22 +76,10 @@ module _ (own : OwnFiles) (k next : Knowing) (is : KnowsOwn own k) (next_is : Kn
   own_same : (p : List ℕ) → is_own next_is.files p ≡ is_own is.files p
   own_same p = λ i. bytes_eq (log_same i) p || (bytes_eq (deps_same i) p || (bytes_eq (tick_same i) p || bytes_eq (seen_same i) p))
 
-  -- a file of that path is there
-  named : (file path : List ℕ) → file ≡ path → bytes_eq file path ≡ true
-  named file path same = subst (λ (l : List ℕ). bytes_eq l path ≡ true) (sym same) (bytes_same path)
-
-  has_log : is_own is.files own.build_log ≡ true
-  has_log = or_left (bytes_eq is.files.log own.build_log) _ (named is.files.log own.build_log (is.are.log ∙ sym is.fits.build_log))
-
-  has_deps : is_own is.files own.deps_log ≡ true
-  has_deps =
-      or_right (bytes_eq is.files.log own.deps_log) _
-      (or_left (bytes_eq is.files.deps_log own.deps_log) _ (named is.files.deps_log own.deps_log (is.are.deps_log ∙ sym is.fits.deps_log)))
-
   pub fit_law : OwnFit own k next
   fit_law = record {
     same = λ p. next_is.is_own_so p ∙ (own_same p ∙ sym (is.is_own_so p));
     seen = next_is.seen ∙ (seen_same ∙ sym is.seen);
-    build_log = is.is_own_so own.build_log ∙ has_log;
-    deps_log = is.is_own_so own.deps_log ∙ has_deps;
+    build_log = is.is_own_so own.build_log ∙ has_log own k is;
+    deps_log = is.is_own_so own.deps_log ∙ has_deps own k is;
   }

@@ -23,20 +23,20 @@ pub fn build_over<S: Measured + Drop, B: Beginning>(
     alloc: Global,
     site: S,
     entry: Entry,
-    graph: &mut Graph,
+    graph: Graph,
     asked: &Asked<'_>,
     options: &Options,
 ) -> (Report, S)
     requires idle { IsIdle (S.world site).events }
     requires running { (S.world site).stopped ≡ false }
-    requires formed { IsGraph (declared_by graph.old) }
-    requires linked { IsLinked graph.old }
+    requires formed { IsGraph (declared_by graph) }
+    requires linked { IsLinked graph }
     requires unbegun { IsUnbegun entry.counts }
     requires knows { IsTrue S.tells → B.begun.knows ≡ known_of entry.counts }
     requires enters { EntersSince S.tells entry B.begun.asked (S.world site) }
     requires first { IsTrue S.tells → (S.world site).history ≡ B.begun.first }
     requires begins { IsTrue S.tells → BeginsTold B.begun }
-    ensures { IsOver S.tells B.begun (declared_by graph.old) asked.now (S.world site) (S.world result.1) result.0 }
+    ensures { IsOver S.tells B.begun (declared_by graph) asked.now (S.world site) (S.world result.1) result.0 }
 {
     let mut seen: Seen<S, B> = Seen::over(alloc, site, entry);
     let report = build_graph_read(alloc, &mut seen, graph, asked, options);
@@ -48,18 +48,18 @@ pub fn build_from<S: Measured + Drop>(
     alloc: Global,
     site: S,
     entry: Entry,
-    graph: &mut Graph,
+    graph: Graph,
     asked: &Asked<'_>,
     options: &Options,
 ) -> (Report, S)
     ghost past: { List Moment }
     requires idle { IsIdle (S.world site).events }
     requires running { (S.world site).stopped ≡ false }
-    requires formed { IsGraph (declared_by graph.old) }
-    requires linked { IsLinked graph.old }
+    requires formed { IsGraph (declared_by graph) }
+    requires linked { IsLinked graph }
     requires unbegun { IsUnbegun entry.counts }
     requires enters { EntersSince S.tells entry past (S.world site) }
-    ensures { IsOver S.tells (begun_with entry.counts past (S.world site)) (declared_by graph.old) asked.now (S.world site) (S.world result.1) result.0 }
+    ensures { IsOver S.tells (begun_with entry.counts past (S.world site)) (declared_by graph) asked.now (S.world site) (S.world result.1) result.0 }
 {
     build_over::<S, Brand>(alloc, site, entry, graph, asked, options)
 }
@@ -68,15 +68,15 @@ pub fn build_from<S: Measured + Drop>(
 pub fn build_seen<S: Measured + Drop>(
     alloc: Global,
     site: S,
-    graph: &mut Graph,
+    graph: Graph,
     asked: &Asked<'_>,
     options: &Options,
 ) -> (Report, S)
     requires idle { IsIdle (S.world site).events }
     requires running { (S.world site).stopped ≡ false }
-    requires formed { IsGraph (declared_by graph.old) }
-    requires linked { IsLinked graph.old }
-    ensures { IsSeenBuild S.tells (declared_by graph.old) asked.now (S.world site) (S.world result.1) result.0 }
+    requires formed { IsGraph (declared_by graph) }
+    requires linked { IsLinked graph }
+    ensures { IsSeenBuild S.tells (declared_by graph) asked.now (S.world site) (S.world result.1) result.0 }
 {
     build_behind(alloc, site, graph, asked, options)
 }
@@ -85,7 +85,7 @@ pub fn build_seen<S: Measured + Drop>(
 fn build_behind<S: Measured + Drop>(
     alloc: Global,
     mut site: S,
-    graph: &mut Graph,
+    graph: Graph,
     asked: &Asked<'_>,
     options: &Options,
 ) -> (Report, S)
@@ -93,9 +93,9 @@ fn build_behind<S: Measured + Drop>(
     requires behind { (S.world site).history ≡ past }
     requires idle { IsIdle (S.world site).events }
     requires running { (S.world site).stopped ≡ false }
-    requires formed { IsGraph (declared_by graph.old) }
-    requires linked { IsLinked graph.old }
-    ensures { IsSeenBuild S.tells (declared_by graph.old) asked.now (S.world site) (S.world result.1) result.0 }
+    requires formed { IsGraph (declared_by graph) }
+    requires linked { IsLinked graph }
+    ensures { IsSeenBuild S.tells (declared_by graph) asked.now (S.world site) (S.world result.1) result.0 }
 {
     match enter(alloc, &mut site, &graph.manifest, asked.folder.as_str()) {
         Ok(entry) => build_from(alloc, site, entry, graph, asked, options),

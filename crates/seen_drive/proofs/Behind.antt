@@ -132,9 +132,8 @@ module _ (format : LogFormat) (own : OwnFiles) (e : Entered) (exit : World) (nex
     }
 
 pub behind_law : SeenComesBehind
-behind_law format own e exit next stand goes others late = record {
+behind_law format own e exit next stand goes others = record {
   left = others.left;
   read = others.read;
   others = wrote_so format own e exit next stand goes others;
-  number = late;
 }

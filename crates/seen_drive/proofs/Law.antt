@@ -60,7 +60,7 @@ module _ (law : RunsAreClean) (fresh : FreshIsMet) (here : Conventions) where
   seen_behind before [] fits grows seen = tt
   seen_behind before (ran ∷ rest) fits grows seen = (
     record {
-      others = inl (behind_law here.format here.own (begun_in before.run) before.run.exit (begun_in ran.run) before.was.built.noted grows.0 seen.0.others seen.0.later);
+      others = inl (behind_law here.format here.own (begun_in before.run) before.run.exit (begun_in ran.run) before.was.built.noted grows.0 seen.0.others);
       number = seen.0.number;
       keeps = seen.0.keeps;
     },

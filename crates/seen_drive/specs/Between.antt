@@ -60,8 +60,8 @@ pub record OthersAreSeen (format : LogFormat) (own : OwnFiles) (e : Entered) (ex
   pub turned : (p : List ℕ) (n : Noted) (file : File) → next.knows.noted p ≡ Some n → file_at exit.history p ≡ Some file → IsAs n file → is_turned n.kind ≡ true
       → e.knows.is_output p ≡ true → next.knows.is_output p ≡ true
 
--- Then the next build comes behind that one, where its number is later than the records.
+-- Then the next build comes behind that one.
 abbrev pub SeenComesBehind : Type 0
 SeenComesBehind =
     (format : LogFormat) (own : OwnFiles) (e : Entered) (exit : World) (next : Entered) → NotesStand true e exit → GoesOnTo exit.history next.first
-    → OthersAreSeen format own e exit next → IsLaterThanRecords format own (told_at e exit) next.knows.number → ComesBehind format own e exit next
+    → OthersAreSeen format own e exit next → ComesBehind format own e exit next

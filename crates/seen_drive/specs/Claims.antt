@@ -15,8 +15,6 @@ use Rattle.seen_builds.specs.Claims.{IsAsClaimed, KeepsRecords}
 use Rattle.seen_builds.specs.Fresh.{BeginsFresh}
 use Rattle.seen_builds.specs.From.{BeginsKnowing, IsSeenBuild}
 use Rattle.seen_builds.specs.Runs.{Before, Conventions, HasLateNumber, OthersCount, Run, Told, WasRun, begun_in, ended_by, run_of}
-use Rattle.seen_true.specs.Between.{told_at}
-use Rattle.seen_true.specs.Soundly.{IsLaterThanRecords}
 use Rattle.seen_drive.specs.Between.{OthersAreSeen}
 use Rattle.seen_drive.specs.Visits.{Built, Edited, FollowsFrom, IsNextBuild, IsReadBuild, Restarted, Visit}
 
@@ -89,10 +87,9 @@ abbrev pub AreKeptFirst : (here : Conventions) (rans : List Ran) → AllFit here
 AreKeptFirst here [] fits = Unit {0}
 AreKeptFirst here (ran ∷ rest) fits = IsKeptFirst here ran fits.0 × AreKept here (ended_by ran.run) rest fits.1
 
--- OF ONE BEHIND ANOTHER, write by write; and of the program, that its number is later than the records that are told there, and than those that it finds.
+-- OF ONE BEHIND ANOTHER, write by write; and of the program, that its number is later than the records that it finds.
 pub record IsSeenBehind (here : Conventions) (before : Run) (ran : Ran) (fits : IsOwnIn here.own ran.run.request.folder) : Type 0 where
   pub others : OthersAreSeen here.format here.own (begun_in before) before.exit (begun_in ran.run)
-  pub later : IsLaterThanRecords here.format here.own (told_at (begun_in before) before.exit) ran.run.counts.number
   pub number : HasLateNumber here ran.run
   pub keeps : KeepsRecords here ran.run ran.was fits
 

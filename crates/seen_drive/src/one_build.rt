@@ -60,7 +60,7 @@ fn build_read<S: Measured + Drop>(
 fn build_linked<S: Measured + Drop>(
     alloc: Global,
     site: S,
-    mut graph: Graph,
+    graph: Graph,
     asked: &Asked<'_>,
     options: &Options,
 ) -> (Report, S)
@@ -72,5 +72,5 @@ fn build_linked<S: Measured + Drop>(
     ensures ended { reports_fault result.0 ≡ false → HaveEnded (S.world result.1) }
 {
     builds_end();
-    build_seen(alloc, site, &mut graph, asked, options)
+    build_seen(alloc, site, graph, asked, options)
 }

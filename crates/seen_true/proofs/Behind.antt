@@ -23,7 +23,7 @@ use Rattle.seen_true.proofs.Sound.{begins_law}
 pub sound_law : FilesAreTold → OneReading forms → BehindIsSound
 sound_law files_law one_reading format own e exit next base stands knows behind =
     ending_law files_law one_reading format own (course e exit) next.knows next.first (stands.kept refl behind.left) knows.fit
-    (stay_law next base knows.enters behind.read).reads behind.others behind.number
+    (stay_law next base knows.enters behind.read).reads behind.others knows.number
 
 module _ (B : Behaviour) (format : LogFormat) (own : OwnFiles) (edges others : List Edge)
     (e : Entered) (exit : World) (next : Entered) (last entry : World) (was : last.history ≡ told_at e exit) (idle : IsIdle entry.events)

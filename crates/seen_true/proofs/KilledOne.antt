@@ -12,7 +12,7 @@ use Rattle.log_text.specs.Text.{IsLogOf}
 use Rattle.model.specs.declared.event.Event.TheVariants.{Start}
 use Rattle.model.specs.declared.event.Moment.{Moment}
 use Rattle.model.specs.declared.event.Moment.TheVariants.{Wrote, Happened}
-use Rattle.model.specs.declared.event.Writer.TheVariants.{Command, Program}
+use Rattle.model.specs.declared.event.Writer.TheVariants.{Command, Program, Someone}
 use Rattle.model.specs.World.{File, IsNotAt, content_of, file_after, file_at, file_from, view_of, written}
 use Rattle.model.specs.Graph.{has}
 use Rattle.model.specs.Records.{Made}
@@ -281,8 +281,20 @@ others_so = record {
 pub killed_law : KilledIsMet
 killed_law = (
   are_true,
-  record { same = λ p. refl; seen = refl; build_log = refl; deps_log = refl },
-  record { records = notes_of found; tail = Whole; read = inr has_log; is = λ p. refl },
-  others_so,
-  is_later,
+  record { goes_on = λ is. refl; kept = λ is left. ∣ are_true ∣₁ },
+  record {
+    enters = record {
+      earlier = [];
+      later = Wrote Someone gone (Some edited) 1 ∷ [];
+      grows = refl;
+      enters = record {
+        reads = record { records = notes_of found; tail = Whole; read = inr has_log; is = λ p. refl };
+        whole = record { records = notes_of found; log = has_log; same = λ p. refl };
+      };
+      left = (tt, tt);
+    };
+    fit = record { same = λ p. refl; seen = refl; build_log = refl; deps_log = refl };
+    number = is_later;
+  },
+  record { left = (tt, (tt, (refl, tt))); read = (refl, tt); others = others_so },
 )

@@ -29,31 +29,32 @@ paths_between told later = written_in told ++ written_in later
 abbrev pub told_behind : Entered → World → (next : Entered) → List Moment
 told_behind e exit next = told_next (telling next.knows) (told_at e exit) next.first (paths_between (told_at e exit) next.first)
 
--- THE NEXT BUILD COMES BEHIND THAT ONE. Nobody but the program wrote the notes in that one, since it was asked for, nor while the next one read them;
--- others wrote so; and the number of the next one is later than the records.
+-- THE NEXT BUILD COMES BEHIND THAT ONE. Nobody but the program wrote the notes in that one, since it was asked for, nor while the next one read them; and
+-- others wrote so.
 pub record ComesBehind (format : LogFormat) (own : OwnFiles) (e : Entered) (exit : World) (next : Entered) : Type 0 where
   pub left : AllByRecursion (IsLeftByOthers e.knows.seen) (since_asked e exit)
   pub read : AllByRecursion (IsLeftByOthers next.knows.seen) (entering next)
   pub others : OthersWroteSo format own (course e exit) next.knows next.first
-  pub number : IsLaterThanRecords format own (told_at e exit) next.knows.number
 
--- What the next one knows of notes was read of them since it was asked for, and both have the same files of their own.
-pub record KnowsBehind (own : OwnFiles) (e next : Entered) (base : Option (List ℕ)) : Type 0 where
+-- What the next one knows of notes was read of them since it was asked for, both have the same files of their own, and its number is later than the
+-- records.
+pub record KnowsBehind (format : LogFormat) (own : OwnFiles) (e : Entered) (exit : World) (next : Entered) (base : Option (List ℕ)) : Type 0 where
   pub enters : EntersAt next.knows base next.asked next.first
   pub fit : OwnFit own e.knows next.knows
+  pub number : IsLaterThanRecords format own (told_at e exit) next.knows.number
 
 -- Then, where the notes were true at the end of that one, what others did counts soundly.
 abbrev pub BehindIsSound : Type 0
 BehindIsSound =
     (format : LogFormat) (own : OwnFiles) (e : Entered) (exit : World) (next : Entered) (base : Option (List ℕ))
-    → NotesStand true e exit → KnowsBehind own e next base → ComesBehind format own e exit next
+    → NotesStand true e exit → KnowsBehind format own e exit next base → ComesBehind format own e exit next
     → CountSoundly format own (telling next.knows) (told_at e exit) next.first (paths_between (told_at e exit) next.first)
 
 -- So the next one begins with what counts, and with faithful records: whatever its notes are, nothing of them is supposed.
 abbrev pub BehindBegins : Type 0
 BehindBegins =
     (B : Behaviour) (format : LogFormat) (own : OwnFiles) (edges others : List Edge) (e : Entered) (exit : World) (next : Entered) (base : Option (List ℕ)) (last entry : World)
-    → NotesStand true e exit → KnowsBehind own e next base → ComesBehind format own e exit next
+    → NotesStand true e exit → KnowsBehind format own e exit next base → ComesBehind format own e exit next
     → last.history ≡ told_at e exit → entry.history ≡ next.first → IsIdle entry.events → IsFaithfulStore B format own edges last
     → BeginsSo (telling next.knows) next.first (told_behind e exit next)
     × OthersWrote no_command (told_at e exit) (told_behind e exit next)

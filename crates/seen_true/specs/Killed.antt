@@ -1,6 +1,6 @@
 -- A build that is killed behind a write of a command, before anything is noted of that; then somebody puts two sources there under an old stamp,
 -- one of them where there was none. The notes are true, and all that is supposed is met.
-use Rattle.std.specs.Prelude.{ℕ, ◌||◌, Bool, List, [], ◌∷◌, ◌++◌, Some, None, bytes_eq}
+use Rattle.std.specs.Prelude.{ℕ, ◌||◌, Bool, true, List, [], ◌∷◌, ◌++◌, Some, None, bytes_eq}
 use Rattle.log_text.specs.declared.form.Version.TheVariants.{Two}
 use Rattle.log_text.specs.Form.{lines_text}
 use Rattle.log_text.specs.Text.{header}
@@ -11,11 +11,12 @@ use Rattle.model.specs.declared.event.Writer.TheVariants.{Command, Program, Some
 use Rattle.seen_log.specs.declared.note.Kind.TheVariants.{Source}
 use Rattle.seen_log.specs.Log.{noted_in_force}
 use Rattle.seen_log.specs.Record.{forms}
+use Rattle.model.specs.World.{World}
 use Rattle.seen_law.specs.Rows.{edited, output, source, was, some_act, makes_output}
 use Rattle.seen_true.specs.Counting.{Knowing}
-use Rattle.seen_true.specs.Soundly.{IsLaterThanRecords}
-use Rattle.seen_true.specs.Notes.{Course, NotesAreTrue, Sighting, notes_of, real, told}
-use Rattle.seen_true.specs.Others.{OthersWroteSo, OwnFit, ReadsNotes}
+use Rattle.seen_true.specs.Between.{ComesBehind, KnowsBehind}
+use Rattle.seen_true.specs.Going.{Entered, NotesStand}
+use Rattle.seen_true.specs.Notes.{Course, NotesAreTrue, Sighting, notes_of, real}
 use Rattle.seen_true.specs.Small.{is_log, log, own, reads}
 
 -- the file of the notes
@@ -60,6 +61,26 @@ next = record { noted = noted_in_force (notes_of found); is_output = λ p. bytes
 abbrev pub later : List Moment
 later = real killed ++ Wrote Someone source (Some edited) 1 ∷ Wrote Someone gone (Some edited) 1 ∷ []
 
+-- the build began so, as it was asked for, and the site was this when it was killed
+abbrev pub began : Entered
+began = record { knows = knew; asked = before; first = before; before = before }
+
+abbrev pub exit : World
+exit = record {
+  history = real killed;
+  events = Start 1 some_act 7 ∷ [];
+  earlier = [];
+  ticked = 7;
+  failures = 0;
+  failures_at_start = 0;
+  wait_refused = None;
+  stopped = true;
+}
+
+-- the next one read the notes before the last of these writes, and began behind it
+abbrev pub next_began : Entered
+next_began = record { knows = next; asked = real killed ++ Wrote Someone source (Some edited) 1 ∷ []; first = later; before = [] }
+
 abbrev pub KilledIsMet : Type 0
 KilledIsMet =
-    NotesAreTrue killed × OwnFit own killed.knows next × ReadsNotes next later × OthersWroteSo reads own killed next later × IsLaterThanRecords reads own (told killed) next.number
+    NotesAreTrue killed × NotesStand true began exit × KnowsBehind reads own began exit next_began None × ComesBehind reads own began exit next_began

@@ -6,5 +6,5 @@ pub mod Laws
 pub mod Calls
 pub mod Small
 pub mod Going
-pub mod Killed
 pub mod Between
+pub mod Killed

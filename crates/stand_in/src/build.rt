@@ -3,7 +3,12 @@
 ghost use Rattle.std.specs.Prelude.{◌≡◌, ◌⊎◌, [], false, IfErr, IfNone, IfOk, IfSome, OnOk};
 ghost use Rattle.model.specs.World.{World, IsIdle};
 ghost use Rattle.model.specs.Calls.{OnlyLooks};
+ghost use Rattle.graph.specs.Told.{declared_by};
+ghost use Rattle.manifest.specs.Answer.{IsGraph};
+ghost use Rattle.builder.specs.Asked.{AreTargets, IsFolder};
 ghost use Rattle.builder.specs.Build.{IsBuild, limits_of};
+ghost use Rattle.builder.specs.Parts.{BuildsGraph};
+ghost use Rattle.builder.specs.Reports.{IsLinked};
 ghost use Rattle.ninja_asked.specs.Above.{AreEdges};
 ghost use Rattle.stand_in.specs.Moves.{EndsFirst, IsEndOf, IsReady, MayBeBuiltFirst, end_in, outcome_in};
 ghost use Rattle.stand_in.specs.Moves.{WasReadAlone, WasReadHere, WasUnreadAlone, WasUnreadHere};
@@ -11,7 +16,7 @@ ghost use Rattle.stand_in.specs.Moves.{ComesNext, ComesOnceBuilt, EndsOncePrepar
 
 use crate::place::Place;
 use crate::regenerating::{Regenerated, regenerate};
-use builder::{Asked, Options, Report, build, build_graph_read, link, own_folder};
+use builder::{Asked, Held, Options, Report, build, build_graph_holding, link, own_folder};
 use depfile::has_reading;
 use dyndep_law::has_reading as has_dyndeps;
 use log_text::has_format;
@@ -21,7 +26,7 @@ use ninja_asked::{Above, Targets, all_above, left_targets};
 use ninja_words::Options as Given;
 use nj_run::Alone;
 use site::Site;
-use std::alloc::Global;
+use std::alloc::{AllocError, Global};
 use text::Text;
 use tools::{Declared, Fault};
 
@@ -98,14 +103,14 @@ pub fn read_alone<S: Alone>(alloc: Global, site: &mut S, file: &str) -> Result<D
 }
 
 /// Runs the generators of the file that are out of date, and then builds what is asked for: the moves of a build of what generators
-/// need, edits, and a build. Where nothing is out of date, it is one build, for which all is read once. What was read first comes with the
-/// end, if it could be read: it has served, and who ends the program right after need not let it go.
+/// need, edits, and a build. Where nothing is out of date, it is one build, for which all is read once. What the last build holds at its
+/// end comes with that, if it came so far: it has served, and who ends the program right after need not let it go.
 pub fn build_here<S: Place>(
     alloc: Global,
     site: &mut S,
     given: &Given<'_>,
     options: &Options,
-) -> (Ended, Option<Declared>)
+) -> (Ended, Option<Held>)
     requires { IsIdle (S.world site.old).events }
     ensures { IsEndOf S.tells S.outcome options.now (S.world site.old) (S.world site.new) result.0.outcome }
 {
@@ -121,15 +126,13 @@ fn try_build<S: Place>(
     site: &mut S,
     given: &Given<'_>,
     options: &Options,
-    left: &mut Option<Declared>,
+    left: &mut Option<Held>,
 ) -> Result<Ended, Report>
     requires { IsIdle (S.world site.old).events }
     ensures { IsEndOf S.tells S.outcome options.now (S.world site.old) (S.world site.new) (end_in result) }
 {
-    let mut declared = read_alone(alloc, site, options.file.as_str())?;
-    let ended = build_declared(alloc, site, given, options, &mut declared);
-    *left = Some(declared);
-    ended
+    let declared = read_alone(alloc, site, options.file.as_str())?;
+    build_declared(alloc, site, given, options, declared, left)
 }
 
 /// Builds what was read, once generators had their turn.
@@ -138,27 +141,50 @@ fn build_declared<S: Place>(
     site: &mut S,
     given: &Given<'_>,
     options: &Options,
-    declared: &mut Declared,
+    declared: Declared,
+    left: &mut Option<Held>,
 ) -> Result<Ended, Report>
     requires idle { IsIdle (S.world site.old).events }
-    requires read { (entry : World) × WasReadAlone S.tells options.now.file entry (S.world site.old) declared.old }
-    ensures { EndsOnceRead S.tells S.outcome options.now declared.old (S.world site.old) (S.world site.new) (end_in result) }
+    requires read { (entry : World) × WasReadAlone S.tells options.now.file entry (S.world site.old) declared }
+    ensures { EndsOnceRead S.tells S.outcome options.now declared (S.world site.old) (S.world site.new) (end_in result) }
 {
-    let above = all_above(alloc, declared, options.file.as_str())?;
-    let next = before_build(alloc, site, declared, &above, options)?;
+    let above = all_above(alloc, &declared, options.file.as_str())?;
+    build_below(alloc, site, given, options, declared, &above, left)
+}
+
+/// The same with what is above the file.
+fn build_below<S: Place>(
+    alloc: Global,
+    site: &mut S,
+    given: &Given<'_>,
+    options: &Options,
+    declared: Declared,
+    above: &Above,
+    left: &mut Option<Held>,
+) -> Result<Ended, Report>
+    requires idle { IsIdle (S.world site.old).events }
+    requires within { AreEdges declared above.now.generators.items }
+    requires read { (entry : World) × WasReadAlone S.tells options.now.file entry (S.world site.old) declared }
+    ensures { EndsOnceRead S.tells S.outcome options.now declared (S.world site.old) (S.world site.new) (end_in result) }
+{
+    let next = before_build(alloc, site, &declared, above, options)?;
     match next {
         Next::End(outcome) => Ok(Ended::by(outcome)),
-        Next::Build => {
-            let outcome = build_rest(alloc, site, given, options, declared, &above)?;
-            Ok(Ended {
-                outcome,
-                old: false,
-            })
-        }
-        Next::ReadAnew { old } => {
-            let outcome = build_anew(alloc, site, given, options)?;
-            Ok(Ended { outcome, old })
-        }
+        Next::Build => told_old(
+            build_rest(alloc, site, given, options, declared, above, left),
+            false,
+        ),
+        Next::ReadAnew { old } => told_old(build_anew(alloc, site, given, options, left), old),
+    }
+}
+
+/// An outcome, and whether the file is out of date still behind its generator.
+fn told_old(outcome: Result<Outcome, Report>, old: bool) -> Result<Ended, Report>
+    ensures { end_in result ≡ outcome_in outcome }
+{
+    match outcome {
+        Ok(outcome) => Ok(Ended { outcome, old }),
+        Err(report) => Err(report),
     }
 }
 
@@ -255,8 +281,15 @@ fn build_known<S: Place>(
     requires { IsIdle (S.world site.old).events }
     ensures { IsBuild S.tells S.outcome options.now.file (limits_of options.now) targets.now (S.world site.old) (S.world site.new) result }
 {
-    site.learn(alloc, &declared.graph.manifest, options.verbose);
+    learn(alloc, site, declared, options);
     build(alloc, site, options, targets)
+}
+
+/// Tells the site what is declared: names for a screen that shows what runs.
+fn learn<S: Place>(alloc: Global, site: &mut S, declared: &Declared, options: &Options)
+    ensures { S.world site.new ≡ S.world site.old }
+{
+    site.learn(alloc, &declared.graph.manifest, options.verbose);
 }
 
 /// Reads the build files once more, and builds what is asked for.
@@ -265,14 +298,15 @@ fn build_anew<S: Place>(
     site: &mut S,
     given: &Given<'_>,
     options: &Options,
+    left: &mut Option<Held>,
 ) -> Result<Outcome, Report>
     requires { IsIdle (S.world site.old).events }
     ensures { EndsOncePrepared S.tells S.outcome options.now (S.world site.old) (S.world site.new) (outcome_in result) }
 {
     let file = options.file.as_str();
-    let mut declared = read_here(alloc, site, file)?;
+    let declared = read_here(alloc, site, file)?;
     let above = all_above(alloc, &declared, file)?;
-    build_rest(alloc, site, given, options, &mut declared, &above)
+    build_rest(alloc, site, given, options, declared, &above, left)
 }
 
 /// Builds what is asked for beside what generators make.
@@ -281,16 +315,18 @@ fn build_rest<S: Place>(
     site: &mut S,
     given: &Given<'_>,
     options: &Options,
-    declared: &mut Declared,
+    declared: Declared,
     above: &Above,
+    left: &mut Option<Held>,
 ) -> Result<Outcome, Report>
     requires idle { IsIdle (S.world site.old).events }
-    requires ready { (old : World) × IsReady S.tells S.outcome options.now old (S.world site.old) declared.old }
-    ensures { EndsOnceReady S.tells S.outcome options.now declared.old (S.world site.old) (S.world site.new) (outcome_in result) }
+    requires ready { (old : World) × IsReady S.tells S.outcome options.now old (S.world site.old) declared }
+    ensures { EndsOnceReady S.tells S.outcome options.now declared (S.world site.old) (S.world site.new) (outcome_in result) }
 {
-    match left_targets(alloc, site, declared, given.words.as_slice(), above) {
+    let mut asked = declared;
+    match left_targets(alloc, site, &mut asked, given.words.as_slice(), above) {
         Ok(Targets::Nothing) => Ok(Outcome::Built(Report::Success { started: 0 })),
-        Ok(left) => build_these(alloc, site, options, declared, left.as_slice()),
+        Ok(targets) => build_these(alloc, site, options, asked, targets.as_slice(), left),
         Err(Fault::Memory) => Err(Report::Fault(SiteFault::Memory)),
         Err(fault) => Ok(Outcome::Refused(fault)),
     }
@@ -301,15 +337,16 @@ fn build_these<S: Place>(
     alloc: Global,
     site: &mut S,
     options: &Options,
-    declared: &mut Declared,
+    declared: Declared,
     targets: &[Text],
+    left: &mut Option<Held>,
 ) -> Result<Outcome, Report>
     requires idle { IsIdle (S.world site.old).events }
-    requires ready { (old : World) × IsReady S.tells S.outcome options.now old (S.world site.old) declared.old }
-    ensures { EndsOnceReady S.tells S.outcome options.now declared.old (S.world site.old) (S.world site.new) (outcome_in result) }
+    requires ready { (old : World) × IsReady S.tells S.outcome options.now old (S.world site.old) declared }
+    ensures { EndsOnceReady S.tells S.outcome options.now declared (S.world site.old) (S.world site.new) (outcome_in result) }
 {
-    site.learn(alloc, &declared.graph.manifest, options.verbose);
-    build_named(alloc, site, options, declared, targets)
+    learn(alloc, site, &declared, options);
+    build_named(alloc, site, options, declared, targets, left)
 }
 
 /// Builds these targets of what was read, or the default ones where there are none.
@@ -317,17 +354,54 @@ fn build_named<S: Place>(
     alloc: Global,
     site: &mut S,
     options: &Options,
-    declared: &mut Declared,
+    declared: Declared,
     targets: &[Text],
+    left: &mut Option<Held>,
 ) -> Result<Outcome, Report>
     requires idle { IsIdle (S.world site.old).events }
-    requires ready { (old : World) × IsReady S.tells S.outcome options.now old (S.world site.old) declared.old }
-    ensures { EndsOnceReady S.tells S.outcome options.now declared.old (S.world site.old) (S.world site.new) (outcome_in result) }
+    requires ready { (old : World) × IsReady S.tells S.outcome options.now old (S.world site.old) declared }
+    ensures { EndsOnceReady S.tells S.outcome options.now declared (S.world site.old) (S.world site.new) (outcome_in result) }
 {
     has_format();
     has_reading();
     has_dyndeps();
-    let graph = &mut declared.graph;
-    let asked = Asked::new(alloc, options, targets, &graph.manifest.builddir)?;
-    Ok(Outcome::Built(build_graph_read(alloc, site, graph, &asked, options)))
+    let asked = asked_of(alloc, options, targets, &declared)?;
+    let report = build_holding(alloc, site, options, declared, &asked, left);
+    Ok(Outcome::Built(report))
+}
+
+/// What these targets ask of what was read.
+fn asked_of<'a>(
+    alloc: Global,
+    options: &Options,
+    given: &'a [Text],
+    declared: &Declared,
+) -> Result<Asked<'a>, AllocError>
+    ensures given { IfOk result (λ asked. asked.given.now ≡ given.now) }
+    ensures targets { IfOk result (λ asked. AreTargets given.now asked.targets) }
+    ensures folder { IfOk result (λ asked. IsFolder declared.now.graph.manifest.builddir asked.folder) }
+    ensures limits { IfOk result (λ asked. asked.limits ≡ limits_of options.now) }
+{
+    Asked::new(alloc, options, given, &declared.graph.manifest.builddir)
+}
+
+/// Builds what was asked of what was read, and keeps what that holds at its end, if it came so far.
+fn build_holding<S: Place>(
+    alloc: Global,
+    site: &mut S,
+    options: &Options,
+    declared: Declared,
+    asked: &Asked<'_>,
+    left: &mut Option<Held>,
+) -> Report
+    requires idle { IsIdle (S.world site.old).events }
+    requires running { (S.world site.old).stopped ≡ false }
+    requires formed { IsGraph (declared_by declared.graph) }
+    requires linked { IsLinked declared.graph }
+    ensures { BuildsGraph S.tells S.world site.old site.new declared.graph asked.now result }
+{
+    let Declared { graph, .. } = declared;
+    let (report, held) = build_graph_holding(alloc, site, graph, asked, options);
+    *left = held;
+    report
 }

@@ -17,7 +17,7 @@ use Rattle.theory.proofs.Steps.{running_parts}
 use Rattle.paths.specs.Told.{text_at}
 use Rattle.graph.specs.declared.graph.Graph.{Graph}
 use Rattle.judge.specs.Seen.{AreKept}
-use Rattle.work.specs.declared.state.State.{State}
+use Rattle.work.specs.declared.state.Work.{Work}
 use Rattle.work.specs.Course.{Course, edges_of, is_quiet, AreAnew, AreSeenBefore}
 use Rattle.work.proofs.Quiet.{KeepsQuiet, files_then, quiet_from}
 
@@ -72,7 +72,7 @@ as_new edges ran many first now new p same still = by_maker (maker edges p) refl
 
 -- ---- over a call
 
-module _ (tells : Bool) (course : Course) (graph : Graph) (steps many by : List Done) (state : State) (now new : World) (quiet : KeepsQuiet tells course.own (edges_of course) by course.entry now new) where
+module _ (tells : Bool) (course : Course) (graph : Graph) (steps many by : List Done) (state : Work) (now new : World) (quiet : KeepsQuiet tells course.own (edges_of course) by course.entry now new) where
   -- in which no command is taken in
   pub anew_over : IsMadeOnce (edges_of course) → ((j : ℕ) → has_number (well_in steps) j ≡ true → (has_number (ended_in by) j ≡ true) × IsCommand (edges_of course) j) → well_in many ≡ well_in steps → failed_in many ≡ failed_in steps
       → AreAnew tells course graph steps state now → AreAnew tells course graph many state new

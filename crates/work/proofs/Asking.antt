@@ -44,7 +44,7 @@ use Rattle.judge.specs.Stores.{IsStoreOf}
 use Rattle.judge.specs.UnderWay.{IsUnderWay}
 use Rattle.work.proofs.Callers.{under_way}
 use Rattle.work.proofs.Points.{HasQuiet, IsSpared, paths_for, points_alike}
-use Rattle.work.specs.declared.state.State.{State}
+use Rattle.work.specs.declared.state.Work.{Work}
 use Rattle.work.specs.After.{ComesAfter}
 use Rattle.work.specs.Course.{Course, is_quiet}
 use Rattle.work.proofs.Keeping.{looks_carried, looks_quiet}
@@ -111,7 +111,7 @@ module _ (tells : Bool) (course : Course) (edges : List Edge) (phases : List Pha
 
 -- ---- what is found where the build stands
 
-module _ (tells : Bool) (course : Course) (edges : List Edge) (phases : List Phase) (graph : Graph) (state : State) (now : World) (stands : StandsAt tells course edges phases graph state now) where
+module _ (tells : Bool) (course : Course) (edges : List Edge) (phases : List Phase) (graph : Graph) (state : Work) (now : World) (stands : StandsAt tells course edges phases graph state now) where
   abbrev here : Course
   here = grown_course course edges phases
 

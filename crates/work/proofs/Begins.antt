@@ -17,7 +17,7 @@ use Rattle.plan.specs.Planned.{IsNext}
 use Rattle.records.specs.declared.records.Records.{Records}
 use Rattle.records.specs.Logging.{AreSameLogs, IsLogging, IsLoggedStill, NoneInForce}
 use Rattle.records.specs.Laws.{LogStays}
-use Rattle.work.specs.declared.state.State.{State}
+use Rattle.work.specs.declared.state.Work.{Work}
 use Rattle.work.specs.Course.{Course, goes_on, Suits, edges_of, IsOn}
 use Rattle.work.specs.Going.{IsSaid, IsCut}
 use Rattle.work.specs.Starting.{IsBegun}
@@ -34,7 +34,7 @@ module _ (tells : Bool) (course : Course) (graph : Graph) (suits : Suits course 
   same_edges : edges_of course ≡ (declared_by graph).edges
   same_edges = ap (λ (b : BuildGraph). b.edges) suits.same
 
-  module _ (stays : LogStays) (state : State) (now : World) (e : ℕ) (on : IsOn tells course graph None state now) (goes : goes_on course ≡ true) (next : IsNext state.plan (Start e)) where
+  module _ (stays : LogStays) (state : Work) (now : World) (e : ℕ) (on : IsOn tells course graph None state now) (goes : goes_on course ≡ true) (next : IsNext state.plan (Start e)) where
     said : IsSaid course graph on.steps (Start e)
     said = said_next course graph state.plan (Start e) on.steps goes on.planned on.taken next
 
@@ -72,7 +72,7 @@ module _ (tells : Bool) (course : Course) (graph : Graph) (suits : Suits course 
           → ((B : Behaviour) (format : LogFormat) (own : OwnFiles) (steps : List Done) (entry : Store) (first : World)
           → IsLogging tells B format own (declared_by graph).edges steps (Some (suc e)) entry first mid state.records.logs
           → IsLogging tells B format own (declared_by graph).edges steps (Some (suc e)) entry first new records.logs × NoneInForce tells format own (declared_by graph).edges (suc e) first new)
-          → IsBegun tells course graph (suc e) (record { alloc = state.alloc; cone = state.cone; plan = state.plan; looks = state.looks; records = records; display = display; tick = state.tick; due = state.due; starts = state.starts; failed = state.failed }) new
+          → IsBegun tells course graph (suc e) (record { alloc = state.alloc; graph = state.graph; cone = state.cone; plan = state.plan; looks = state.looks; records = records; display = display; tick = state.tick; due = state.due; starts = state.starts; failed = state.failed }) new
       begun_now records display same places deps_places begun =
           let told = begun course.behaviour course.format course.own on.steps course.store course.entry declared_logging in
           let logging = subst (λ (edges : List Edge). IsLogging tells course.behaviour course.format course.own edges on.steps (Some (suc e)) course.store course.entry new records.logs) (sym same_edges) told.0 in

@@ -10,7 +10,7 @@ use Rattle.theory.proofs.Lists.{same_rest}
 use Rattle.theory.specs.Ledger.{IsRefused}
 use Rattle.graph.specs.declared.graph.Graph.{Graph}
 use Rattle.work.specs.declared.cut.Cut.{Cut}
-use Rattle.work.specs.declared.state.State.{State}
+use Rattle.work.specs.declared.state.Work.{Work}
 use Rattle.work.specs.After.{ComesAfter, LooksUnlessMore}
 use Rattle.work.specs.Course.{Course, IsSince, Suits, IsOn}
 use Rattle.work.specs.Cut.{fault_of, IsLeft}
@@ -24,7 +24,7 @@ use Rattle.work.specs.Standing.{grown_course, ended_course, task_over, StandsAt,
 use Rattle.work.proofs.Asking.{had_asked_on, whole}
 use Rattle.work.proofs.Halting.{still_unstarted}
 
-module _ (tells : Bool) (course : Course) (edges : List Edge) (graph : Graph) (state : State) (now : World) (refusal : Refusal) (refused : IsRefusedAt tells course edges graph state now refusal) where
+module _ (tells : Bool) (course : Course) (edges : List Edge) (graph : Graph) (state : Work) (now : World) (refusal : Refusal) (refused : IsRefusedAt tells course edges graph state now refusal) where
   abbrev phases : List Phase
   phases = refused.phases
 
@@ -106,7 +106,7 @@ module _ (tells : Bool) (course : Course) (edges : List Edge) (graph : Graph) (s
         (phased_finished tells course.behaviour course.own (asked_with course.asked edges) course.store phases course.entry since.0 done now stands.on.carried.phased cause since.2 new (λ tell. (grows.history tell).0) (λ tell. (grows.history tell).1))
 
     -- all that ran was taken in
-    pub stopped_finished : (after : State) → LooksUnlessMore tells graph now new state.looks after.looks → IsFinished tells ends graph after new → HasStopped tells course edges new refusal
+    pub stopped_finished : (after : Work) → LooksUnlessMore tells graph now new state.looks after.looks → IsFinished tells ends graph after new → HasStopped tells course edges new refusal
     stopped_finished after looked finished = record {
       phases = phases;
       done = done;

@@ -16,7 +16,7 @@ use Rattle.judge.specs.Looking.{HasLooked}
 use Rattle.judge.specs.Seen.{look_at}
 use Rattle.work.proofs.Seeing.{saw_none}
 use Rattle.plan.specs.Changed.{AreFlagged}
-use Rattle.work.specs.declared.state.State.{State}
+use Rattle.work.specs.declared.state.Work.{Work}
 use Rattle.work.specs.Going.{IsSameBeside, HasEnded}
 use Rattle.work.specs.Restat.{is_same_look, AreChangesOf, IsFlagged, IsForgotten, LooksAnew}
 use Rattle.work.proofs.Noting.{place_of}
@@ -63,7 +63,7 @@ outputs_forgotten graph e paths before after same forgotten others fits = record
   fits = fits;
 }
 
-module _ (tells : Bool) (graph : Graph) (e : ℕ) (ok : Bool) (was now : World) (old new : State) (beside : IsSameBeside old new)
+module _ (tells : Bool) (graph : Graph) (e : ℕ) (ok : Bool) (was now : World) (old new : Work) (beside : IsSameBeside old new)
     (unchanged : (p : ℕ) → has_number ((links_of graph).outputs e) p ≡ false → has new.plan.changed.items p ≡ has old.plan.changed.items p) where
   abbrev compares : Bool
   compares = ok && (edge_at (declared_by graph).edges (suc e)).restat

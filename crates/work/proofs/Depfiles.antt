@@ -21,7 +21,7 @@ use Rattle.depfile.specs.declared.fault.DepFault.{DepFault}
 use Rattle.depfile.specs.Depfile.{IsRead, IsReading, accepted, firsts}
 use Rattle.work.specs.declared.reported.Told.{Told}
 use Rattle.work.specs.declared.reported.Told.TheVariants.{Nothing, Inputs, Refused}
-use Rattle.work.specs.declared.state.State.{State}
+use Rattle.work.specs.declared.state.Work.{Work}
 use Rattle.work.specs.Course.{Course, goes_on, Suits, edges_of, IsOn}
 use Rattle.work.specs.Telling.{Says, WasRead, ended_well, HasTold}
 
@@ -142,7 +142,7 @@ abbrev pub went_well : (ok : Bool) (told : Told) → ended_well ok told ≡ true
 went_well true told went = refl
 went_well false told went = absurd (false≢true went)
 
-module _ (tells : Bool) (course : Course) (graph : Graph) (suits : Suits course graph) (one : OneAnswer) (state : State) (now mid new : World) (i : ℕ) (ok : Bool) (on : IsOn tells course graph None state now)
+module _ (tells : Bool) (course : Course) (graph : Graph) (suits : Suits course graph) (one : OneAnswer) (state : Work) (now mid new : World) (i : ℕ) (ok : Bool) (on : IsOn tells course graph None state now)
     (finish : Finishes tells i ok now mid) (looks : OnlyLooks tells mid new) where
   abbrev act : Act
   act = (edge_at (edges_of course) i).act

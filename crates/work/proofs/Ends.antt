@@ -14,7 +14,7 @@ use Rattle.plan.specs.declared.step.Step.TheVariants.{Load, Ended as Over}
 use Rattle.plan.specs.Planned.{IsNext}
 use Rattle.work.specs.declared.cut.Cut.{Cut}
 use Rattle.work.specs.declared.summary.Summary.TheVariants.{Well, Failed}
-use Rattle.work.specs.declared.state.State.{State}
+use Rattle.work.specs.declared.state.Work.{Work}
 use Rattle.work.specs.Course.{Course, goes_on, IsOn}
 use Rattle.work.specs.Going.{IsOver, IsAtLoad, IsCut, IsInHand}
 use Rattle.work.specs.Ran.{HasRun, AreEdgesOf}
@@ -33,7 +33,7 @@ module _ (tells : Bool) (course : Course) (graph : Graph) (now : World) where
       record { phased = carried.phased; run = cut.run; beside = cut.beside }
 
   -- all went well
-  pub ran_well : (state : State) (started : ℕ) (over : IsOver tells course graph state ending.Well now) → started ≡ length (well_in over.on.steps) → HasRun tells course now (Ok (Well started))
+  pub ran_well : (state : Work) (started : ℕ) (over : IsOver tells course graph state ending.Well now) → started ≡ length (well_in over.on.steps) → HasRun tells course now (Ok (Well started))
   ran_well state started over many = record {
     steps = over.on.steps;
     met = None;
@@ -46,7 +46,7 @@ module _ (tells : Bool) (course : Course) (graph : Graph) (now : World) where
   }
 
   -- some commands failed
-  pub ran_failed : (state : State) → IsOver tells course graph state ending.Failed now → HasRun tells course now (Ok (Failed state.failed)) × AreEdgesOf graph (Failed state.failed)
+  pub ran_failed : (state : Work) → IsOver tells course graph state ending.Failed now → HasRun tells course now (Ok (Failed state.failed)) × AreEdgesOf graph (Failed state.failed)
   ran_failed state over = (
     record {
       steps = over.on.steps;
@@ -62,7 +62,7 @@ module _ (tells : Bool) (course : Course) (graph : Graph) (now : World) where
   )
 
   -- a load is next
-  pub at_load : (state : State) (file : ℕ) → IsNext state.plan (Load file) → IsOn tells course graph None state now → IsAtLoad tells course graph state file now
+  pub at_load : (state : Work) (file : ℕ) → IsNext state.plan (Load file) → IsOn tells course graph None state now → IsAtLoad tells course graph state file now
   at_load state file next on =
       let named = on.planned.over.loading.loads_are.named file next.offered in
       record {
@@ -73,11 +73,11 @@ module _ (tells : Bool) (course : Course) (graph : Graph) (now : World) where
       }
 
   -- nothing is left to do
-  pub at_end : (state : State) (end : End) → IsNext state.plan (Over end) → goes_on course ≡ true → IsOn tells course graph None state now → IsOver tells course graph state end now
+  pub at_end : (state : Work) (end : End) → IsNext state.plan (Over end) → goes_on course ≡ true → IsOn tells course graph None state now → IsOver tells course graph state end now
   at_end state end next goes on = record { on = on; over = said_next course graph state.plan (Over end) on.steps goes on.planned on.taken next }
 
   -- a call that only looked met the fault
-  pub cut_looking : (state : State) (plan : Plan) (new : World) → plan ≡ state.plan → OnlyLooks tells now new → IsOn tells course graph None state now → IsCut tells course graph plan new
+  pub cut_looking : (state : Work) (plan : Plan) (new : World) → plan ≡ state.plan → OnlyLooks tells now new → IsOn tells course graph None state now → IsCut tells course graph plan new
   cut_looking state plan new same looks on =
       subst (λ (p : Plan). IsCut tells course graph p new) (sym {A = Plan} same)
       (cut_free tells course graph state.plan new on.steps on.planned on.taken on.since (carried_looks tells course.behaviour course.format course.own course.asked course.store course.entry course.phases (goes_on course) on.steps None now new looks on.carried))

@@ -1,5 +1,5 @@
 -- What a dyndep file says joins a graph: what follows for recorded inputs, targets, records and the plan, and how it is taken back.
-use Rattle.std.proofs.Common.{◌≡◌, ◌⊎◌, inl, inr, ℕ, zero, suc, ◌<◌, ◌≤◌, cond, bytes_eq, Bool, true, false, List, [], ◌∷◌, ◌++◌, length, take, get_or, Option, Some, None, is_some, refl, sym, ◌∙◌, ap, subst, append_assoc, arith}
+use Rattle.std.proofs.Common.{◌≡◌, ◌⊎◌, inl, inr, ℕ, zero, suc, ◌<◌, ◌≤◌, cond, bytes_eq, Bool, true, false, List, [], ◌∷◌, ◌++◌, length, map, take, get_or, Option, Some, None, is_some, refl, sym, ◌∙◌, ap, subst, append_assoc, arith}
 use Rattle.std.specs.List.{All}
 use Rattle.std.specs.Option.{option_map}
 use Rattle.std.proofs.lemmas.Bool.{cases_Bool, false≢true, eqb-true, eq-eqb, or_left}
@@ -14,19 +14,27 @@ use Rattle.model.specs.Graph.{has, has_number, edge_at, targets_of, IsMadeOnce, 
 use Rattle.model.specs.Phases.{IsGrownBy}
 use Rattle.model.specs.Records.{Store, in_force, deps_in_force, recorded_of, recorded_inputs}
 use Rattle.model.specs.SingleBuild.{Asked, asked_with, declared_graph}
+use Rattle.theory.proofs.Cones.{no_cycle_by_order}
 use Rattle.theory.proofs.Lists.{same_some, some_none, bytes_same}
 use Rattle.paths.specs.declared.manifest.Action.{Action}
 use Rattle.paths.specs.declared.manifest.Action.TheVariants.{Alias, Command}
 use Rattle.paths.specs.Commands.{no_action}
-use Rattle.paths.specs.Lists.{line_at}
+use Rattle.paths.specs.declared.line.Line.{Line}
+use Rattle.paths.specs.Lists.{line_at, line_inputs}
 use Rattle.paths.specs.Told.{text_at, texts_at, edge_of}
 use Rattle.graph.specs.declared.back.Before.{Before}
+use Rattle.graph.specs.declared.cone.Cone.{Cone}
+use Rattle.graph.specs.declared.cone.Mark.{Mark}
 use Rattle.graph.specs.declared.graph.Graph.{Graph}
+use Rattle.graph.specs.Alone.{HasGrownAlone}
 use Rattle.graph.specs.Back.{Undoes, MayBeTakenBack}
 use Rattle.graph.specs.Extended.{HasLoaded, FilesStand, dyndep_at}
-use Rattle.graph.specs.Held.{list_at, dyndep_of}
+use Rattle.graph.specs.Held.{list_at, dyndep_of, maker_in}
+use Rattle.graph.specs.Links.{links_of, needs_of}
+use Rattle.graph.specs.Linked.{IsConeOf}
 use Rattle.graph.specs.LoadedEdges.{numbers_in}
 use Rattle.graph.specs.Statements.{is_place}
+use Rattle.graph.specs.Targets.{IsConeOfNumbers}
 use Rattle.graph.specs.Told.{declared_by, recorded_by, AreSameInputs}
 use Rattle.log_text.specs.BuildLog.{Keeps, makings}
 use Rattle.log_text.specs.DepsLog.{Keeps as KeepsDeps, tolds}
@@ -34,10 +42,10 @@ use Rattle.records.specs.declared.logs.Logs.{Logs}
 use Rattle.records.specs.declared.records.Records.{Records}
 use Rattle.records.specs.Held.{ArePlaces}
 use Rattle.records.specs.Known.{IsOf, IsOfDeps, AreKnown, AreStillKnown}
-use Rattle.plan.specs.Extended.{MayGoOn}
-use Rattle.work.specs.declared.state.State.{State}
+use Rattle.plan.specs.Staying.{MayGoOnBy}
+use Rattle.work.specs.declared.state.Work.{Work}
 use Rattle.work.specs.declared.report.Refusal.{Refusal}
-use Rattle.work.specs.Joined.{MayJoin, HasJoinedFile, IsCircle, IsUnjoined, StayKnown, MayShrink}
+use Rattle.work.specs.Joined.{MayJoin, MayKeep, HasJoinedFile, IsCircle, IsUnjoined, StayKnown, MayShrink}
 use Rattle.work.specs.Recorded.{AreToJoin, HasGrownAt, HasJoinedOf}
 use Rattle.work.proofs.Joining.{recorded_kept, nothing_of}
 use Rattle.work.proofs.Telling.{edge_is}
@@ -106,7 +114,16 @@ same_graph b pools defaults builddir one two three =
 
 -- ---- the file joins
 
-module _ {asked : Asked} {store : Store} {graph : Graph} {state : State} {file : ℕ} (may : MayJoin asked store graph state file) where
+-- the state, over another graph
+abbrev pub with_graph : Work → Graph → Work
+with_graph state graph =
+    record { alloc = state.alloc; graph = graph; cone = state.cone; plan = state.plan; looks = state.looks; records = state.records; display = state.display; tick = state.tick; due = state.due; starts = state.starts; failed = state.failed }
+
+-- so it may of a state that has the loaded graph already
+pub may_over : {asked : Asked} {store : Store} {graph : Graph} {state : Work} {file : ℕ} → (loaded : Graph) → MayJoin asked store graph state file → MayJoin asked store graph (with_graph state loaded) file
+may_over loaded may = record { same = may.same; recorded = may.recorded; known = may.known; over = may.over; some = may.some; within = may.within; seen = may.seen; targets = may.targets; numbers = may.numbers; listed = may.listed }
+
+module _ {asked : Asked} {store : Store} {graph : Graph} {state : Work} {file : ℕ} (may : MayJoin asked store graph state file) where
   abbrev path : List ℕ
   path = text_at graph.manifest.paths file
 
@@ -219,19 +236,88 @@ module _ {asked : Asked} {store : Store} {graph : Graph} {state : State} {file :
 
       -- ---- the plan, what was seen, and the records
 
-      pub may_go_on : MayGoOn loaded state.plan → MayGoOn grown state.plan
-      may_go_on goes = record {
-        before = goes.before;
+      -- what another edge needs is as it was when the file was loaded
+      needs_kept : (e : ℕ) → has_number numbers e ≡ false → needs_of grown e ≡ needs_of loaded e
+      needs_kept e absent =
+          ap (λ (l : List Line). line_inputs (line_at l e) ++ list_at grown.recorded e) joined.grown.lines
+          ∙ ap (λ (r : List ℕ). line_inputs (line_at loaded.manifest.lines e) ++ r) (joined.others e absent)
+
+      files_kept : (e : ℕ) → dyndep_at grown e ≡ dyndep_at loaded e
+      files_kept e = ap (λ (l : List Action). dyndep_of (get_or l e no_action)) joined.grown.actions
+
+      maker_kept : (p : ℕ) → (links_of grown).maker p ≡ (links_of loaded).maker p
+      maker_kept p = ap (λ v. maker_in v.items p) joined.grown.makers
+
+      still_alone : HasGrownAlone numbers before.file graph loaded → HasGrownAlone numbers before.file graph grown
+      still_alone alone = record {
+        were = alone.were;
+        below = alone.below;
+        needs = λ e absent. needs_kept e absent ∙ alone.needs e absent;
+        files = λ e absent. files_kept e ∙ alone.files e absent;
+        loaded = λ e there. files_kept e ∙ alone.loaded e there;
+        made = λ p e is. maker_kept p ∙ alone.made p e is;
+        makers = λ p e is. alone.makers p e (sym (maker_kept p) ∙ is);
+      }
+
+      pub may_go_on_by : MayGoOnBy graph loaded state.plan before → MayGoOnBy graph grown state.plan before
+      may_go_on_by goes = record {
         over = goes.over;
         some = goes.some;
         edges = ap length joined.grown.lines ∙ goes.edges;
         paths = let sum = ap length joined.grown.paths ∙ length-append loaded.manifest.paths joined.grown.more in let was = goes.paths in omega (arith, sum, was);
         pools = ap (λ (b : BuildGraph). b.pools) joined.grown.declared ∙ goes.pools;
         pool = λ i. ap (λ (b : BuildGraph). (edge_at b.edges i).pool) joined.grown.declared ∙ goes.pool i;
+        alone = still_alone goes.alone;
       }
+
+      -- what was recorded is so still
+      still_recorded : (i : ℕ) (p : List ℕ) → has (recorded_inputs store old i) p ≡ true → has (recorded_by grown i) p ≡ true
+      still_recorded zero p there = absurd (false≢true there)
+      still_recorded (suc e) p there = by (has_number numbers e) refl
+        where
+          noted : has (recorded_by graph (suc e)) p ≡ true
+          noted = sym (was_recorded (suc e) p) ∙ there
+
+          by : (b : Bool) → has_number numbers e ≡ b → has (recorded_by grown (suc e)) p ≡ true
+          by true named = absurd (none_recorded e (sym (undoes.edges e) ∙ named) p noted)
+          by false other = ap (λ (l : List (List ℕ)). has l p) (recorded_kept loaded grown joined.grown e (joined.others e other) ∙ has_it.recorded (suc e)) ∙ noted
+
+      -- the cone may be kept
+      pub may_keep : MayGoOnBy graph grown state.plan before → MayKeep grown state.cone before
+      may_keep goes = record {
+        old = graph;
+        earlier = recorded_inputs store old;
+        within = subst (λ (n : ℕ). n < length graph.manifest.paths) (sym {A = ℕ} undoes.of) may.within;
+        lines = goes.edges;
+        additions = additions;
+        grown = subst (λ (b : BuildGraph). IsGrownBy (text_at graph.manifest.paths before.file) additions old b.edges) (sym {A = BuildGraph} joined.grown.declared)
+            (subst (λ (n : ℕ). IsGrownBy (text_at graph.manifest.paths n) additions old (declared_by loaded).edges) (sym {A = ℕ} undoes.of) has_it.grown);
+        alone = goes.alone;
+        were = was_recorded;
+        stay = still_recorded;
+        was = subst (λ (ts : List (List ℕ)). IsConeOf old (recorded_inputs store old) ts state.cone.order.items state.cone.marks.items) same_targets may.listed;
+      }
+        where
+          same_targets : texts_at graph.manifest.paths state.cone.targets.items ≡ texts_at grown.manifest.paths state.cone.targets.items
+          same_targets = sym (ap (λ (l : List (List ℕ)). texts_at l state.cone.targets.items) paths_are ∙ texts_front graph.manifest.paths (has_it.added ++ joined.grown.more) state.cone.targets.items may.targets)
 
       pub seen_fits : length state.looks.seen.items ≤ length grown.manifest.paths
       seen_fits = let was = may.seen in omega (arith, was, longer)
+
+-- ---- a cone that is kept
+
+pub file_is : (o : Option ℕ) (n : ℕ) → is_place o n ≡ true → o ≡ Some n
+file_is None n is = absurd (false≢true is)
+file_is (Some m) n is = ap (λ (k : ℕ). Some k) (eqb-true m n is)
+
+pub kept_cone : (graph : Graph) (recorded : ℕ → List (List ℕ)) (cone copied : Cone) → copied.order.items ≡ cone.order.items → copied.marks.items ≡ cone.marks.items → copied.targets.items ≡ cone.targets.items
+    → IsConeOf (declared_by graph).edges recorded (texts_at graph.manifest.paths cone.targets.items) cone.order.items cone.marks.items → IsConeOfNumbers graph recorded cone.targets.items copied
+kept_cone graph recorded cone copied order marks targets listed = record {
+  listed = subst (λ (l : List ℕ). IsConeOf (declared_by graph).edges recorded (texts_at graph.manifest.paths cone.targets.items) l copied.marks.items) (sym order)
+      (subst (λ (m : List Mark). IsConeOf (declared_by graph).edges recorded (texts_at graph.manifest.paths cone.targets.items) cone.order.items m) (sym {A = List Mark} marks) listed);
+  acyclic = λ i in_cone. no_cycle_by_order (declared_by graph).edges recorded (map suc cone.order.items) listed.ordered i (listed.all i in_cone);
+  numbers = targets;
+}
 
 -- ---- records that shrink again
 

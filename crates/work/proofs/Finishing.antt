@@ -47,7 +47,7 @@ use Rattle.records.specs.Known.{AreKnown}
 use Rattle.records.specs.Logging.{NoneInForce}
 use Rattle.records.specs.Laws.{LogStays, NoneWhileRunning}
 use Rattle.work.specs.declared.reported.Told.{Told}
-use Rattle.work.specs.declared.state.State.{State}
+use Rattle.work.specs.declared.state.Work.{Work}
 use Rattle.work.specs.Course.{Course, IsOwnTick, HasCone, goes_on, Suits, IsSince, edges_of, is_quiet, IsSeenStill, AreAnew, AreSeenBefore, AreTold, HasRoom, IsOn}
 use Rattle.work.specs.Going.{MayTakeIn, IsCut, IsInHand, HasEnded, failed_after}
 use Rattle.work.specs.Removing.{DepfilesStay, AreRemoved}
@@ -181,7 +181,7 @@ module _ (tells : Bool) (course : Course) (graph : Graph) where
 
 -- ---- a command is taken in
 
-module _ (tells : Bool) (course : Course) (graph : Graph) (suits : Suits course graph) (state : State) (now mid new : World) (e : ℕ) (ok : Bool) (on : IsOn tells course graph None state now)
+module _ (tells : Bool) (course : Course) (graph : Graph) (suits : Suits course graph) (state : Work) (now mid new : World) (e : ℕ) (ok : Bool) (on : IsOn tells course graph None state now)
     (turn : MayTakeIn course on.steps) (finish : Finishes tells (suc e) ok now mid) (looks : OnlyLooks tells mid new) where
   abbrev task : Task
   task = task_of course.asked course.store
@@ -330,9 +330,9 @@ module _ (tells : Bool) (course : Course) (graph : Graph) (suits : Suits course 
 
 -- ---- its end is noted
 
-module _ (tells : Bool) (course : Course) (graph : Graph) (suits : Suits course graph) (state : State) (now mid was new : World) (e : ℕ) (ok : Bool) (on : IsOn tells course graph None state now)
+module _ (tells : Bool) (course : Course) (graph : Graph) (suits : Suits course graph) (state : Work) (now mid was new : World) (e : ℕ) (ok : Bool) (on : IsOn tells course graph None state now)
     (turn : MayTakeIn course on.steps) (finish : Finishes tells (suc e) ok now mid) (looks : OnlyLooks tells mid was) (one : OneAnswer) (told : Told)
-    (read : WasRead tells (edge_at (edges_of course) (suc e)).act ok mid was told) (stand : StandFor (declared_by graph).edges graph.manifest.paths (links_of graph)) (after : State)
+    (read : WasRead tells (edge_at (edges_of course) (suc e)).act ok mid was told) (stand : StandFor (declared_by graph).edges graph.manifest.paths (links_of graph)) (after : Work)
     (noted_so : HasEnded tells graph e (ended_well ok told) was new state after) where
   abbrev is_well : Bool
   is_well = ended_well ok told
@@ -542,7 +542,7 @@ not_failed failed e false same = absurd (longer_by_one failed e same)
     longer_by_one : (failed : List ℕ) (e : ℕ) → failed ≡ failed ++ e ∷ [] → ⊥
     longer_by_one failed e same = let more = length_push failed e in omega (arith, more, ap length same)
 
-pub ending_of : (tells : Bool) (course : Course) (graph : Graph) → Suits course graph → (state : State) (now mid new : World) (job e : ℕ) (ok : Bool) (told : Told) (act : Act) → job ≡ suc e
+pub ending_of : (tells : Bool) (course : Course) (graph : Graph) → Suits course graph → (state : Work) (now mid new : World) (job e : ℕ) (ok : Bool) (told : Told) (act : Act) → job ≡ suc e
     → (on : IsOn tells course graph None state now) → MayTakeIn course on.steps → Finishes tells job ok now mid → OnlyLooks tells mid new
     → act ≡ (edge_at (declared_by graph).edges (suc e)).act → WasRead tells act ok mid new told → IsEnding tells course graph (suc e) ok told state new
 ending_of tells course graph suits state now mid new job e ok told act is on turn finish looks act_is read = record {
@@ -555,7 +555,7 @@ ending_of tells course graph suits state now mid new job e ok told act is on tur
   read = subst (λ (a : Act). WasRead tells a ok mid new told) (act_is ∙ ap (λ (g : BuildGraph). (edge_at g.edges (suc e)).act) (sym suits.same)) read;
 }
 
-module _ (tells : Bool) (course : Course) (graph : Graph) (suits : Suits course graph) (state : State) (now : World) (e : ℕ) (ok well : Bool) (told : Told) (is : well ≡ ended_well ok told) (one : OneAnswer) (ending : IsEnding tells course graph (suc e) ok told state now) where
+module _ (tells : Bool) (course : Course) (graph : Graph) (suits : Suits course graph) (state : Work) (now : World) (e : ℕ) (ok well : Bool) (told : Told) (is : well ≡ ended_well ok told) (one : OneAnswer) (ending : IsEnding tells course graph (suc e) ok told state now) where
   pub ending_stands : standing_at state.plan.standings.items e ≡ Running
   ending_stands =
       let runs = running_edge tells course graph None state ending.before ending.on (suc e) ending.finishes.ran in
@@ -572,7 +572,7 @@ module _ (tells : Bool) (course : Course) (graph : Graph) (suits : Suits course 
       end_cut tells course graph suits state ending.before ending.mid new e ok ending.on ending.may ending.finishes (looks_then tells ending.mid now new ending.looks looks) one told
       (was_read_before tells (edge_at (edges_of course) (suc e)).act ok ending.mid now new told looks ending.read) plan (subst (λ (b : Bool). TakesStep graph state.plan plan (Ended (suc e) b)) is takes)
 
-  pub ending_taken : StandFor (declared_by graph).edges graph.manifest.paths (links_of graph) → (new : World) (after : State) → HasEnded tells graph e well now new state after → LogStays → NoneWhileRunning
+  pub ending_taken : StandFor (declared_by graph).edges graph.manifest.paths (links_of graph) → (new : World) (after : Work) → HasEnded tells graph e well now new state after → LogStays → NoneWhileRunning
       → TakesStep graph state.plan after.plan (Ended (suc e) well) → after.failed.items ≡ failed_after state.failed.items e well → IsTakenIn tells course graph (suc e) (get_or after.starts.items e 0) well told after new
   ending_taken stand new after noted_so stays none takes noted =
       subst (λ (b : Bool). IsTakenIn tells course graph (suc e) (get_or after.starts.items e 0) b told after new) (sym is)

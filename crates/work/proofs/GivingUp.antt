@@ -8,7 +8,7 @@ use Rattle.model.specs.SingleBuild as answer
 use Rattle.theory.specs.Seen.{IsSeen, Unrefused, StartsUnrefused}
 use Rattle.graph.specs.declared.graph.Graph.{Graph}
 use Rattle.work.specs.declared.cut.Cut.{Cut}
-use Rattle.work.specs.declared.state.State.{State}
+use Rattle.work.specs.declared.state.Work.{Work}
 use Rattle.work.specs.After.{ComesAfter, LooksUnlessMore}
 use Rattle.work.specs.Course.{Course, goes_on, Suits, IsOn}
 use Rattle.work.specs.Cut.{fault_of, IsLeft}
@@ -24,7 +24,7 @@ use Rattle.work.proofs.Behind.{ends, ends_suits, ends_on, ends_going, stopped_fi
 pub refusal_so : (s : Stop) (refusal : Refusal) (So : Refusal → Type 0) → s ≡ stop.Refused refusal → IfRefused s So → So refusal
 refusal_so s refusal So is so = subst (λ (x : Stop). IfRefused x So) is so
 
-module _ (tells : Bool) (graph : Graph) (state : State) (now : World) (s : Stop) (refusal : Refusal) (is : s ≡ stop.Refused refusal) where
+module _ (tells : Bool) (graph : Graph) (state : Work) (now : World) (s : Stop) (refusal : Refusal) (is : s ≡ stop.Refused refusal) where
   -- the run that is refused there ends
   pub refused_going : IfRefused s (λ r. (course : Course) × (grown : List Edge) × IsRefusedAt tells course grown graph state now r) → IsGoing tells false graph state now
   refused_going at =
@@ -36,7 +36,7 @@ module _ (tells : Bool) (graph : Graph) (state : State) (now : World) (s : Stop)
 
   module _ (new : World) (grows : ComesAfter tells now new) where
     -- all that ran was taken in
-    pub refused_finished : (after : State) → LooksUnlessMore tells graph now new state.looks after.looks
+    pub refused_finished : (after : Work) → LooksUnlessMore tells graph now new state.looks after.looks
         → ((course : Course) → Suits course graph → goes_on course ≡ false → IsOn tells course graph None state now → IsFinished tells course graph after new)
         → (course : Course) (grown : List Edge) → HasHalted tells course grown graph state now s → HasStopped tells course grown new refusal
     refused_finished after looked ran course grown halted =
@@ -75,14 +75,14 @@ running_still a b s refusal is so = (well s is so).unrefused.goes_on
 pub fault_stays : (a b : World) (s : Stop) (fault : SiteFault) → s ≡ stop.Fault fault → IsStopOf a b s → IsStopOf a b (stop.Fault fault)
 fault_stays a b s fault is so = subst (λ (x : Stop). IsStopOf a b x) is so
 
-pub fault_ended : (tells : Bool) (course : Course) (grown : List Edge) (graph : Graph) (state : State) (now : World) (s : Stop) (fault : SiteFault) → s ≡ stop.Fault fault → HasHalted tells course grown graph state now s
+pub fault_ended : (tells : Bool) (course : Course) (grown : List Edge) (graph : Graph) (state : Work) (now : World) (s : Stop) (fault : SiteFault) → s ≡ stop.Fault fault → HasHalted tells course grown graph state now s
     → WasCut tells course grown now fault
 fault_ended tells course grown graph state now s fault is halted = subst (λ (x : Stop). HasHalted tells course grown graph state now x) is halted
 
 -- ---- where it was halted
 
 -- a refusal has its place
-pub refused_some : (tells : Bool) (course : Course) (grown : List Edge) (graph : Graph) (state : State) (now : World) (s : Stop) → HasHalted tells course grown graph state now s
+pub refused_some : (tells : Bool) (course : Course) (grown : List Edge) (graph : Graph) (state : Work) (now : World) (s : Stop) → HasHalted tells course grown graph state now s
     → IfRefused s (λ refusal. (of : Course) × (edges : List Edge) × IsRefusedAt tells of edges graph state now refusal)
 refused_some tells course grown graph state now (stop.Refused refusal) halted = (course, grown, halted)
 refused_some tells course grown graph state now (stop.Fault fault) halted = tt

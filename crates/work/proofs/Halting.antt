@@ -26,7 +26,7 @@ use Rattle.plan.specs.Planned.{IsPlanned}
 use Rattle.records.specs.Laws.{LogStays}
 use Rattle.work.specs.Shown.{Showing}
 use Rattle.work.specs.declared.cut.Cut.{Cut}
-use Rattle.work.specs.declared.state.State.{State}
+use Rattle.work.specs.declared.state.Work.{Work}
 use Rattle.work.specs.declared.summary.Summary.{Summary}
 use Rattle.work.specs.After.{ComesAfter, LooksUnlessMore}
 use Rattle.work.specs.Course.{Course, HasCone, goes_on, IsOn}
@@ -67,7 +67,7 @@ none_started edges steps events of_steps none =
     less n m is = omega (arith, is)
 
 -- What was seen before the first start is still so behind a call that only looks where nothing happens in it.
-module _ (tells : Bool) (course : Course) (task : Task) (graph : Graph) (first second : State) (before after : List Done) (now new : World) (run : IsRun tells course.own task before course.entry now) (later : IsRun tells course.own task after course.entry new)
+module _ (tells : Bool) (course : Course) (task : Task) (graph : Graph) (first second : Work) (before after : List Done) (now new : World) (run : IsRun tells course.own task before course.entry now) (later : IsRun tells course.own task after course.entry new)
     (grows : ComesAfter tells now new) (looked : LooksUnlessMore tells graph now new first.looks second.looks) (was : started_in before ≡ [] → IsUnstarted tells course graph first now) (idle : IsIdle course.entry.events) where
   pub still_unstarted : started_in after ≡ [] → IsUnstarted tells course graph second new
   still_unstarted none = record {
@@ -97,12 +97,12 @@ module _ (tells : Bool) (course : Course) (task : Task) (graph : Graph) (first s
 
 -- ---- it stands where it stood
 
-module _ (tells : Bool) (course : Course) (edges : List Edge) (phases : List Phase) (graph : Graph) (state : State) (now : World) (stands : StandsAt tells course edges phases graph state now) where
+module _ (tells : Bool) (course : Course) (edges : List Edge) (phases : List Phase) (graph : Graph) (state : Work) (now : World) (stands : StandsAt tells course edges phases graph state now) where
   abbrev here : Course
   here = grown_course course edges phases
 
   -- over a call of a run that goes on
-  abbrev pub stands_on : (after : State) (new : World) → ComesAfter tells now new → LooksUnlessMore tells graph now new state.looks after.looks → IsOn tells here graph None after new → StandsAt tells course edges phases graph after new
+  abbrev pub stands_on : (after : Work) (new : World) → ComesAfter tells now new → LooksUnlessMore tells graph now new state.looks after.looks → IsOn tells here graph None after new → StandsAt tells course edges phases graph after new
   stands_on after new grows looked on = record {
     goes = stands.goes;
     dyndeps = stands.dyndeps;
@@ -115,7 +115,7 @@ module _ (tells : Bool) (course : Course) (edges : List Edge) (phases : List Pha
 
   -- ---- before a load
 
-  pub load_at : (after : State) (file : ℕ) (new : World) → ComesAfter tells now new → LooksUnlessMore tells graph now new state.looks after.looks → HasAsked tells course edges phases now → IsAtLoad tells here graph after file new
+  pub load_at : (after : Work) (file : ℕ) (new : World) → ComesAfter tells now new → LooksUnlessMore tells graph now new state.looks after.looks → HasAsked tells course edges phases now → IsAtLoad tells here graph after file new
       → IsAtNextLoad tells course edges phases graph after file new
   load_at after file new grows looked asked at = record {
     stands = stands_on after new grows looked at.on;
@@ -125,7 +125,7 @@ module _ (tells : Bool) (course : Course) (edges : List Edge) (phases : List Pha
 
   -- ---- at its end
 
-  pub done_at : (after : State) (summary : Summary) (new : World) → ComesAfter tells now new → HasAsked tells course edges phases now → (HasRun tells here new (Ok summary) × HasCone here.asked here.store graph after.cone)
+  pub done_at : (after : Work) (summary : Summary) (new : World) → ComesAfter tells now new → HasAsked tells course edges phases now → (HasRun tells here new (Ok summary) × HasCone here.asked here.store graph after.cone)
       → HasDone tells course edges graph after.cone new summary
   done_at after summary new grows asked ran = record {
     phases = phases;
@@ -160,9 +160,9 @@ module _ (tells : Bool) (course : Course) (edges : List Edge) (phases : List Pha
     same_phases = phased_on tells here.behaviour here.own here.asked here.store here.entry phases stands.on.steps now new (λ tell. (looked.looks.history tell).more) (λ tell. (looked.looks.history tell).grows) stands.on.carried.phased
 
     -- with what is shown, and what is due
-    abbrev pub with_sources : Showing → Vec Bool Global → State
+    abbrev pub with_sources : Showing → Vec Bool Global → Work
     with_sources display due =
-        record { alloc = state.alloc; cone = state.cone; plan = state.plan; looks = after; records = state.records; display = display; tick = state.tick; due = due; starts = state.starts; failed = state.failed }
+        record { alloc = state.alloc; graph = state.graph; cone = state.cone; plan = state.plan; looks = after; records = state.records; display = display; tick = state.tick; due = due; starts = state.starts; failed = state.failed }
 
     abbrev pub on_sources : (display : Showing) (due : Vec Bool Global) → IsOn tells here graph None (with_sources display due) new
     on_sources display due = record {
@@ -188,7 +188,7 @@ module _ (tells : Bool) (course : Course) (edges : List Edge) (phases : List Pha
     stands_looked display due = stands_on (with_sources display due) new (after_looks tells now new looked.looks) (λ same. looked) (on_sources display due)
 
     -- a fault cuts it off
-    pub cut_looked : (state_after : State) → state_after.plan ≡ state.plan → HadAsked tells course edges phases stands.on.carried.phased.build.last new → IsCutThere tells course edges state_after new
+    pub cut_looked : (state_after : Work) → state_after.plan ≡ state.plan → HadAsked tells course edges phases stands.on.carried.phased.build.last new → IsCutThere tells course edges state_after new
     cut_looked state_after same asked = record {
       phases = phases;
       graph = graph;

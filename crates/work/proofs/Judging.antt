@@ -43,7 +43,7 @@ use Rattle.records.specs.Laws.{LogStays}
 use Rattle.records.specs.Known.{AreKnown}
 use Rattle.judge.specs.Facts.{flag_at}
 use Rattle.judge.specs.Judged.{IsAnswer, IsReasonBy, MayBeJudgedBy, MayBeStaleBy, AreUntouched, HasOldDepfile, KeepsDepfile, HasPathsOf}
-use Rattle.work.specs.declared.state.State.{State}
+use Rattle.work.specs.declared.state.Work.{Work}
 use Rattle.work.specs.Course.{Course, goes_on, Suits, edges_of, is_quiet, AreAnew, AreSeenBefore, AreStarted, IsOn}
 use Rattle.work.specs.Going.{IsSaid}
 use Rattle.work.proofs.Onward.{taken_judged, since_goes, said_next}
@@ -93,7 +93,7 @@ not_anew : (es : List Edge) (same : Bool) (o : Option ℕ) → is_made_anew es [
 not_anew es same None = refl
 not_anew es same (Some j) = refl
 
-module _ (tells : Bool) (course : Course) (graph : Graph) (stays : LogStays) (suits : Suits course graph) (state : State) (now new : World) (e : ℕ)
+module _ (tells : Bool) (course : Course) (graph : Graph) (stays : LogStays) (suits : Suits course graph) (state : Work) (now new : World) (e : ℕ)
     (on : IsOn tells course graph None state now) (goes : goes_on course ≡ true) (next : IsNext state.plan (Judge e)) (looks : OnlyLooks tells now new) where
   abbrev said : IsSaid course graph on.steps (Judge e)
   said = said_next course graph state.plan (Judge e) on.steps goes on.planned on.taken next
@@ -229,7 +229,7 @@ module _ (tells : Bool) (course : Course) (graph : Graph) (stays : LogStays) (su
     judged_started k runs = started_more (suc k) _ course.entry now new [] (looks.events ∙ sym (append-nil now.events)) (on.started k (sym (running_judged on.steps (suc e) stale (suc k)) ∙ runs))
 
     decided_on : (plan : Plan) (display : Display) → TakesStep graph state.plan plan (Judged (suc e) stale) → plan.changed ≡ state.plan.changed
-        → IsOn tells course graph None (record { alloc = state.alloc; cone = state.cone; plan = plan; looks = after; records = state.records; display = display; tick = state.tick; due = state.due; starts = state.starts; failed = state.failed }) new
+        → IsOn tells course graph None (record { alloc = state.alloc; graph = state.graph; cone = state.cone; plan = plan; looks = after; records = state.records; display = display; tick = state.tick; due = state.due; starts = state.starts; failed = state.failed }) new
     decided_on plan display takes flags_same =
         let now_told = told_over tells course graph on.steps state now new (looks_quiet tells course graph stays None state now new on looks) on.told in
         record {
@@ -286,7 +286,7 @@ module _ (tells : Bool) (course : Course) (graph : Graph) (stays : LogStays) (su
         ∙ ap look_of (outputs_untouched tells course.own (task_of course.asked course.store) on.steps course.entry new suits.idle rest tell files suits.once (suc e) turn.command turn.once (text_at graph.manifest.paths p) makes)
 
     pub judged_on : (plan : Plan) (display : Display) → TakesStep graph state.plan plan (Judged (suc e) stale) → plan.changed ≡ state.plan.changed
-        → IsOn tells course graph None (record { alloc = state.alloc; cone = state.cone; plan = plan; looks = after; records = state.records; display = display; tick = state.tick; due = state.due; starts = state.starts; failed = state.failed }) new
+        → IsOn tells course graph None (record { alloc = state.alloc; graph = state.graph; cone = state.cone; plan = plan; looks = after; records = state.records; display = display; tick = state.tick; due = state.due; starts = state.starts; failed = state.failed }) new
     judged_on plan display takes flags_same = decided_on after stale found_right found_made looked (λ is. found_own) plan display takes flags_same
 
   -- ---- by what was known: no reason was found, as if no command had ended, and none has ended well
@@ -322,7 +322,7 @@ module _ (tells : Bool) (course : Course) (graph : Graph) (stays : LogStays) (su
         (subst (λ (es : List Edge). IsStaleByOutputs es course.store course.entry.history (suc e)) same_edges by_outputs)
 
     pub clean_on : (plan : Plan) → TakesStep graph state.plan plan (Judged (suc e) false) → plan.changed ≡ state.plan.changed
-        → IsOn tells course graph None (record { alloc = state.alloc; cone = state.cone; plan = plan; looks = state.looks; records = state.records; display = state.display; tick = state.tick; due = state.due; starts = state.starts; failed = state.failed }) new
+        → IsOn tells course graph None (record { alloc = state.alloc; graph = state.graph; cone = state.cone; plan = plan; looks = state.looks; records = state.records; display = state.display; tick = state.tick; due = state.due; starts = state.starts; failed = state.failed }) new
     clean_on plan takes flags_same = decided_on state.looks false clean_right clean_made looked (λ stale. absurd (false≢true stale)) plan state.display takes flags_same
 
 -- it is that of a command in numbers too

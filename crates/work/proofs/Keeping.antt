@@ -41,7 +41,7 @@ use Rattle.records.specs.Held.{ArePlaces}
 use Rattle.records.specs.Known.{AreKnown}
 use Rattle.records.specs.Logging.{AreSameLogs, IsLogging, IsLoggedStill}
 use Rattle.records.specs.Laws.{LeavesTheLogs, LogStays}
-use Rattle.work.specs.declared.state.State.{State}
+use Rattle.work.specs.declared.state.Work.{Work}
 use Rattle.work.specs.Course.{Course, goes_on, IsSince, edges_of, is_quiet, IsSeenStill, AreAnew, AreSeenBefore, AreTold, AreStarted, IsOn}
 use Rattle.work.specs.Removing.{AreRemoved}
 use Rattle.work.specs.Going.{IsInHand, IsCut}
@@ -162,20 +162,20 @@ module _ (tells : Bool) (course : Course) (graph : Graph) where
       stays tells course.behaviour course.format course.own (edges_of course) steps many hand next course.store course.entry now new logs leaves (commands_run many next new carried) carried.beside.logged logging
 
   -- over a call that keeps quiet paths
-  pub told_over : (steps : List Done) (state : State) (now new : World) → Quietly steps now new → AreTold tells course graph state now → AreTold tells course graph state new
+  pub told_over : (steps : List Done) (state : Work) (now new : World) → Quietly steps now new → AreTold tells course graph state now → AreTold tells course graph state new
   told_over steps state now new quiet told = record { records = told.records; deps = told.deps; known = told.known; same = told.same }
 
-  pub seen_over : (steps : List Done) (state : State) (now new : World) → Quietly steps now new → IsSeenStill tells course graph steps state now → IsSeenStill tells course graph steps state new
+  pub seen_over : (steps : List Done) (state : Work) (now new : World) → Quietly steps now new → IsSeenStill tells course graph steps state now → IsSeenStill tells course graph steps state new
   seen_over steps state now new quiet seen tell kept =
       let call = quiet tell kept in
       seen_kept (is_quiet kept.free course.own (edges_of course) steps) graph.manifest.paths state.looks.seen.items now.history new.history call.0.0 call.0.1 call.1 (seen tell (files_then course.own (edges_of course) course.entry now new call.0 kept))
 
-  pub started_over : (steps : List Done) (state : State) (now new : World) → new.events ≡ now.events → AreStarted course steps state now → AreStarted course steps state new
+  pub started_over : (steps : List Done) (state : Work) (now new : World) → new.events ≡ now.events → AreStarted course steps state now → AreStarted course steps state new
   started_over steps state now new same started e runs = started_more (suc e) _ course.entry now new [] (same ∙ sym (append-nil now.events)) (started e runs)
 
   -- ---- calls that start and take in nothing, over which the state stays
 
-  module _ (stays : LogStays) (hand : Option ℕ) (state : State) (now new : World) (on : IsOn tells course graph hand state now) where
+  module _ (stays : LogStays) (hand : Option ℕ) (state : Work) (now new : World) (on : IsOn tells course graph hand state now) where
     abbrev pub Removed : Type 0
     Removed = AreRemoved tells course.own (edges_of course) on.steps hand course.entry new
 
@@ -309,7 +309,7 @@ module _ (tells : Bool) (course : Course) (graph : Graph) where
   pub hand_carried : (steps : List Done) (now : World) (i : ℕ) → Carried steps None now → Carried steps (Some i) now
   hand_carried steps now i carried = carried_hand tells course.behaviour course.format course.own course.asked course.store course.entry course.phases (goes_on course) steps now i carried
 
-  abbrev pub on_hand : (state : State) (now : World) (i : ℕ) → IsOn tells course graph None state now → IsOn tells course graph (Some i) state now
+  abbrev pub on_hand : (state : Work) (now : World) (i : ℕ) → IsOn tells course graph None state now → IsOn tells course graph (Some i) state now
   on_hand state now i on = record {
     steps = on.steps;
     planned = on.planned;
@@ -332,9 +332,9 @@ module _ (tells : Bool) (course : Course) (graph : Graph) where
   -- ---- a record is put behind the log
 
   -- the state with other records
-  abbrev pub with_records : State → Records → State
+  abbrev pub with_records : Work → Records → Work
   with_records state records =
-      record { alloc = state.alloc; cone = state.cone; plan = state.plan; looks = state.looks; records = records; display = state.display; tick = state.tick; due = state.due; starts = state.starts; failed = state.failed }
+      record { alloc = state.alloc; graph = state.graph; cone = state.cone; plan = state.plan; looks = state.looks; records = records; display = state.display; tick = state.tick; due = state.due; starts = state.starts; failed = state.failed }
 
   -- what is known stays where only what may be done with the files changed
   pub known_by : (rs : List Record) (ds : List DepsRecord) (old new : Records) → AreSameLogs old.logs new.logs → new.places.items ≡ old.places.items → new.deps_places.items ≡ old.deps_places.items
@@ -356,13 +356,13 @@ module _ (tells : Bool) (course : Course) (graph : Graph) where
     };
   }
 
-  pub told_by : (state : State) (now : World) (records : Records) → AreSameLogs state.records.logs records.logs → records.places.items ≡ state.records.places.items
+  pub told_by : (state : Work) (now : World) (records : Records) → AreSameLogs state.records.logs records.logs → records.places.items ≡ state.records.places.items
       → records.deps_places.items ≡ state.records.deps_places.items → AreTold tells course graph state now → AreTold tells course graph (with_records state records) now
   told_by state now records same places deps_places told =
       record { records = told.records; deps = told.deps; known = known_by told.records told.deps state.records records same places deps_places told.known; same = told.same }
 
   -- a log, which is one of the program's own files, was written
-  module _ (hand next : Option ℕ) (state : State) (now new : World) (on : IsOn tells course graph hand state now) (path : List ℕ) (owned : course.own.files path ≡ true) (writes : WritesAt tells path now new) where
+  module _ (hand next : Option ℕ) (state : Work) (now new : World) (on : IsOn tells course graph hand state now) (path : List ℕ) (owned : course.own.files path ≡ true) (writes : WritesAt tells path now new) where
     -- response files are as they were
     pub log_removed : AreRemoved tells course.own (edges_of course) on.steps hand course.entry new
     log_removed =

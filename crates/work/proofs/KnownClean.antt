@@ -12,12 +12,11 @@ use Rattle.model.specs.Calls.{OnlyLooks}
 use Rattle.model.specs.Graph.{has_number, IsCommand}
 use Rattle.model.specs.Phases.{Phase}
 use Rattle.model.specs.Reading.{IsInCone}
-use Rattle.model.specs.Schedule.{Step as Done, Judged, clean_in, out_of_date_in, running_in, started_in, well_in, failed_in}
+use Rattle.model.specs.Schedule.{Judged, clean_in, out_of_date_in, running_in, started_in, well_in, failed_in}
 use Rattle.model.specs.SingleBuild.{task_of}
 use Rattle.theory.proofs.SiteCalls.{looks_none}
 use Rattle.theory.proofs.Runs.{running_now}
 use Rattle.graph.specs.declared.graph.Graph.{Graph}
-use Rattle.graph.specs.Told.{declared_by}
 use Rattle.judge.specs.declared.looks.Looks.{Looks}
 use Rattle.judge.specs.Dues.{due_at}
 use Rattle.judge.specs.Judged.{IsAnswer, KeepsDepfile}
@@ -31,7 +30,7 @@ use Rattle.plan.specs.Plan.{IsSettling}
 use Rattle.plan.specs.Planned.{IsPlanOver, TakesStep, IsOffered}
 use Rattle.plan.specs.Standing.{standing_at, is_unjudged, is_outside, is_phony}
 use Rattle.records.specs.Laws.{LogStays}
-use Rattle.work.specs.declared.state.State.{State}
+use Rattle.work.specs.declared.state.Work.{Work}
 use Rattle.work.specs.Clean.{IsClean, KnowsClean, StaysKnowing, IsCleanNext}
 use Rattle.work.specs.Course.{Course, Suits, goes_on, is_quiet, IsOn}
 use Rattle.work.specs.Standing.{grown_course, StandsAt, HasSourcesAt}
@@ -125,7 +124,7 @@ nothing_in (x ∷ xs) is = absurd (omega (arith, is))
 
 -- ---- where sources were asked for
 
-module _ (tells : Bool) (course : Course) (edges : List Edge) (phases : List Phase) (graph : Graph) (state : State) (now : World) (stands : StandsAt tells course edges phases graph state now) where
+module _ (tells : Bool) (course : Course) (edges : List Edge) (phases : List Phase) (graph : Graph) (state : Work) (now : World) (stands : StandsAt tells course edges phases graph state now) where
   abbrev here : Course
   here = grown_course course edges phases
 
@@ -165,7 +164,7 @@ module _ (tells : Bool) (course : Course) (edges : List Edge) (phases : List Pha
             ∙ (running_now tells here.own (task_of here.asked here.store) here.entry stands.on.steps now stands.on.carried.beside.idle stands.on.carried.run job ∙ runs_so))
 
   -- and where such edges were judged, sources were asked for still
-  pub sources_judged : (after : State) → HasSourcesAt tells course edges phases graph state now → after.looks ≡ state.looks → KnowsClean tells here graph state now → StaysKnowing graph state after → HasSourcesAt tells course edges phases graph after now
+  pub sources_judged : (after : Work) → HasSourcesAt tells course edges phases graph state now → after.looks ≡ state.looks → KnowsClean tells here graph state now → StaysKnowing graph state after → HasSourcesAt tells course edges phases graph after now
   sources_judged after at same knows stay = record {
     stands = stands_on tells course edges phases graph state now at.stands after now (after_same tells now)
         (λ none. subst (λ (l : Looks). HasLooked tells graph now now state.looks l) (sym {A = Looks} same) (saw_none tells graph now state.looks)) (stay tells now here at.stands.suits at.stands.goes at.stands.on knows);
@@ -174,7 +173,7 @@ module _ (tells : Bool) (course : Course) (edges : List Edge) (phases : List Pha
 
 -- ---- one of them is judged
 
-module _ (tells : Bool) (course : Course) (graph : Graph) (stays : LogStays) (suits : Suits course graph) (first state : State) (now : World) (e : ℕ) (on : IsOn tells course graph None state now) (goes : goes_on course ≡ true)
+module _ (tells : Bool) (course : Course) (graph : Graph) (stays : LogStays) (suits : Suits course graph) (first state : Work) (now : World) (e : ℕ) (on : IsOn tells course graph None state now) (goes : goes_on course ≡ true)
     (next : IsCleanNext state e) (same : state.due ≡ first.due) (fresh : StayUnjudged first.plan state.plan) (knows : KnowsClean tells course graph first now)
   where
     calm : well_in on.steps ≡ []
@@ -184,7 +183,7 @@ module _ (tells : Bool) (course : Course) (graph : Graph) (stays : LogStays) (su
     flag = sym (ap (λ (due : Vec Bool Global). due_at due.items e) same) ∙ next.was.flag
 
     pub judged_clean : (plan : Plan) → TakesStep graph state.plan plan (Judged (suc e) false) → plan.changed ≡ state.plan.changed
-        → IsOn tells course graph None (record { alloc = state.alloc; cone = state.cone; plan = plan; looks = state.looks; records = state.records; display = state.display; tick = state.tick; due = state.due; starts = state.starts; failed = state.failed }) now
+        → IsOn tells course graph None (record { alloc = state.alloc; graph = state.graph; cone = state.cone; plan = plan; looks = state.looks; records = state.records; display = state.display; tick = state.tick; due = state.due; starts = state.starts; failed = state.failed }) now
     judged_clean plan takes flags_same =
         clean_on tells course graph stays suits state now now e on goes next.next (looks_none tells now) calm (saw_none tells graph now state.looks)
         (λ tell files. knows e flag (fresh e (offered_unjudged state.plan e next.next.offered)) tell files on.steps

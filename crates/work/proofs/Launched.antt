@@ -22,7 +22,7 @@ use Rattle.graph.specs.Told.{declared_by}
 use Rattle.plan.specs.declared.plan.Plan.{Plan}
 use Rattle.plan.specs.Planned.{TakesStep}
 use Rattle.records.specs.Laws.{LogStays}
-use Rattle.work.specs.declared.state.State.{State}
+use Rattle.work.specs.declared.state.Work.{Work}
 use Rattle.work.specs.Course.{Course, goes_on, Suits, edges_of, IsOn}
 use Rattle.work.specs.Going.{IsInHand, IsCut}
 use Rattle.work.specs.Starting.{IsBegun}
@@ -80,7 +80,7 @@ ticks_or_not_at tells old new path tick is ticks = subst (λ (p : List ℕ). Tic
 
 -- ---- an edge that is begun
 
-module _ (tells : Bool) (course : Course) (graph : Graph) (stays : LogStays) (suits : Suits course graph) (state : State) (now gone : World) (e : ℕ) (act : Act)
+module _ (tells : Bool) (course : Course) (graph : Graph) (stays : LogStays) (suits : Suits course graph) (state : Work) (now gone : World) (e : ℕ) (act : Act)
     (said : act ≡ (edge_at (declared_by graph).edges (suc e)).act) (begun : IsBegun tells course graph (suc e) state now) (removes : WritesOrNot tells act.depfile None now gone) where
   abbrev On : World → Type 0
   On world = IsOn tells course graph (Some (suc e)) state world
@@ -141,7 +141,7 @@ module _ (tells : Bool) (course : Course) (graph : Graph) (stays : LogStays) (su
 
       module _ (last : World) (job : ℕ) (is_job : job ≡ suc e) (starts : Vec ℕ Global) (is_starts : starts.items ≡ slice_set state.starts.items e stamp) (plan : Plan)
           (removed : act.depfile ≢ [] → Writes tells act.depfile None now gone) (written : act.response_path ≢ [] → Writes tells act.response_path (Some act.response_content) gone mid) where
-        abbrev stamped : State
+        abbrev stamped : Work
         stamped = with_starts tells course graph state starts
 
         abbrev on_last : IsOn tells course graph (Some (suc e)) stamped new

@@ -28,7 +28,7 @@ use Rattle.plan.specs.Flags as flags
 use Rattle.plan.specs.declared.plan.Plan.{Plan}
 use Rattle.plan.specs.Planned.{IsPlanned, AreTaken, TakesStep}
 use Rattle.records.specs.Laws.{LogStays}
-use Rattle.work.specs.declared.state.State.{State}
+use Rattle.work.specs.declared.state.Work.{Work}
 use Rattle.work.specs.Course.{Course, goes_on, Suits, edges_of, AreAnew, AreSeenBefore, AreStarted, IsSeenStill, IsOn}
 use Rattle.work.specs.Removing.{AreRemoved}
 use Rattle.work.proofs.Quiet.{RunBy, quiet_adds, quiet_less, running_started}
@@ -71,15 +71,15 @@ module _ (tells : Bool) (course : Course) (graph : Graph) where
   -- ---- the stamp of the start is noted
 
   -- the state with other stamps, and with another plan
-  abbrev pub with_starts : State → Vec ℕ Global → State
+  abbrev pub with_starts : Work → Vec ℕ Global → Work
   with_starts state starts =
-      record { alloc = state.alloc; cone = state.cone; plan = state.plan; looks = state.looks; records = state.records; display = state.display; tick = state.tick; due = state.due; starts = starts; failed = state.failed }
+      record { alloc = state.alloc; graph = state.graph; cone = state.cone; plan = state.plan; looks = state.looks; records = state.records; display = state.display; tick = state.tick; due = state.due; starts = starts; failed = state.failed }
 
-  abbrev pub with_plan : State → Plan → State
+  abbrev pub with_plan : Work → Plan → Work
   with_plan state plan =
-      record { alloc = state.alloc; cone = state.cone; plan = plan; looks = state.looks; records = state.records; display = state.display; tick = state.tick; due = state.due; starts = state.starts; failed = state.failed }
+      record { alloc = state.alloc; graph = state.graph; cone = state.cone; plan = plan; looks = state.looks; records = state.records; display = state.display; tick = state.tick; due = state.due; starts = state.starts; failed = state.failed }
 
-  module _ (hand : Option ℕ) (state : State) (now : World) (e stamp : ℕ) (starts : Vec ℕ Global) (is : starts.items ≡ slice_set state.starts.items e stamp) (on : IsOn tells course graph hand state now) (unstarted : has_number (started_in on.steps) (suc e) ≡ false) where
+  module _ (hand : Option ℕ) (state : Work) (now : World) (e stamp : ℕ) (starts : Vec ℕ Global) (is : starts.items ≡ slice_set state.starts.items e stamp) (on : IsOn tells course graph hand state now) (unstarted : has_number (started_in on.steps) (suc e) ≡ false) where
     pub stamped_started : AreStarted course on.steps (with_starts state starts) now
     stamped_started k runs = subst (λ (n : ℕ). StartedUnder (suc k) n course.entry now) (sym same) (on.started k runs)
       where
@@ -111,7 +111,7 @@ module _ (tells : Bool) (course : Course) (graph : Graph) where
 
   -- ---- the start
 
-  module _ (stays : LogStays) (state : State) (now new : World) (e : ℕ) (act : Act) (plan : Plan) (on : IsOn tells course graph (Some (suc e)) state now) (next : IsLawfulStep (task_of course.asked course.store) on.steps (Started (suc e)))
+  module _ (stays : LogStays) (state : Work) (now new : World) (e : ℕ) (act : Act) (plan : Plan) (on : IsOn tells course graph (Some (suc e)) state now) (next : IsLawfulStep (task_of course.asked course.store) on.steps (Started (suc e)))
       (goes : goes_on course ≡ true) (unloaded : NoLoadIsDue (task_of course.asked course.store) on.steps) (is : act ≡ (edge_at (edges_of course) (suc e)).act) (ready : IsReadyToStart tells course.format course.own (edges_of course) (suc e) course.entry now) (starts : Starts tells (suc e) act now new) (once : IsMadeOnce (edges_of course)) where
     abbrev pub more : List Done
     more = on.steps ++ Started (suc e) ∷ []
@@ -207,7 +207,7 @@ module _ (tells : Bool) (course : Course) (graph : Graph) where
   -- ---- all is made ready
 
   -- its old depfile was removed, its response file was written, and then a tick came
-  module _ (stays : LogStays) (suits : Suits course graph) (state : State) (now gone mid new : World) (i stamp : ℕ) (on : IsOn tells course graph (Some i) state now) (next : IsLawfulStep (task_of course.asked course.store) on.steps (Started i))
+  module _ (stays : LogStays) (suits : Suits course graph) (state : Work) (now gone mid new : World) (i stamp : ℕ) (on : IsOn tells course graph (Some i) state now) (next : IsLawfulStep (task_of course.asked course.store) on.steps (Started i))
       (begun : HasNoRecord tells course.format course.own (edges_of course) i course.entry now) (act : Act) (is : act ≡ (edge_at (edges_of course) i).act)
       (removes : WritesOrNot tells act.depfile None now gone) (removed : act.depfile ≢ [] → Writes tells act.depfile None now gone)
       (at : WritesAt tells act.response_path gone mid) (written : act.response_path ≢ [] → Writes tells act.response_path (Some act.response_content) gone mid) (ticks : Ticks tells state.tick stamp mid new) where

@@ -10,7 +10,7 @@ pub mod Places
 pub mod Launching
 pub mod Results
 pub mod Unmade
-pub mod Work
+pub mod WorkLeft
 pub mod Cutting
 pub mod Settled
 pub mod Launched

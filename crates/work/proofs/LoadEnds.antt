@@ -10,7 +10,7 @@ use Rattle.theory.specs.Seen.{Unrefused}
 use Rattle.graph.specs.declared.graph.Graph.{Graph}
 use Rattle.graph.specs.Told.{declared_by}
 use Rattle.records.specs.Laws.{LogStays}
-use Rattle.work.specs.declared.state.State.{State}
+use Rattle.work.specs.declared.state.Work.{Work}
 use Rattle.work.specs.Course.{Course}
 use Rattle.work.specs.Cutting.{IsMet}
 use Rattle.work.specs.Going.{IsCut}
@@ -40,13 +40,13 @@ load_stop_by tells now new (stop.Fault fault) looks unrefused memory =
 -- ---- where it stands
 
 -- of a fault it is known where it cut the build off
-pub stop_met : (tells : Bool) (course : Course) (edges : List Edge) (graph : Graph) (state : State) (now : World) (s : Stop) → StoppedThere tells course edges graph state now s
+pub stop_met : (tells : Bool) (course : Course) (edges : List Edge) (graph : Graph) (state : Work) (now : World) (s : Stop) → StoppedThere tells course edges graph state now s
     → IfFault s (λ fault. (of : Course) × (at : Graph) × IsCut tells of at state.plan now)
 stop_met tells course edges graph state now (stop.Refused refusal) there = tt
 stop_met tells course edges graph state now (stop.Fault fault) there = (grown_course course edges there.phases, there.graph, there.cut)
 
-module _ (tells : Bool) (course : Course) (edges : List Edge) (phases : List Phase) (graph : Graph) (state : State) (file : ℕ) (now : World) (at : IsAtNextLoad tells course edges phases graph state file now)
-    (stays : LogStays) (new : World) (looks : OnlyLooks tells now new) (after : State) where
+module _ (tells : Bool) (course : Course) (edges : List Edge) (phases : List Phase) (graph : Graph) (state : Work) (file : ℕ) (now : World) (at : IsAtNextLoad tells course edges phases graph state file now)
+    (stays : LogStays) (new : World) (looks : OnlyLooks tells now new) (after : Work) where
   -- it is stopped where it stood
   stops_at : IsAsBefore state after → StayKnown graph graph state.records after.records → (s : Stop) → IfRefused s (IsRefusedBy tells course edges phases at.stands.on.steps new) → StoppedThere tells course edges graph after new s
   stops_at same known (stop.Refused refusal) cause =
@@ -60,8 +60,8 @@ module _ (tells : Bool) (course : Course) (edges : List Edge) (phases : List Pha
       (subst (λ (es : List Edge). StoppedThere tells course es graph after new s) (ap (λ (b : BuildGraph). b.edges) at.stands.suits.same) (stops_at undone.state undone.known s cause))
 
 -- a refusal leaves each build where it stood, too, of which it is not known that nothing was missing
-pub refuses_undone : (tells : Bool) (course : Course) (edges : List Edge) (phases : List Phase) (graph : Graph) (state : State) (file : ℕ) (now : World) (stands : StandsAt tells course edges phases graph state now)
-    → IsLoadNext course edges graph state stands.on.steps file → LogStays → (new : World) → OnlyLooks tells now new → (after : State) (grown : Graph) → IsUndone graph grown state after
+pub refuses_undone : (tells : Bool) (course : Course) (edges : List Edge) (phases : List Phase) (graph : Graph) (state : Work) (file : ℕ) (now : World) (stands : StandsAt tells course edges phases graph state now)
+    → IsLoadNext course edges graph state stands.on.steps file → LogStays → (new : World) → OnlyLooks tells now new → (after : Work) (grown : Graph) → IsUndone graph grown state after
     → (refusal : Refusal) → IsRefusedBy tells course edges phases stands.on.steps new refusal → IsStopped tells course edges phases grown after new refusal
 refuses_undone tells course edges phases graph state file now stands to_load stays new looks after grown undone refusal cause =
     subst (λ (g : Graph). IsStopped tells course edges phases g after new refusal) (sym {A = Graph} undone.graph_is)

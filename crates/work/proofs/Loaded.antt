@@ -37,11 +37,11 @@ use Rattle.graph.specs.Told.{declared_by, recorded_by, AreSameInputs}
 use Rattle.judge.specs.declared.looks.Look.{Look}
 use Rattle.judge.specs.Seen.{look_at, look_of, is_asked}
 use Rattle.plan.specs.Planned.{IsTaskOf, IsPlanned, AreTaken}
-use Rattle.plan.specs.Extended.{IsGrownTask, GoesOn}
+use Rattle.plan.specs.Extended.{IsGrownTask, GoesOnFrom}
 use Rattle.records.specs.declared.logs.Logs.{Logs}
 use Rattle.records.specs.Known.{AreKnown}
 use Rattle.records.specs.Logging.{IsLogging}
-use Rattle.work.specs.declared.state.State.{State}
+use Rattle.work.specs.declared.state.Work.{Work}
 use Rattle.work.specs.Course.{Course, IsOwnTick, HasCone, edges_of, goes_on, Suits, is_quiet, IsSeenStill, AreAnew, AreSeenBefore, AreTold, AreStarted, IsOn}
 use Rattle.work.specs.Removing.{AreRemoved}
 use Rattle.work.proofs.Finishing.{makes_it}
@@ -73,7 +73,7 @@ pub record HasMore (graph grown : Graph) (file : List ℕ) (additions : List Add
   pub paths : grown.manifest.paths ≡ graph.manifest.paths ++ added
 
 -- The state has room for what the graph got, and what it knew stays.
-pub record HasRoomFor (graph grown : Graph) (old new : State) : Type 0 where
+pub record HasRoomFor (graph grown : Graph) (old new : Work) : Type 0 where
   pub fits : length new.looks.seen.items ≡ length grown.manifest.paths
   pub looks : (p : ℕ) → look_at new.looks.seen.items p ≡ look_at old.looks.seen.items p
   pub logs : new.records.logs ≡ old.records.logs
@@ -135,7 +135,7 @@ none_unloaded false d f rest p is there = false≢true (sym (ap (λ (o : Option 
 -- ---- over the load
 
 module _ (tells : Bool) (course : Course) (graph grown : Graph) (file : List ℕ) (additions : List Addition) (gains : HasMore graph grown file additions) (suits : Suits course graph) (goes : goes_on course ≡ true)
-    (state after : State) (now : World) (on : IsOn tells course graph None state now) (room : HasRoomFor graph grown state after)
+    (state after : Work) (now : World) (on : IsOn tells course graph None state now) (room : HasRoomFor graph grown state after)
     (stand : StandFor (declared_by graph).edges graph.manifest.paths (links_of graph)) (stands : StandFor (declared_by grown).edges grown.manifest.paths (links_of grown)) where
   abbrev few : List Edge
   few = edges_of course
@@ -348,7 +348,7 @@ module _ (tells : Bool) (course : Course) (graph grown : Graph) (file : List ℕ
   module _ (content : List ℕ) (is_next : IsNextLoad (task_of course.asked course.store) on.steps file) (read : course.behaviour.dyndep content ≡ Some additions) (order : IsInOrderAt course.store (task_of later.asked course.store))
       (holds : IsTrue tells → (files : FilesAreKept course.own few course.entry.history now.history) → files.free file ≡ false → view_of now.history file ≡ Some content)
       (held_then : IsTrue tells → HeldAt file (Some content) on.steps course.entry.history now.history)
-      (planned : GoesOn grown after.cone state.plan after.plan) (stated : IsTaskOf (task_of later.asked later.store) grown)
+      (planned : GoesOnFrom graph grown after.cone state.plan after.plan) (stated : IsTaskOf (task_of later.asked later.store) grown)
       (coned : HasCone later.asked later.store grown after.cone) where
     carried_then : IsCarried tells course.behaviour course.format course.own later.asked course.store later.phases true on.steps None course.entry now
     carried_then = carried_load tells course.behaviour course.format course.own course.asked course.store course.phases course.entry now next file content additions grown_here on.steps
@@ -364,7 +364,7 @@ module _ (tells : Bool) (course : Course) (graph grown : Graph) (file : List ℕ
     }
 
     pub plan_later : IsPlanned (task_of later.asked later.store) grown after.plan on.steps × AreTaken (task_of later.asked later.store) on.steps
-    plan_later = planned graph (task_of course.asked course.store) (task_of later.asked later.store) on.steps on.planned on.taken stated grown_task coned.listed
+    plan_later = planned (task_of course.asked course.store) (task_of later.asked later.store) on.steps on.planned on.taken stated grown_task coned.listed
 
     pub logging_later : IsLogging tells course.behaviour course.format course.own next on.steps None course.store course.entry now after.records.logs
     logging_later = subst (λ (l : Logs). IsLogging tells course.behaviour course.format course.own next on.steps None course.store course.entry now l) (sym {A = Logs} room.logs) (record {

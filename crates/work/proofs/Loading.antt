@@ -54,7 +54,7 @@ use Rattle.records.specs.declared.logs.Logs.{Logs}
 use Rattle.records.specs.Known.{AreKnown}
 use Rattle.records.specs.Laws.{LogStays}
 use Rattle.records.specs.Logging.{IsLogging}
-use Rattle.work.specs.declared.state.State.{State}
+use Rattle.work.specs.declared.state.Work.{Work}
 use Rattle.work.specs.Course.{Course, IsOwnTick, HasCone, edges_of, goes_on, IsOn, is_quiet}
 use Rattle.work.specs.Going.{IsInHand}
 use Rattle.work.proofs.Keeping.{seen_kept, looks_quiet, on_looks}
@@ -106,7 +106,7 @@ asked_below (look ∷ seen) (suc p) asked = let lt = asked_below seen p asked in
 
 -- ---- a build that stands before a load
 
-module _ (tells : Bool) (course : Course) (edges : List Edge) (phases : List Phase) (graph : Graph) (state : State) (now : World) (stands : StandsAt tells course edges phases graph state now) (file : ℕ)
+module _ (tells : Bool) (course : Course) (edges : List Edge) (phases : List Phase) (graph : Graph) (state : Work) (now : World) (stands : StandsAt tells course edges phases graph state now) (file : ℕ)
     (next_load : IsLoadNext course edges graph state stands.on.steps file) where
   abbrev here : Course
   here = grown_course course edges phases
@@ -132,6 +132,8 @@ module _ (tells : Bool) (course : Course) (edges : List Edge) (phases : List Pha
     seen = stands.on.room.looks;
     targets = stands.on.cone.within;
     numbers = stands.on.cone.numbers;
+    listed = subst (λ (b : BuildGraph). IsConeOf b.edges (recorded_inputs course.store b.edges) (texts_at graph.manifest.paths state.cone.targets.items) state.cone.order.items state.cone.marks.items) stands.suits.same
+        (subst (λ (ts : List (List ℕ)). IsConeOf edges (recorded_inputs course.store edges) ts state.cone.order.items state.cone.marks.items) (sym {A = List (List ℕ)} stands.on.cone.numbers) stands.on.cone.listed);
   }
 
   -- ---- over calls that only look
@@ -156,7 +158,7 @@ module _ (tells : Bool) (course : Course) (edges : List Edge) (phases : List Pha
         was = stands.unstarted none
 
     -- it stands there with records that are kept in another way
-    module _ (after : State) (same : IsAsBefore state after) (known : StayKnown graph graph state.records after.records) where
+    module _ (after : Work) (same : IsAsBefore state after) (known : StayKnown graph graph state.records after.records) where
       abbrev on_after : IsOn tells here graph None after new
       on_after = record {
         steps = steps;
@@ -334,7 +336,7 @@ module _ (tells : Bool) (course : Course) (edges : List Edge) (phases : List Pha
 
       -- ---- what it says has joined
 
-      module _ (grown : Graph) (after : State) (gone : GoesOnWith course.store graph grown state.cone.targets.items after.cone state.plan after.plan path additions)
+      module _ (grown : Graph) (after : Work) (gone : GoesOnWith course.store graph grown state.cone.targets.items after.cone state.plan after.plan path additions)
           (stand : StandFor (declared_by graph).edges graph.manifest.paths (links_of graph)) (stand_grown : StandFor (declared_by grown).edges grown.manifest.paths (links_of grown))
           (is_task : (task : Task) → IsDeclaredTask task grown → IsTaskOf task grown) where
         abbrev next : List Edge
@@ -494,7 +496,7 @@ module _ (tells : Bool) (course : Course) (edges : List Edge) (phases : List Pha
     -- ---- a fault
 
     -- it is cut off where it stood
-    pub cut_here : (after : State) → after.plan ≡ state.plan → HasAsked tells course edges phases now → IsCutThere tells course edges after new
+    pub cut_here : (after : Work) → after.plan ≡ state.plan → HasAsked tells course edges phases now → IsCutThere tells course edges after new
     cut_here after same was = record {
       phases = phases;
       graph = graph;

@@ -6,11 +6,12 @@ use Rattle.model.specs.Schedule.{Step as Done}
 use Rattle.paths.specs.Told.{text_at}
 use Rattle.graph.specs.declared.graph.Graph.{Graph}
 use Rattle.judge.specs.declared.looks.Looks.{Looks}
+use Rattle.judge.specs.declared.sums.Sums.{Sums}
 use Rattle.judge.specs.Looking.{HasLooked}
 use Rattle.judge.specs.Seen.{look_at, look_of, is_asked}
-use Rattle.work.proofs.Seeing.{asked_stamp}
+use Rattle.work.proofs.Seeing.{asked_stamp, with_sums, saw_sums}
 use Rattle.records.specs.Laws.{LogStays}
-use Rattle.work.specs.declared.state.State.{State}
+use Rattle.work.specs.declared.state.Work.{Work}
 use Rattle.work.specs.Course.{Course, Suits, edges_of, is_quiet, AreSeenBefore, IsOn}
 use Rattle.work.specs.Restat.{is_same_look}
 use Rattle.work.proofs.Quiet.{files_then}
@@ -25,18 +26,18 @@ differs_as (Some before) (Some after) = refl
 
 module _ (tells : Bool) (course : Course) (graph : Graph) where
   -- the state with other looks
-  abbrev pub with_looks : State → Looks → State
+  abbrev pub with_looks : Work → Looks → Work
   with_looks state looks =
-      record { alloc = state.alloc; cone = state.cone; plan = state.plan; looks = looks; records = state.records; display = state.display; tick = state.tick; due = state.due; starts = state.starts; failed = state.failed }
+      record { alloc = state.alloc; graph = state.graph; cone = state.cone; plan = state.plan; looks = looks; records = state.records; display = state.display; tick = state.tick; due = state.due; starts = state.starts; failed = state.failed }
 
   -- what was seen of outputs before is still known where nothing is forgotten
-  pub before_kept : (steps : List Done) (state : State) (now : World) (after : Looks) → ((p : ℕ) → is_asked (look_at state.looks.seen.items p) ≡ true → look_at after.seen.items p ≡ look_at state.looks.seen.items p)
+  pub before_kept : (steps : List Done) (state : Work) (now : World) (after : Looks) → ((p : ℕ) → is_asked (look_at state.looks.seen.items p) ≡ true → look_at after.seen.items p ≡ look_at state.looks.seen.items p)
       → AreSeenBefore tells course graph steps state now → AreSeenBefore tells course graph steps (with_looks state after) now
   before_kept steps state now after stays before tell kept e stale unended restat p made =
       let was = before tell kept e stale unended restat p made in
       stays p (ap is_asked was ∙ asked_stamp (stamp_of (file_at course.entry.history (text_at graph.manifest.paths p)))) ∙ was
 
-  abbrev pub on_looked : (stays : LogStays) → Suits course graph → (state : State) (now new : World) (after : Looks) → HasLooked tells graph now new state.looks after → IsOn tells course graph None state now
+  abbrev pub on_looked : (stays : LogStays) → Suits course graph → (state : Work) (now new : World) (after : Looks) → HasLooked tells graph now new state.looks after → IsOn tells course graph None state now
       → IsOn tells course graph None (with_looks state after) new
   on_looked stays suits state now new after looked on =
       let quiet = looks_quiet tells course graph stays None state now new on looked.looks in
@@ -62,3 +63,7 @@ module _ (tells : Bool) (course : Course) (graph : Graph) where
         ticking = on.ticking;
         noted = on.noted;
       }
+
+  -- other sums change nothing of what a run keeps
+  abbrev pub on_summed : (stays : LogStays) → Suits course graph → (state : Work) (now : World) (sums : Sums) → IsOn tells course graph None state now → IsOn tells course graph None (with_looks state (with_sums state.looks sums)) now
+  on_summed stays suits state now sums on = on_looked stays suits state now now (with_sums state.looks sums) (saw_sums tells graph now state.looks sums) on

@@ -6,7 +6,7 @@ use Rattle.model.specs.Phases.{Phase}
 use Rattle.theory.proofs.SiteCalls.{unrefused_none}
 use Rattle.graph.specs.declared.graph.Graph.{Graph}
 use Rattle.work.specs.declared.cut.Cut.{Cut}
-use Rattle.work.specs.declared.state.State.{State}
+use Rattle.work.specs.declared.state.Work.{Work}
 use Rattle.work.specs.declared.summary.Pause.{Pause}
 use Rattle.work.specs.declared.summary.Pause.TheVariants.{Load, Ended}
 use Rattle.work.specs.After.{ComesAfter, LooksUnlessMore}
@@ -20,12 +20,12 @@ use Rattle.work.proofs.Halting.{load_at, done_at, cut_at}
 pub well_none : (w : World) → w.stopped ≡ false → GoesWell w w
 well_none w running = record { unrefused = unrefused_none w running; starts = inl refl }
 
-module _ (tells : Bool) (course : Course) (edges : List Edge) (phases : List Phase) (graph : Graph) (state : State) (now : World) (at : HasSourcesAt tells course edges phases graph state now) where
+module _ (tells : Bool) (course : Course) (edges : List Edge) (phases : List Phase) (graph : Graph) (state : Work) (now : World) (at : HasSourcesAt tells course edges phases graph state now) where
   -- the run goes on from there
   pub going_at : IsGoing tells true graph state now
   going_at = record { course = grown_course course edges phases; suits = at.stands.suits; is = at.stands.goes; on = at.stands.on }
 
-  module _ (after : State) (new : World) (grows : ComesAfter tells now new) where
+  module _ (after : Work) (new : World) (grows : ComesAfter tells now new) where
     pub paused_at : (pause : Pause) → LooksUnlessMore tells graph now new state.looks after.looks
         → ((of : Course) → Suits of graph → goes_on of ≡ true → IsOn tells of graph None state now → HasPaused tells of graph after new (Ok pause)) → HasPausedSo tells course edges phases graph after new pause
     paused_at (Load file) looked ran = load_at tells course edges phases graph state now at.stands after file new grows looked at.asked (ran (grown_course course edges phases) at.stands.suits at.stands.goes at.stands.on)

@@ -35,7 +35,7 @@ use Rattle.records.specs.Laws.{LogStays}
 use Rattle.work.specs.Shown.{Showing}
 use Rattle.work.specs.declared.reported.Told.{Told}
 use Rattle.work.specs.declared.reported.Told.TheVariants.{Nothing, Inputs, Refused}
-use Rattle.work.specs.declared.state.State.{State}
+use Rattle.work.specs.declared.state.Work.{Work}
 use Rattle.work.specs.Course.{Course, goes_on, Suits, edges_of, IsOn}
 use Rattle.work.specs.Going.{IsCut, IsInHand}
 use Rattle.work.specs.Starting.{IsTakenIn, MayBeDone}
@@ -46,11 +46,11 @@ use Rattle.work.proofs.Running.{cone_within}
 
 -- ---- the display shows something
 
-abbrev pub with_display : State → Showing → State
+abbrev pub with_display : Work → Showing → Work
 with_display state display =
-    record { alloc = state.alloc; cone = state.cone; plan = state.plan; looks = state.looks; records = state.records; display = display; tick = state.tick; due = state.due; starts = state.starts; failed = state.failed }
+    record { alloc = state.alloc; graph = state.graph; cone = state.cone; plan = state.plan; looks = state.looks; records = state.records; display = display; tick = state.tick; due = state.due; starts = state.starts; failed = state.failed }
 
-abbrev pub on_shown : (tells : Bool) (course : Course) (graph : Graph) (hand : Option ℕ) (state : State) (display : Showing) (now : World) → IsOn tells course graph hand state now → IsOn tells course graph hand (with_display state display) now
+abbrev pub on_shown : (tells : Bool) (course : Course) (graph : Graph) (hand : Option ℕ) (state : Work) (display : Showing) (now : World) → IsOn tells course graph hand state now → IsOn tells course graph hand (with_display state display) now
 on_shown tells course graph hand state display now on = record {
   steps = on.steps;
   planned = on.planned;
@@ -77,7 +77,7 @@ ended_more : (i : ℕ) (old now new more at : List Moment) → new ≡ now ++ mo
 ended_more i old now new more at grows ended =
     record { before = ended.before; after = ended.after ++ more; is = ended.is; splits = longer old ended.before (Happened (Finish i true)) ended.after more now new grows ended.splits }
 
-module _ (tells : Bool) (course : Course) (graph : Graph) (suits : Suits course graph) (state : State) (now : World) (e : ℕ) (on : IsOn tells course graph (Some (suc e)) state now) (before : List Done) (last : on.steps ≡ before ++ Ended (suc e) true ∷ []) where
+module _ (tells : Bool) (course : Course) (graph : Graph) (suits : Suits course graph) (state : Work) (now : World) (e : ℕ) (on : IsOn tells course graph (Some (suc e)) state now) (before : List Done) (last : on.steps ≡ before ++ Ended (suc e) true ∷ []) where
   abbrev task : Task
   task = task_of course.asked course.store
 
@@ -118,7 +118,7 @@ module _ (tells : Bool) (course : Course) (graph : Graph) (suits : Suits course 
 
 -- ---- a command that was taken in, and ended well
 
-module _ (tells : Bool) (course : Course) (graph : Graph) (suits : Suits course graph) (state : State) (now : World) (e stamp : ℕ) (ok : Bool) (went : ok ≡ true) (told : Told) (any : IsTakenIn tells course graph (suc e) stamp ok told state now) where
+module _ (tells : Bool) (course : Course) (graph : Graph) (suits : Suits course graph) (state : Work) (now : World) (e stamp : ℕ) (ok : Bool) (went : ok ≡ true) (told : Told) (any : IsTakenIn tells course graph (suc e) stamp ok told state now) where
   abbrev pub taken : IsTakenIn tells course graph (suc e) stamp true told state now
   taken = subst (λ (b : Bool). IsTakenIn tells course graph (suc e) stamp b told state now) went any
 
@@ -148,7 +148,7 @@ module _ (tells : Bool) (course : Course) (graph : Graph) (suits : Suits course 
 
 -- ---- what it told is reported
 
-module _ (tells : Bool) (course : Course) (graph : Graph) (suits : Suits course graph) (state : State) (now : World) (e stamp : ℕ) (told : Told) (taken : IsTakenIn tells course graph (suc e) stamp true told state now) where
+module _ (tells : Bool) (course : Course) (graph : Graph) (suits : Suits course graph) (state : Work) (now : World) (e stamp : ℕ) (told : Told) (taken : IsTakenIn tells course graph (suc e) stamp true told state now) where
   abbrev i : ℕ
   i = suc e
 
@@ -222,7 +222,7 @@ module _ (tells : Bool) (course : Course) (graph : Graph) (suits : Suits course 
 
 -- ---- that it is done is recorded
 
-module _ (tells : Bool) (course : Course) (graph : Graph) (suits : Suits course graph) (state : State) (now : World) (e stamp : ℕ) (done : MayBeDone tells course graph (suc e) stamp state now)
+module _ (tells : Bool) (course : Course) (graph : Graph) (suits : Suits course graph) (state : Work) (now : World) (e stamp : ℕ) (done : MayBeDone tells course graph (suc e) stamp state now)
     (mid : World) (writes : WritesAt tells state.records.logs.build_log.path now mid) (start : ℕ) (start_is : start ≡ stamp) where
   abbrev job : ℕ
   job = suc e
@@ -256,7 +256,7 @@ module _ (tells : Bool) (course : Course) (graph : Graph) (suits : Suits course 
       → IsLogging tells B format own (declared_by graph).edges steps (Some job) entry first now state.records.logs → IsLogging tells B format own (declared_by graph).edges steps None entry first mid records.logs)
       (stays : LogStays) (act : Act) (act_is : act ≡ (edge_at (declared_by graph).edges job).act) (deps : Deps) (deps_is : deps ≡ (edge_at (declared_by graph).edges job).deps)
       (gone : World) (clears : WritesOrNot tells act.depfile None mid gone) (spares : deps ≢ Gcc → gone ≡ mid) where
-    abbrev After : State
+    abbrev After : Work
     After = with_records tells course graph state records
 
     pub logging_then : Logging tells course graph steps None mid records.logs

@@ -12,7 +12,7 @@ use Rattle.model.specs.SingleBuild.{Asked}
 use Rattle.graph.specs.declared.graph.Graph.{Graph}
 use Rattle.theory.specs.Ledger.{IsPhased, IsRefused}
 use Rattle.theory.proofs.PhasesGoOn.{phased_on, phased_taken_in}
-use Rattle.work.specs.declared.state.State.{State}
+use Rattle.work.specs.declared.state.Work.{Work}
 use Rattle.work.specs.Course.{Course, IsOn}
 
 -- the run ends there
@@ -29,7 +29,7 @@ refused_at course steps = record {
 }
 
 -- a load is due that was refused; or one was made just before, and an input is missing
-pub on_refused : (tells : Bool) (course : Course) (graph : Graph) (state : State) (now : World) (on : IsOn tells course graph None state now) → IsRefused on.carried.phased → IsOn tells (refused_at course on.steps) graph None state now
+pub on_refused : (tells : Bool) (course : Course) (graph : Graph) (state : Work) (now : World) (on : IsOn tells course graph None state now) → IsRefused on.carried.phased → IsOn tells (refused_at course on.steps) graph None state now
 on_refused tells course graph state now on cause = record {
   steps = on.steps;
   planned = on.planned;

@@ -6,7 +6,7 @@ use Rattle.model.specs.World.{World}
 use Rattle.model.specs.Phases.{Phase}
 use Rattle.graph.specs.declared.graph.Graph.{Graph}
 use Rattle.graph.specs.Told.{declared_by}
-use Rattle.work.specs.declared.state.State.{State}
+use Rattle.work.specs.declared.state.Work.{Work}
 use Rattle.work.specs.declared.summary.Pause.{Pause}
 use Rattle.work.specs.declared.summary.Pause.TheVariants.{Load, Ended}
 use Rattle.work.specs.declared.summary.Summary.{Summary}
@@ -14,7 +14,7 @@ use Rattle.work.specs.Course.{Course}
 use Rattle.work.specs.declared.stop.Stop.{Stop}
 use Rattle.work.specs.Standing.{BeginsAt, IsAtNextLoad, HasDone, HasHalted, HasPausedSo}
 
-module _ (tells : Bool) (course : Course) (edges : List Edge) (phases : List Phase) (graph : Graph) (old : State) (was : World) (at : BeginsAt tells course edges phases graph old was) (after : State) (now : World) where
+module _ (tells : Bool) (course : Course) (edges : List Edge) (phases : List Phase) (graph : Graph) (old : Work) (was : World) (at : BeginsAt tells course edges phases graph old was) (after : Work) (now : World) where
   edges_are : edges ≡ (declared_by graph).edges
   edges_are = ap (λ (b : BuildGraph). b.edges) at.stands.suits.same
 

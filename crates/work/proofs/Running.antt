@@ -16,7 +16,7 @@ use Rattle.plan.specs.declared.step.Standing.{Standing}
 use Rattle.plan.specs.declared.step.Standing.TheVariants.{Unjudged, Clean, OutOfDate, Running, Well, Failed}
 use Rattle.plan.specs.Standing.{standing_at, is_outside}
 use Rattle.plan.specs.Planned.{IsPlanned, standing_in}
-use Rattle.work.specs.declared.state.State.{State}
+use Rattle.work.specs.declared.state.Work.{Work}
 use Rattle.work.specs.Course.{Course, edges_of, IsOn}
 
 pub cone_within : (task : Task) (graph : Graph) (plan : Plan) (steps : List Done) → IsPlanned task graph plan steps → (e : ℕ) → IsInCone task.graph.edges task.recorded task.targets (suc e) → e < length graph.manifest.lines
@@ -49,7 +49,7 @@ pub record IsRunningEdge (course : Course) (graph : Graph) (plan : Plan) (steps 
   pub stale : has_number (out_of_date_in steps) job ≡ true
   pub command : IsCommand (edges_of course) job
 
-module _ (tells : Bool) (course : Course) (graph : Graph) (hand : Option ℕ) (state : State) (now : World) (on : IsOn tells course graph hand state now) where
+module _ (tells : Bool) (course : Course) (graph : Graph) (hand : Option ℕ) (state : Work) (now : World) (on : IsOn tells course graph hand state now) where
   abbrev task : Task
   task = task_of course.asked course.store
 

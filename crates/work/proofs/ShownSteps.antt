@@ -1,5 +1,5 @@
 -- What a display keeps, from one call to the next.
-use Rattle.std.proofs.Common.{◌≡◌, inl, inr, ℕ, ◌-◌, ◌==◌, ◌&&◌, List, [], ◌∷◌, ◌++◌, length, Bool, true, false, if◌then◌else◌, Option, None, Some, is_some, Result, Ok, Err, IfOk, OnOk, refl, sym, ◌∙◌, ap, subst, arith}
+use Rattle.std.proofs.Common.{◌≡◌, inl, inr, ℕ, ◌-◌, ◌==◌, ◌&&◌, List, [], ◌∷◌, ◌++◌, length, Bool, true, false, if◌then◌else◌, Option, None, Some, is_some, Result, Ok, Err, IfOk, OnOk, Vec, Global, refl, sym, ◌∙◌, ap, subst, arith}
 use Rattle.std.proofs.lemmas.Bool.{cases_Bool, eqb-true, false≢true}
 use Rattle.model.specs.declared.graph.Edge.{Edge}
 use Rattle.status.specs.declared.counts.Counts.{Counts}
@@ -84,3 +84,9 @@ module _ (progress : Progress) (edge : Edge) (ok : Bool) (depfile : Option Depfi
         shown_at true console ∙ (ap (λ (l : List ℕ). l ++ text) (no_items (held old.held) both.1) ∙ no_text console both.0)
     | inr other ↦ shown_at false other ∙ shows_nothing old.held text (silent_at false other)
   ]
+
+-- so it is of what a call gives
+pub silent_ends : {E : Type 0} (progress : Progress) (edge : Edge) (ok : Bool) (depfile : Option DepfileFault) (printed : List ℕ) (old new : Showing) (r : Result (Vec ℕ Global) E)
+    → IfOk r (λ shown. Ends progress edge ok depfile printed old new shown.items) → IfOk r (λ shown. ends_silently edge ok old.held ≡ true → shown.items ≡ [])
+silent_ends progress edge ok depfile printed old new (Ok shown) ends = λ silent. silent_end progress edge ok depfile printed old new shown.items ends silent
+silent_ends progress edge ok depfile printed old new (Err e) ends = tt

@@ -24,7 +24,7 @@ use Rattle.records.specs.declared.records.Records.{Records}
 use Rattle.records.specs.Laws.{LogStays}
 use Rattle.work.specs.Shown.{Showing}
 use Rattle.work.specs.declared.cut.Cut.{Cut}
-use Rattle.work.specs.declared.state.State.{State}
+use Rattle.work.specs.declared.state.Work.{Work}
 use Rattle.work.specs.After.{ComesAfter}
 use Rattle.work.specs.Going.{IsCut}
 use Rattle.work.specs.Course.{Course}
@@ -82,7 +82,7 @@ missing_after : (course : Course) (edges : List Edge) (done : List Done) (now : 
 missing_after course edges done now path None at point missing = (at, point, missing)
 missing_after course edges done now path (Some output) at point missing = (missing.0, missing.1, (at, point, missing.2))
 
-module _ (tells : Bool) (course : Course) (edges : List Edge) (phases : List Phase) (graph : Graph) (state : State) (now : World) (begins : BeginsAt tells course edges phases graph state now) where
+module _ (tells : Bool) (course : Course) (edges : List Edge) (phases : List Phase) (graph : Graph) (state : Work) (now : World) (begins : BeginsAt tells course edges phases graph state now) where
   abbrev stands : StandsAt tells course edges phases graph state now
   stands = begins.stands
 
@@ -181,7 +181,7 @@ lacking_stop tells graph records cone plan now new seen stopped looks (inr lack)
 -- ---- a load that is not made
 
 -- the load is refused where the build stands
-pub load_refused : (tells : Bool) (course : Course) (edges : List Edge) (phases : List Phase) (graph grown : Graph) (state after : State) (file : ℕ) (now new : World) (refusal : Refusal)
+pub load_refused : (tells : Bool) (course : Course) (edges : List Edge) (phases : List Phase) (graph grown : Graph) (state after : Work) (file : ℕ) (now new : World) (refusal : Refusal)
     → IsAtNextLoad tells course edges phases graph state file now → OnlyLooks tells now new → IsStopped tells course edges phases grown after new refusal → IsRefusedAt tells course edges grown after new refusal
 load_refused tells course edges phases graph grown state after file now new refusal at looks stopped = record {
   phases = phases;
@@ -193,7 +193,7 @@ load_refused tells course edges phases graph grown state after file now new refu
 -- ---- behind a fault
 
 -- what runs was taken in
-pub given_up_cut : (tells : Bool) (course : Course) (grown : List Edge) (state : State) (now new : World) (cut : Cut) → IsCutThere tells course grown state now → IsLeft new cut → ComesAfter tells now new
+pub given_up_cut : (tells : Bool) (course : Course) (grown : List Edge) (state : Work) (now new : World) (cut : Cut) → IsCutThere tells course grown state now → IsLeft new cut → ComesAfter tells now new
     → ((of : Course) (steps : List Done) (met : Option ℕ) → IsCutOff tells of.behaviour of.format of.own of.asked of.store of.phases steps met of.entry now → IsCutOff tells of.behaviour of.format of.own of.asked of.store of.phases steps met of.entry new)
     → WasCut tells course grown new (fault_of cut)
 given_up_cut tells course grown state now new cut there left after rest = record {

@@ -8,7 +8,7 @@ use Rattle.model.specs.Schedule.{Step as Done}
 use Rattle.graph.specs.declared.graph.Graph.{Graph}
 use Rattle.theory.specs.Ledger.{IsCutOff}
 use Rattle.work.specs.declared.cut.Cut.{Cut}
-use Rattle.work.specs.declared.state.State.{State}
+use Rattle.work.specs.declared.state.Work.{Work}
 use Rattle.work.specs.After.{ComesAfter}
 use Rattle.work.specs.Course.{Course}
 use Rattle.work.specs.Cut.{fault_of, IsLeft}
@@ -33,7 +33,7 @@ fault_stopped a b s fault is so = stopped_by a b fault (subst (λ (x : Stop). Is
 pub fault_on : (a b c : World) (s : Stop) (fault last : SiteFault) (cut : Cut) → s ≡ stop.Fault fault → last ≡ fault_of cut → IsStopThere a b s → (IsMet a b fault → IsSeen a c (fault_of cut)) → TakesIn b c cut → IsStopOf a c (stop.Fault last)
 fault_on a b c s fault last cut is same so seen takes = subst (λ (f : SiteFault). IsFaulted a c f) (sym {A = SiteFault} same) (faulted_on a b c fault cut (subst (λ (x : Stop). IsStopThere a b x) is so) seen takes)
 
-pub fault_halted : (tells : Bool) (course : Course) (grown : List Edge) (graph : Graph) (state : State) (now new : World) (s : Stop) (fault last : SiteFault) (cut : Cut) → s ≡ stop.Fault fault → last ≡ fault_of cut
+pub fault_halted : (tells : Bool) (course : Course) (grown : List Edge) (graph : Graph) (state : Work) (now new : World) (s : Stop) (fault last : SiteFault) (cut : Cut) → s ≡ stop.Fault fault → last ≡ fault_of cut
     → StoppedThere tells course grown graph state now s → IsLeft new cut → ComesAfter tells now new
     → ((of : Course) (steps : List Done) (met : Option ℕ) → IsCutOff tells of.behaviour of.format of.own of.asked of.store of.phases steps met of.entry now → IsCutOff tells of.behaviour of.format of.own of.asked of.store of.phases steps met of.entry new)
     → HasHalted tells course grown graph state new (stop.Fault last)
@@ -46,6 +46,6 @@ fault_halted tells course grown graph state now new s fault last cut is same the
 pub refusal_on : (a b : World) (s : Stop) (refusal : Refusal) → s ≡ stop.Refused refusal → IsStopThere a b s → IsStopOf a b (stop.Refused refusal)
 refusal_on a b s refusal is so = subst (λ (x : Stop). IsStopThere a b x) is so
 
-pub refusal_halted : (tells : Bool) (course : Course) (grown : List Edge) (graph : Graph) (state : State) (now : World) (s : Stop) (refusal : Refusal) → s ≡ stop.Refused refusal
+pub refusal_halted : (tells : Bool) (course : Course) (grown : List Edge) (graph : Graph) (state : Work) (now : World) (s : Stop) (refusal : Refusal) → s ≡ stop.Refused refusal
     → StoppedThere tells course grown graph state now s → HasHalted tells course grown graph state now (stop.Refused refusal)
 refusal_halted tells course grown graph state now s refusal is there = subst (λ (x : Stop). StoppedThere tells course grown graph state now x) is there

@@ -28,7 +28,7 @@ use Rattle.records.specs.Known.{AreKnown}
 use Rattle.records.specs.Logging.{IsLogging}
 use Rattle.theory.specs.Ledger.{IsCarried}
 use Rattle.work.specs.Removing.{AreRemoved}
-use Rattle.work.specs.declared.state.State.{State}
+use Rattle.work.specs.declared.state.Work.{Work}
 
 -- What a run is of: what commands do, how its logs are read, which files are its own, what was asked, what the logs told at the
 -- entry, and the world of then; the phases that ended with a load; and where a load was refused, which steps were done by then. Nothing
@@ -83,7 +83,7 @@ abbrev pub is_quiet : (List ℕ → Bool) → OwnFiles → List Edge → List Do
 is_quiet free own edges steps p = not (free p) && (not (own.files p) && (not (is_private edges p) && not (is_under_way edges steps p)))
 
 -- what was seen of quiet paths is so of the files now, where files are kept
-abbrev pub IsSeenStill : Bool → Course → Graph → List Done → State → World → Type 0
+abbrev pub IsSeenStill : Bool → Course → Graph → List Done → Work → World → Type 0
 IsSeenStill tells course graph steps state now =
     IsTrue tells → (files : FilesAreKept course.own (edges_of course) course.entry.history now.history)
     → AreSeenOf (is_quiet files.free course.own (edges_of course) steps) graph.manifest.paths now.history state.looks.seen.items
@@ -92,7 +92,7 @@ IsSeenStill tells course graph steps state now =
 
 -- The flag of each path whose maker did not fail says whether a command of this run made it anew, by its stamps at the entry and now,
 -- where files are kept.
-abbrev pub AreAnew : Bool → Course → Graph → List Done → State → World → Type 0
+abbrev pub AreAnew : Bool → Course → Graph → List Done → Work → World → Type 0
 AreAnew tells course graph steps state now =
     IsTrue tells → FilesAreKept course.own (edges_of course) course.entry.history now.history
     → (p : ℕ) → p < length graph.manifest.paths → ((j : ℕ) → maker (edges_of course) (text_at graph.manifest.paths p) ≡ Some j → has_number (failed_in steps) j ≡ false)
@@ -100,7 +100,7 @@ AreAnew tells course graph steps state now =
 
 -- Of the outputs of each edge with `restat` that is out of date and has not ended, what is noted is what was there at the entry, where
 -- files are kept.
-abbrev pub AreSeenBefore : Bool → Course → Graph → List Done → State → World → Type 0
+abbrev pub AreSeenBefore : Bool → Course → Graph → List Done → Work → World → Type 0
 AreSeenBefore tells course graph steps state now =
     IsTrue tells → FilesAreKept course.own (edges_of course) course.entry.history now.history
     → (e : ℕ) → has_number (out_of_date_in steps) (suc e) ≡ true → has_number (ended_in steps) (suc e) ≡ false → (edge_at (edges_of course) (suc e)).restat ≡ true
@@ -110,14 +110,14 @@ AreSeenBefore tells course graph steps state now =
 -- ---- where a run stands
 
 -- the records in memory, of both logs, are those that the logs told at the entry
-pub record AreTold (tells : Bool) (course : Course) (graph : Graph) (state : State) (now : World) : Type 0 where
+pub record AreTold (tells : Bool) (course : Course) (graph : Graph) (state : Work) (now : World) : Type 0 where
   pub records : List Record
   pub deps : List DepsRecord
   pub known : AreKnown graph records deps state.records
   pub same : (course.store.records ≡ records) × (course.store.deps ≡ deps)
 
 -- each command that runs was started under the stamp that is noted for it
-abbrev pub AreStarted : Course → List Done → State → World → Type 0
+abbrev pub AreStarted : Course → List Done → Work → World → Type 0
 AreStarted course steps state now = (e : ℕ) → has_number (running_in steps) (suc e) ≡ true → StartedUnder (suc e) (get_or state.starts.items e 0) course.entry now
 
 -- ticks touch a file of the program's own that is no log
@@ -133,13 +133,13 @@ pub record HasCone (asked : Asked) (store : Store) (graph : Graph) (cone : Cone)
   pub numbers : texts_at graph.manifest.paths cone.targets.items ≡ (task_of asked store).targets
 
 -- the state has room for each path and each edge of the graph
-pub record HasRoom (graph : Graph) (state : State) : Type 0 where
+pub record HasRoom (graph : Graph) (state : Work) : Type 0 where
   pub looks : length state.looks.seen.items ≡ length graph.manifest.paths
   pub starts : length state.starts.items ≡ length graph.manifest.lines
 
 -- What a run has kept since the entry that goes on, or that a refused load has ended. `hand` is the edge whose start or recording is
 -- under way, `failed` are those whose failure is noted.
-pub record IsOn (tells : Bool) (course : Course) (graph : Graph) (hand : Option ℕ) (state : State) (now : World) : Type 0 where
+pub record IsOn (tells : Bool) (course : Course) (graph : Graph) (hand : Option ℕ) (state : Work) (now : World) : Type 0 where
   pub steps : List Done
   pub planned : IsPlanned (task_of course.asked course.store) graph state.plan steps
   pub taken : AreTaken (task_of course.asked course.store) steps

@@ -6,6 +6,8 @@ use Rattle.model.specs.declared.event.Event.{Event}
 use Rattle.model.specs.World.{World, runs}
 use Rattle.model.specs.Calls.{HasCause, is_stop}
 use Rattle.model.specs.Graph.{has_number}
+use Rattle.model.specs.SingleBuild as answer
+use Rattle.model.specs.SingleBuild.{PassesNoFault}
 use Rattle.theory.specs.Seen.{IsSeen, StartsUnrefused}
 use Rattle.graph.specs.Held.{StandOnce}
 use Rattle.work.specs.declared.cut.Cut.{Cut}
@@ -68,3 +70,7 @@ pub record TakesIn (old new : World) (cut : Cut) : Type 0 where
   pub at_start : new.failures_at_start ≡ old.failures_at_start
   pub stopped : IsStoppedBy new cut
   pub earlier : new.earlier ≡ old.earlier
+
+-- the fault that cuts a run off is passed over by none of its calls
+abbrev pub PassesNoCut : {T : Type 0} → World → World → Result T Cut → Type 0
+PassesNoCut old new result = IfErr result (λ cut. PassesNoFault old new (answer.Fault (fault_of cut)))

@@ -10,7 +10,7 @@ use Rattle.graph.specs.Links.{links_of}
 use Rattle.graph.specs.Told.{declared_by, recorded_by}
 use Rattle.plan.specs.declared.step.Step.TheVariants.{Load}
 use Rattle.plan.specs.Planned.{IsNext}
-use Rattle.work.specs.declared.state.State.{State}
+use Rattle.work.specs.declared.state.Work.{Work}
 use Rattle.work.specs.Course.{Course}
 use Rattle.work.specs.Recorded.{IsRecordedBy}
 use Rattle.work.specs.Standing.{StandsAt, BeginsAt, IsAtNextLoad}
@@ -18,13 +18,13 @@ use Rattle.work.specs.Standing.{StandsAt, BeginsAt, IsAtNextLoad}
 -- the order of the cone names edges of the graph
 abbrev pub OrdersStand : Graph → Type 0
 OrdersStand graph =
-    (tells : Bool) (course : Course) (edges : List Edge) (phases : List Phase) (state : State) (now : World)
+    (tells : Bool) (course : Course) (edges : List Edge) (phases : List Phase) (state : Work) (now : World)
     → StandsAt tells course edges phases graph state now → All (λ e. e < length graph.manifest.lines) state.cone.order.items
 
 -- where a phase begins, and the plan says a file that no edge makes, the build stands at that load
 abbrev pub SourcesLoad : Type 0
 SourcesLoad =
-    (tells : Bool) (course : Course) (edges : List Edge) (phases : List Phase) (graph : Graph) (state : State) (now : World)
+    (tells : Bool) (course : Course) (edges : List Edge) (phases : List Phase) (graph : Graph) (state : Work) (now : World)
     → BeginsAt tells course edges phases graph state now → (file : ℕ) → IsNext state.plan (Load file) → (links_of graph).maker file ≡ None
     → IsAtNextLoad tells course edges phases graph state file now
 

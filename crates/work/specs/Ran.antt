@@ -1,5 +1,6 @@
 -- How a build ends that ran commands.
-use Rattle.std.specs.Prelude.{◌≡◌, ◌<◌, ℕ, suc, Bool, true, false, List, [], map, length, All, Option, Some, None, Result, Ok, Err, IfOk}
+use Rattle.std.specs.Prelude.{◌≡◌, ◌<◌, ℕ, suc, Bool, true, false, List, [], map, length, All, Option, Some, None, Result, Ok, Err, IfOk, Vec}
+use Rattle.std.specs.declared.alloc.Global.{Global}
 use Rattle.model.specs.World.{World}
 use Rattle.model.specs.Schedule.{Step, well_in, failed_in}
 use Rattle.model.specs.Phases.{NoLoadIsDue}
@@ -12,15 +13,16 @@ use Rattle.plan.specs.declared.step.End.TheVariants as ending
 use Rattle.plan.specs.declared.step.Step.TheVariants.{Ended as Over}
 use Rattle.plan.specs.Planned.{IsNextOf}
 use Rattle.work.specs.declared.cut.Cut.{Cut}
-use Rattle.work.specs.declared.state.State.{State}
+use Rattle.work.specs.declared.state.Work.{Work}
 use Rattle.work.specs.declared.summary.Pause.{Pause}
 use Rattle.work.specs.declared.summary.Pause.TheVariants.{Load, Ended}
 use Rattle.work.specs.declared.summary.Summary.{Summary}
 use Rattle.work.specs.declared.summary.Summary.TheVariants.{Well, Failed}
 use Rattle.work.specs.declared.turn.Halt.{Halt}
 use Rattle.work.specs.Course.{Course, HasCone, edges_of, IsSince}
-use Rattle.work.specs.Going.{IsInHand, IsAtLoad, IsFinished, IsHalted, IsCut, From}
+use Rattle.work.specs.Going.{IsInHand, IsAtLoad, IsFinished, IsHalted, IsCut, From, IsOver}
 use Rattle.work.specs.Removing.{AreRemoved}
+use Rattle.plan.specs.declared.step.End.{End}
 
 -- a run that was not cut off went on until nothing was left to do
 abbrev pub EndsRun : Bool → Course → List Step → Option ℕ → World → Result Summary Cut → Type 0
@@ -51,23 +53,23 @@ AreEdgesOf graph (Well started) = Unit {0}
 AreEdgesOf graph (Failed edges) = All (λ e. e < length graph.manifest.lines) edges.items
 
 -- What a run leaves that went on: it stands before the next load, or has ended, over the cone that the state has, or a fault has cut it off.
-abbrev pub HasPaused : Bool → Course → Graph → State → World → Result Pause Cut → Type 0
+abbrev pub HasPaused : Bool → Course → Graph → Work → World → Result Pause Cut → Type 0
 HasPaused tells course graph state new (Ok (Load file)) = IsAtLoad tells course graph state file new
 HasPaused tells course graph state new (Ok (Ended summary)) = HasRun tells course new (Ok summary) × HasCone course.asked course.store graph state.cone
 HasPaused tells course graph state new (Err cut) = HasRun tells course new (Err cut)
 
 -- What a run leaves that a refused load has ended: all that ran was taken in, or a fault has cut it off.
-abbrev pub HasFinished : Bool → Course → Graph → State → World → Result (Unit {0}) Cut → Type 0
+abbrev pub HasFinished : Bool → Course → Graph → Work → World → Result (Unit {0}) Cut → Type 0
 HasFinished tells course graph state new (Ok done) = IsFinished tells course graph state new
 HasFinished tells course graph state new (Err cut) = HasRun tells course new (Err cut)
 
 -- of each course on which the run stood there, and went on, it has paused so,
-abbrev pub PausesSo : Bool → Graph → World → World → State → State → Result Pause Cut → Type 0
-PausesSo tells graph old new before after result = From tells true graph before old (λ course. HasPaused tells course graph after new result)
+abbrev pub PausesSo : {S : Type 0} → Bool → (S → World) → S → S → Graph → Work → Work → Result Pause Cut → Type 0
+PausesSo tells world old new graph before after result = From tells true graph before (world old) (λ course. HasPaused tells course graph after (world new) result)
 
 -- or ended so after a refused load
-abbrev pub EndsSo : Bool → Graph → World → World → State → State → Result (Unit {0}) Cut → Type 0
-EndsSo tells graph old new before after result = From tells false graph before old (λ course. HasFinished tells course graph after new result)
+abbrev pub EndsSo : {S : Type 0} → Bool → (S → World) → S → S → Graph → Work → Work → Result (Unit {0}) Cut → Type 0
+EndsSo tells world old new graph before after result = From tells false graph before (world old) (λ course. HasFinished tells course graph after (world new) result)
 
 -- what had cut a run off, whatever its course, its steps and the edge that met it, has cut it off still
 abbrev pub CutsStay : Bool → World → World → Type 0
@@ -83,9 +85,15 @@ IsPauseOf graph (Ended summary) = AreEdgesOf graph summary
 -- ---- why a run pauses
 
 -- each run that halted so has paused so
-abbrev pub Pauses : State → State → Halt → Pause → Type 0
+abbrev pub Pauses : Work → Work → Halt → Pause → Type 0
 Pauses old new halt pause =
     (tells : Bool) (course : Course) (graph : Graph) (now : World) → IsHalted tells course graph old now halt → HasPaused tells course graph new now (Ok pause) × IsPauseOf graph pause
+
+-- each run that is over so, with this plan and these failed edges, has come to this, and names edges of its graph
+abbrev pub SumsUp : Plan → Vec ℕ Global → End → Summary → Type 0
+SumsUp plan failed end summary =
+    (tells : Bool) (course : Course) (graph : Graph) (state : Work) (now : World) → plan ≡ state.plan → failed ≡ state.failed → IsOver tells course graph state end now
+    → HasRun tells course now (Ok summary) × AreEdgesOf graph summary
 
 -- of each run that the fault cut off, it has ended so
 abbrev pub EndsCut : Bool → Plan → World → World → Cut → Type 0

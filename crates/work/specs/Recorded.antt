@@ -11,10 +11,14 @@ use Rattle.paths.specs.Told.{text_at, texts_at}
 use Rattle.graph.specs.declared.graph.Graph.{Graph}
 use Rattle.graph.specs.Held.{list_at}
 use Rattle.graph.specs.Told.{declared_by, recorded_by, AreSameInputs}
-use Rattle.log_text.specs.Kept.{joined}
+use Rattle.log_text.specs.Kept.{joined, if_some, texts_at as logged_at}
 use Rattle.records.specs.declared.records.Records.{Records}
 use Rattle.records.specs.Known.{IsOf, IsOfDeps, AreKnown}
 use Rattle.judge.specs.Facts.{AreKnownOf}
+use Rattle.log_text.specs.declared.deps.Deps.{Deps}
+use Rattle.graph.specs.Links.{links_of}
+use Rattle.work.specs.EdgeIn.{edge_in}
+use Rattle.work.specs.declared.recorded.Numbers.{Numbers}
 
 -- each of these outputs has a record of this act in force, and a deps record of the same start
 abbrev pub are_known : List Record → List DepsRecord → Act → List (List ℕ) → Bool
@@ -80,9 +84,17 @@ pub record HaveJust (graph : Graph) (numbers : List ℕ) (paths : List (List ℕ
 abbrev pub IsJoined : Graph → List Record → List DepsRecord → ℕ → Type 0
 IsJoined graph rs ds e = (p : List ℕ) → has (recorded_by graph (suc e)) p ≡ has (recorded_inputs (record { records = rs; deps = ds }) (declared_by graph).edges (suc e)) p
 
+-- the other edges have what they had
+abbrev pub KeepsOtherEdges : ℕ → Graph → Graph → Type 0
+KeepsOtherEdges edge old new = (e : ℕ) → (e ≡ edge → ⊥) → list_at new.recorded e ≡ list_at old.recorded e
+
 -- what the edge has recorded is among those
 abbrev pub MayBeJoined : Graph → List Record → List DepsRecord → ℕ → Type 0
 MayBeJoined graph rs ds e = (p : List ℕ) → has (recorded_by graph (suc e)) p ≡ true → has (recorded_inputs (record { records = rs; deps = ds }) (declared_by graph).edges (suc e)) p ≡ true
+
+-- these are edges of the graph
+abbrev pub AreEdgesIn : Graph → List ℕ → Type 0
+AreEdgesIn graph edges = (e : ℕ) → has_number edges e ≡ true → e < length graph.manifest.lines
 
 -- so it is of each of these edges
 abbrev pub AreToJoin : List ℕ → Graph → List Record → List DepsRecord → Type 0
@@ -119,6 +131,18 @@ pub record HasJoined (old new : Graph) (rs : List Record) (ds : List DepsRecord)
 abbrev pub IsUnrecorded : Graph → Type 0
 IsUnrecorded graph = (i : ℕ) → recorded_by graph i ≡ []
 
+-- some records are known of the graph
+abbrev pub KnowsSome : Graph → Records → Type 0
+KnowsSome graph records = (rs : List Record) × (ds : List DepsRecord) × AreKnown graph rs ds records
+
+-- whether the recorded inputs of the edge are in use, by whatever records are known
+abbrev pub TellsUse : Graph → Records → ℕ → Bool → Type 0
+TellsUse graph records edge used = (rs : List Record) (ds : List DepsRecord) → AreKnown graph rs ds records → used ≡ is_in_use rs ds (edge_in graph edge)
+
+-- each path of the deps log has the number here that it had
+abbrev pub NumbersStay : List (Option ℕ) → List (Option ℕ) → Type 0
+NumbersStay old new = (k : ℕ) → get_or new k None ≡ get_or old k None
+
 -- ---- what the functions of this crate leave
 
 -- the records are known of the graph, and no edge of it has a recorded input: then those that are in use join it
@@ -130,32 +154,40 @@ abbrev pub JoinsEdge : Graph → Graph → Records → ℕ → Type 0
 JoinsEdge old new records edge = (rs : List Record) (ds : List DepsRecord) → AreKnown old rs ds records → MayBeJoined old rs ds edge → IsJoined new rs ds edge
 
 -- paths of the deps log keep the numbers that they have
-abbrev pub StayNumbered : Graph → Graph → Records → List (Option ℕ) → List (Option ℕ) → Type 0
-StayNumbered old new records was now = AreNumbered old (texts_of records) was → AreNumbered new (texts_of records) now
+abbrev pub StayNumbered : Graph → Graph → Records → Numbers → Numbers → Type 0
+StayNumbered old new records was now = AreNumbered old (texts_of records) was.known.items → AreNumbered new (texts_of records) now.known.items
 
 -- these paths come behind just those that the numbers had
-abbrev pub AddsJust : Graph → Graph → Records → List (Option ℕ) → List ℕ → List ℕ → List (List ℕ) → Type 0
-AddsJust old new records numbers before after added = (paths : List (List ℕ)) → AreNumbered old (texts_of records) numbers → HaveJust old before paths → HaveJust new after (paths ++ added)
+abbrev pub AddsJust : Graph → Graph → Records → Numbers → List ℕ → List ℕ → List (List ℕ) → Type 0
+AddsJust old new records numbers before after added = (paths : List (List ℕ)) → AreNumbered old (texts_of records) numbers.known.items → HaveJust old before paths → HaveJust new after (paths ++ added)
+
+-- those that a deps record names do
+abbrev pub AddsLogged : Graph → Graph → Records → Numbers → List ℕ → List ℕ → Deps → Type 0
+AddsLogged old new records numbers before after deps = AddsJust old new records numbers before after (logged_at (texts_of records) deps.paths)
+
+-- the path of the deps log does that has this number there, if one has
+abbrev pub AddsText : Graph → Graph → Records → Numbers → List ℕ → List ℕ → ℕ → Type 0
+AddsText old new records numbers before after path = AddsJust old new records numbers before after (if_some (slice_get (texts_of records) path))
 
 -- what the records in force of the outputs name, up to one output more
-abbrev pub AddsNamed : Graph → Graph → Records → List (Option ℕ) → List ℕ → List ℕ → List ℕ → ℕ → Type 0
-AddsNamed old new records numbers before after outputs place =
-    (paths : List (List ℕ)) (rs : List Record) (ds : List DepsRecord) → AreKnownOf paths outputs rs ds records → AreNumbered old (texts_of records) numbers
-    → HaveJust old before (named_by paths ds outputs place) → HaveJust new after (named_by paths ds outputs (place + 1))
+abbrev pub AddsNamed : Graph → Graph → Records → Numbers → List ℕ → List ℕ → ℕ → ℕ → Type 0
+AddsNamed old new records numbers before after edge place =
+    (paths : List (List ℕ)) (rs : List Record) (ds : List DepsRecord) → AreKnownOf paths ((links_of old).outputs edge) rs ds records → AreNumbered old (texts_of records) numbers.known.items
+    → HaveJust old before (named_by paths ds ((links_of old).outputs edge) place) → HaveJust new after (named_by paths ds ((links_of old).outputs edge) (place + 1))
 
 -- all that they name
-abbrev pub PutsNamed : Graph → Graph → Records → List (Option ℕ) → List ℕ → List (List ℕ) → Type 0
-PutsNamed old new records numbers inputs outputs =
-    (rs : List Record) (ds : List DepsRecord) → AreKnown old rs ds records → AreNumbered old (texts_of records) numbers → HaveJust new inputs (all_paths_in ds outputs)
+abbrev pub PutsNamed : Graph → Graph → Records → Numbers → List ℕ → ℕ → Type 0
+PutsNamed old new records numbers inputs edge =
+    (rs : List Record) (ds : List DepsRecord) → AreKnown old rs ds records → AreNumbered old (texts_of records) numbers.known.items → HaveJust new inputs (all_paths_in ds (outputs (edge_in old edge)))
 
 -- of whatever texts of the deps log, of which this path has this text, paths keep the numbers that they have,
-abbrev pub StayNumberedBy : Graph → Graph → ℕ → List ℕ → List (Option ℕ) → List (Option ℕ) → Type 0
-StayNumberedBy old new path text was now = (texts : List (List ℕ)) → slice_get texts path ≡ Some text → AreNumbered old texts was → AreNumbered new texts now
+abbrev pub StayNumberedBy : Graph → Graph → ℕ → List ℕ → Numbers → Numbers → Type 0
+StayNumberedBy old new path text was now = (texts : List (List ℕ)) → slice_get texts path ≡ Some text → AreNumbered old texts was.known.items → AreNumbered new texts now.known.items
 
 -- and this is the number of the path
-abbrev pub IsNumberBy : Graph → Graph → ℕ → List ℕ → List (Option ℕ) → ℕ → Type 0
+abbrev pub IsNumberBy : Graph → Graph → ℕ → List ℕ → Numbers → ℕ → Type 0
 IsNumberBy old new path text was number =
-    (texts : List (List ℕ)) → slice_get texts path ≡ Some text → AreNumbered old texts was → (number < length new.manifest.paths) × (text_at new.manifest.paths number ≡ text)
+    (texts : List (List ℕ)) → slice_get texts path ≡ Some text → AreNumbered old texts was.known.items → (number < length new.manifest.paths) × (text_at new.manifest.paths number ≡ text)
 
 -- ---- what is known of outputs
 

@@ -1,6 +1,6 @@
 -- What becomes of the files of commands that ended well: the response file is removed, and the depfile where `deps = gcc` asks for
 -- that (manual: "deps"); without `deps` it stays.
-use Rattle.std.specs.Prelude.{◌≡◌, ◌≢◌, ℕ, Bool, true, IsTrue, List, [], ◌∷◌, ◌++◌, Option, Some, None}
+use Rattle.std.specs.Prelude.{◌≡◌, ◌≢◌, ℕ, Bool, true, IsTrue, List, [], ◌∷◌, ◌++◌, Option, Some, None, Result, OnOk}
 use Rattle.model.specs.declared.act.Act.{Act}
 use Rattle.model.specs.declared.event.Moment.{Moment}
 use Rattle.model.specs.declared.event.Moment.TheVariants.{Wrote}
@@ -8,12 +8,13 @@ use Rattle.model.specs.declared.event.Writer.TheVariants.{Program}
 use Rattle.model.specs.declared.graph.Deps.TheVariants.{Unset, Gcc}
 use Rattle.model.specs.declared.graph.Edge.{Edge}
 use Rattle.model.specs.World.{World, IsRunning, view_of}
-use Rattle.model.specs.Calls.{AllByOthers}
+use Rattle.model.specs.Calls.{AllByOthers, Writes}
 use Rattle.model.specs.Graph.{has_number, edge_at}
 use Rattle.model.specs.Records.{OwnFiles}
 use Rattle.model.specs.Schedule.{Step as Done, well_in}
 use Rattle.model.specs.Premises.{EndedAt}
 use Rattle.theory.specs.Ledger.{HoldsStill}
+use Rattle.paths.specs.declared.manifest.Command.{Command}
 
 -- The program removed the file, and since then it wrote nothing, and nothing was started or ended.
 pub record IsRemovedLast (path : List ℕ) (running : ℕ → Type 0) (old new : List Moment) : Type 0 where
@@ -52,3 +53,17 @@ pub record AreRemoved (tells : Bool) (own : OwnFiles) (edges : List Edge) (steps
   pub responses : AreResponsesRemoved tells own edges steps hand old now
   pub depfiles : AreDepfilesRemoved tells own edges steps hand old now
   pub stay : DepfilesStay tells own edges steps old now
+
+-- ---- what is written and removed round a command
+
+-- a file that is named is removed where the call is well
+abbrev pub RemovesIfNamed : {S T E : Type 0} → Bool → (S → World) → S → S → List ℕ → Result T E → Type 0
+RemovesIfNamed tells world old new path result = OnOk result (path ≢ [] → Writes tells path None (world old) (world new))
+
+-- so is the depfile of a command with `deps = gcc`
+abbrev pub RemovesRead : {S T E : Type 0} → Bool → (S → World) → S → S → Command → Result T E → Type 0
+RemovesRead tells world old new command result = OnOk result (command.deps ≡ Gcc → command.act.depfile ≢ [] → Writes tells command.act.depfile None (world old) (world new))
+
+-- and a response file that is named is written, with what the act says
+abbrev pub WritesResponse : {S T E : Type 0} → Bool → (S → World) → S → S → Act → Result T E → Type 0
+WritesResponse tells world old new act result = OnOk result (act.response_path ≢ [] → Writes tells act.response_path (Some act.response_content) (world old) (world new))

@@ -1,5 +1,6 @@
 -- Outputs of commands with `restat` (manual: "Rule variables"): which of them count as changed.
-use Rattle.std.specs.Prelude.{◌≡◌, ◌<◌, ◌==◌, not, ℕ, Bool, true, false, List, length, slice_index, slice_index_or}
+use Rattle.std.specs.Prelude.{◌≡◌, ◌<◌, ◌==◌, not, ℕ, Bool, true, false, List, length, slice_index, slice_index_or, Result, OnOk, Vec}
+use Rattle.std.specs.declared.alloc.Global.{Global}
 use Rattle.plan.specs.Flags as flags
 use Rattle.model.specs.World.{World}
 use Rattle.model.specs.Graph.{has_number}
@@ -10,7 +11,7 @@ use Rattle.judge.specs.declared.looks.Look.TheVariants.{Unasked, Absent, Stamp}
 use Rattle.judge.specs.declared.looks.Looks.{Looks}
 use Rattle.judge.specs.Looking.{HasLooked}
 use Rattle.judge.specs.Seen.{look_at, is_asked}
-use Rattle.work.specs.declared.state.State.{State}
+use Rattle.work.specs.declared.state.Work.{Work}
 use Rattle.work.specs.EdgeIn.{edge_in}
 
 -- both show a file, of one stamp
@@ -40,13 +41,13 @@ abbrev pub AreAskedBefore : Graph → ℕ → Looks → Type 0
 AreAskedBefore graph e looks = (edge_in graph e).restat ≡ true → (p : ℕ) → has_number ((links_of graph).outputs e) p ≡ true → is_asked (look_at looks.seen.items p) ≡ true
 
 -- of each output of the edge the flag says whether what is seen of it differs from what was,
-abbrev pub FlagsDiffer : Graph → ℕ → State → State → Type 0
-FlagsDiffer graph e before after =
-    (p : ℕ) → has_number ((links_of graph).outputs e) p ≡ true → flags.has after.plan.changed.items p ≡ not (is_same_look (look_at before.looks.seen.items p) (look_at after.looks.seen.items p))
+abbrev pub FlagsDiffer : ℕ → Work → Work → Type 0
+FlagsDiffer e before after =
+    (p : ℕ) → has_number ((links_of before.graph).outputs e) p ≡ true → flags.has after.plan.changed.items p ≡ not (is_same_look (look_at before.looks.seen.items p) (look_at after.looks.seen.items p))
 
 -- and of other paths it is as it was
-abbrev pub FlagsStay : Graph → ℕ → State → State → Type 0
-FlagsStay graph e before after = (p : ℕ) → has_number ((links_of graph).outputs e) p ≡ false → flags.has after.plan.changed.items p ≡ flags.has before.plan.changed.items p
+abbrev pub FlagsStay : ℕ → Work → Work → Type 0
+FlagsStay e before after = (p : ℕ) → has_number ((links_of before.graph).outputs e) p ≡ false → flags.has after.plan.changed.items p ≡ flags.has before.plan.changed.items p
 
 -- Whether the flag of an output is right, by what was seen of it before and is now: where these are compared it tells whether the stamp
 -- differs, else it is set.
@@ -66,3 +67,11 @@ pub record LooksAnew (tells : Bool) (graph : Graph) (e : ℕ) (old new : World) 
   pub forgets : IsForgotten graph e before between
   pub looked : HasLooked tells graph old new between after
   pub asked : (p : ℕ) → has_number ((links_of graph).outputs e) p ≡ true → is_asked (look_at after.seen.items p) ≡ true
+
+-- so it does in a call that is well
+abbrev pub SeesAnew : {S T E : Type 0} → Bool → (S → World) → S → S → Graph → ℕ → Looks → Looks → Result T E → Type 0
+SeesAnew tells world old new graph e before after result = OnOk result (LooksAnew tells graph e (world old) (world new) before after)
+
+-- for each output of the edge the flag says whether what is seen of it differs from what was
+abbrev pub TellsChanges : Graph → ℕ → Looks → Looks → Vec Bool Global → Type 0
+TellsChanges graph e before after given = AreChangesOf before.seen.items after.seen.items ((links_of graph).outputs e) given.items

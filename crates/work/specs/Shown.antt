@@ -1,6 +1,8 @@
 -- What is shown of a command when it starts and when it ends, and what is held back meanwhile (manual, "The `console` pool" and
 -- "Environment variables": NINJA_STATUS; the rest is this project's own).
-use Rattle.std.specs.Prelude.{◌≡◌, ℕ, suc, ◌+◌, ◌-◌, ◌^◌, ◌==◌, ◌&&◌, min, max, Bool, true, false, if◌then◌else◌, List, [], ◌++◌, length, Option, Some, None, bytes_eq, is_some}
+use Rattle.std.specs.Prelude.{◌≡◌, ℕ, suc, ◌+◌, ◌-◌, ◌^◌, ◌==◌, ◌&&◌, min, max, Bool, true, false, if◌then◌else◌, List, [], ◌++◌, length, Option, Some, None, bytes_eq, is_some, map, Vec, Result, OnOk, IfOk, IsOk}
+use Rattle.std.specs.Borrow.{Bor}
+use Rattle.std.specs.declared.alloc.Global.{Global}
 use Rattle.model.specs.declared.graph.Edge.{Edge}
 use Rattle.model.specs.Graph.{console, outputs}
 use Rattle.status.specs.declared.counts.Counts.{Counts}
@@ -9,6 +11,10 @@ use Rattle.status.specs.Line.{line_text, said_of}
 use Rattle.status.specs.Ending.{DepfileFault, Failure, ending_text}
 use Rattle.status.specs.Screen.{held}
 use Rattle.work.specs.declared.display.Progress.{Progress}
+use Rattle.model.specs.World.{World}
+use Rattle.model.specs.declared.event.Finished.{Finished}
+use Rattle.graph.specs.declared.graph.Graph.{Graph}
+use Rattle.work.specs.EdgeIn.{edge_in}
 
 -- the command has the terminal to itself
 abbrev pub is_console : Edge → Bool
@@ -40,14 +46,35 @@ pub record AreCounts (progress : Progress) (unstarted : ℕ) (counts : Counts) :
 
 -- ---- texts
 
+-- what a line says of the command of an edge
+abbrev pub said_by : Bool → Edge → List ℕ
+said_by verbose edge = said_of verbose edge.description edge.act.command
+
 -- the line of a command, with its newline
 abbrev pub command_line : List Part → Bool → Counts → Edge → List ℕ
-command_line pattern verbose counts edge = line_text pattern counts (said_of verbose edge.description edge.act.command)
+command_line pattern verbose counts edge = line_text pattern counts (said_by verbose edge)
 
 -- why it failed, where it did, and what is wrong with its depfile, where that is why
 abbrev pub failure_of : Edge → Bool → Option DepfileFault → Option Failure
 failure_of edge true depfile = None
 failure_of edge false depfile = Some (record { outputs = outputs edge; command = edge.act.command; depfile = depfile })
+
+-- what is told of what a command printed: of one with the terminal, nothing
+abbrev pub printed_by : Edge → List ℕ → List ℕ
+printed_by edge printed = if is_console edge then [] else printed
+
+-- why it failed, where it did, and what is told of what it printed
+abbrev pub ending_of : Edge → Bool → Option DepfileFault → List ℕ → List ℕ
+ending_of edge ok depfile printed = ending_text (record { failure = failure_of edge ok depfile; output = printed_by edge printed })
+
+-- that is put behind a text,
+abbrev pub PutsEnd : Graph → ℕ → Finished → Option DepfileFault → Vec ℕ Global → Vec ℕ Global → Type 0
+PutsEnd graph e finished depfile old new = new.items ≡ old.items ++ ending_of (edge_in graph e) finished.ok depfile finished.output
+
+-- and so it is that a command failed which has these outputs
+abbrev pub PutsFailure : List (Bor (List ℕ)) → List ℕ → Option DepfileFault → List ℕ → Vec ℕ Global → Vec ℕ Global → Type 0
+PutsFailure outputs command depfile printed old new =
+    new.items ≡ old.items ++ ending_text (record { failure = Some (record { outputs = map (λ output. output.now) outputs; command = command; depfile = depfile }); output = printed })
 
 -- what is shown of a command that has ended and printed this: of one with the terminal no line, and nothing that it printed
 abbrev pub end_text : List Part → Bool → Counts → Edge → Bool → Option DepfileFault → List ℕ → List ℕ
@@ -65,6 +92,18 @@ pub record Showing : Type 0 where
   pub held : Option (List ℕ)
   -- how many commands are still to be started
   pub unstarted : ℕ
+
+-- nothing was shown yet
+abbrev pub nothing_shown : List Part → Bool → ℕ → Showing
+nothing_shown pattern verbose unstarted = record { pattern = pattern; verbose = verbose; held = None; unstarted = unstarted }
+
+-- the line of a command under the pattern of a display
+abbrev pub shown_line : Showing → Counts → Edge → List ℕ
+shown_line showing counts edge = command_line showing.pattern showing.verbose counts edge
+
+-- this is what is shown of a command that has ended so
+abbrev pub IsTextOfEnd : Showing → Counts → Graph → ℕ → Finished → Option DepfileFault → Vec ℕ Global → Type 0
+IsTextOfEnd showing counts graph e finished depfile text = text.items ≡ end_text showing.pattern showing.verbose counts (edge_in graph e) finished.ok depfile finished.output
 
 abbrev pub with_unstarted : Showing → ℕ → Showing
 with_unstarted old unstarted = record { pattern = old.pattern; verbose = old.verbose; held = old.held; unstarted = unstarted }
@@ -92,6 +131,14 @@ pub record TakesTerminal (progress : Progress) (edge : Edge) (old new : Showing)
   pub are : AreCounts (with_one_more progress) (old.unstarted - 1) counts
   pub after : new ≡ with_held (counted_off old) (Some (held (behind old.held (command_line old.pattern old.verbose counts edge))))
 
+-- so it is of a command that gets it,
+abbrev pub StartsAtTerminal : {T E : Type 0} → Graph → ℕ → Progress → Showing → Showing → Result T E → Type 0
+StartsAtTerminal graph e progress old new result = is_console (edge_in graph e) ≡ true → OnOk result (TakesTerminal progress (edge_in graph e) old new)
+
+-- and of another one nothing is shown, and the call is well
+abbrev pub StartsUnshown : {S T E : Type 0} → (S → World) → S → S → Graph → ℕ → Showing → Showing → Result T E → Type 0
+StartsUnshown world was now graph e old new result = is_console (edge_in graph e) ≡ false → IsOk result × (new ≡ counted_off old) × (world now ≡ world was)
+
 -- nothing is held back any more
 abbrev pub released : Showing → Showing
 released old = with_held old None
@@ -114,3 +161,11 @@ pub record Ends (progress : Progress) (edge : Edge) (ok : Bool) (depfile : Optio
 -- Nothing is shown when a command ends: it is held back; of one with the terminal, that it ended well and nothing was held back.
 abbrev pub ends_silently : Edge → Bool → Option (List ℕ) → Bool
 ends_silently edge ok texts = if is_console edge then ok && (length (held texts) == 0) else is_some texts
+
+-- the command of the edge has ended so, and this is what to show now,
+abbrev pub ShowsEnd : {E : Type 0} → Progress → Graph → ℕ → Finished → Option DepfileFault → Showing → Showing → Result (Vec ℕ Global) E → Type 0
+ShowsEnd progress graph e finished depfile old new result = IfOk result (λ shown. Ends progress (edge_in graph e) finished.ok depfile finished.output old new shown.items)
+
+-- which is nothing where nothing is shown
+abbrev pub EndsInSilence : Graph → ℕ → Finished → Showing → Vec ℕ Global → Type 0
+EndsInSilence graph e finished old shown = ends_silently (edge_in graph e) finished.ok old.held ≡ true → shown.items ≡ []

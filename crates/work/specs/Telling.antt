@@ -1,5 +1,5 @@
 -- What a command told in its depfile, from its end until that is recorded.
-use Rattle.std.specs.Prelude.{◌≡◌, ◌≢◌, ℕ, suc, ◌&&◌, not, Bool, true, IsTrue, List, [], ◌∷◌, ◌++◌, Option, Some, None, Ok, Err, is_some}
+use Rattle.std.specs.Prelude.{◌≡◌, ◌≢◌, ℕ, suc, ◌&&◌, not, Bool, true, IsTrue, List, [], ◌∷◌, ◌++◌, Option, Some, None, Ok, Err, is_some, Result, OnOk, OnErr}
 use Rattle.model.specs.declared.act.Act.{Act}
 use Rattle.model.specs.declared.event.Event.TheVariants.{Finish}
 use Rattle.model.specs.declared.event.Moment.{Moment}
@@ -21,7 +21,8 @@ use Rattle.work.specs.Going.{MayTakeIn, IsCut}
 use Rattle.work.specs.Removing.{EndsByRemoving}
 use Rattle.work.specs.declared.reported.Told.{Told}
 use Rattle.work.specs.declared.reported.Told.TheVariants.{Nothing, Inputs, Refused}
-use Rattle.work.specs.declared.state.State.{State}
+use Rattle.work.specs.declared.state.Work.{Work}
+use Rattle.work.specs.EdgeIn.{edge_in}
 
 -- ---- what is read
 
@@ -56,7 +57,7 @@ ended_well ok told = ok && not (is_some (fault_in told))
 
 -- The run stood before a wait; then the command of edge i ended so, and was taken in; since then the program only looked, and found
 -- what its depfile says.
-pub record IsEnding (tells : Bool) (course : Course) (graph : Graph) (i : ℕ) (ok : Bool) (told : Told) (state : State) (now : World) : Type 0 where
+pub record IsEnding (tells : Bool) (course : Course) (graph : Graph) (i : ℕ) (ok : Bool) (told : Told) (state : Work) (now : World) : Type 0 where
   pub before : World
   pub mid : World
   pub on : IsOn tells course graph None state before
@@ -66,18 +67,18 @@ pub record IsEnding (tells : Bool) (course : Course) (graph : Graph) (i : ℕ) (
   pub read : WasRead tells (edge_at (edges_of course) i).act ok mid now told
 
 -- so it is of some course, of the edge at this place
-abbrev pub IsEndingOf : Bool → Graph → ℕ → Bool → Told → State → World → Type 0
-IsEndingOf tells graph edge ok told state now = (course : Course) × Suits course graph × IsEnding tells course graph (suc edge) ok told state now
+abbrev pub IsEndingOf : {S : Type 0} → Bool → (S → World) → S → Graph → ℕ → Bool → Told → Work → Type 0
+IsEndingOf tells world now graph edge ok told state = (course : Course) × Suits course graph × IsEnding tells course graph (suc edge) ok told state (world now)
 
 -- of each such course the run goes on,
-abbrev pub EndsOn : Bool → Graph → ℕ → Bool → Told → World → World → State → State → Type 0
-EndsOn tells graph edge ok told old new before after =
-    (course : Course) → Suits course graph → IsEnding tells course graph (suc edge) ok told before old → IsOn tells course graph None after new
+abbrev pub EndsOn : {S T E : Type 0} → Bool → (S → World) → S → S → ℕ → Bool → Told → Work → Work → Result T E → Type 0
+EndsOn tells world old new edge ok told before after result =
+    OnOk result ((course : Course) → Suits course before.graph → IsEnding tells course before.graph (suc edge) ok told before (world old) → IsOn tells course before.graph None after (world new))
 
 -- or a fault has cut it off
-abbrev pub CutsEnd : Bool → Graph → ℕ → Bool → Told → World → World → State → State → Type 0
-CutsEnd tells graph edge ok told old new before after =
-    (course : Course) → Suits course graph → IsEnding tells course graph (suc edge) ok told before old → IsCut tells course graph after.plan new
+abbrev pub CutsEnd : {S T E : Type 0} → Bool → (S → World) → S → S → ℕ → Bool → Told → Work → Work → Result T E → Type 0
+CutsEnd tells world old new edge ok told before after result =
+    OnErr result ((course : Course) → Suits course before.graph → IsEnding tells course before.graph (suc edge) ok told before (world old) → IsCut tells course before.graph after.plan (world new))
 
 -- ---- what is to be recorded
 
@@ -99,7 +100,15 @@ pub record WentWell (tells : Bool) (course : Course) (steps : List Done) (i stam
   pub none : NoneInForce tells course.format course.own (edges_of course) i course.entry now
   pub told : HasTold tells course i said now
 
+-- where the command of the edge ended well, its response file is removed last,
+abbrev pub RemovesIfWell : {S T E : Type 0} → Bool → (S → World) → S → S → Graph → ℕ → Bool → Result T E → Type 0
+RemovesIfWell tells world old new graph edge ok result = OnOk result (ok ≡ true → EndsByRemoving tells (edge_in graph edge).act (world old) (world new))
+
+-- also where its depfile says whether it did
+abbrev pub RemovesIfTold : {S T E : Type 0} → Bool → (S → World) → S → S → Graph → ℕ → Bool → Told → Result T E → Type 0
+RemovesIfTold tells world old new graph edge ok told result = RemovesIfWell tells world old new graph edge (ended_well ok told) result
+
 -- the command that ended well, and was not noted as failed, has had its response file removed last
-abbrev pub RemovesWhatEnded : Bool → Graph → World → World → State → State → Type 0
-RemovesWhatEnded tells graph old new before after =
-    (i : ℕ) → new.events ≡ old.events ++ Finish i true ∷ [] → after.failed ≡ before.failed → EndsByRemoving tells (edge_at (declared_by graph).edges i).act old new
+abbrev pub RemovesWhatEnded : {S T E : Type 0} → Bool → (S → World) → S → S → Work → Work → Result T E → Type 0
+RemovesWhatEnded tells world old new before after result =
+    OnOk result ((i : ℕ) → (world new).events ≡ (world old).events ++ Finish i true ∷ [] → after.failed ≡ before.failed → EndsByRemoving tells (edge_at (declared_by before.graph).edges i).act (world old) (world new))

@@ -1,12 +1,12 @@
 //! What is shown at the start and at the end of commands.
 
-ghost use Rattle.std.specs.Prelude.{◌≡◌, ◌⊎◌, ◌<◌, ◌++◌, true, false, [], length, List, ℕ, None, IfOk, OnOk, OnErr, IsOk};
+ghost use Rattle.std.specs.Prelude.{◌≡◌, ◌⊎◌, ◌<◌, ◌++◌, true, false, [], length, IfOk, OnOk, OnErr, IsOk};
 ghost use Rattle.model.specs.Calls.{OnlyLooks, HasCause};
 ghost use Rattle.status.specs.Screen.{held};
 ghost use Rattle.work.specs.EdgeIn.{edge_in};
-ghost use Rattle.work.specs.Shown.{is_console, unstarted_after, with_one_more, AreCounts, command_line, end_text, with_unstarted, with_held, shown_now, behind, counted_off, TakesTerminal, released, Ends, ends_silently};
+ghost use Rattle.work.specs.Shown.{unstarted_after, with_one_more, AreCounts, end_text, with_unstarted, with_held, shown_now, behind, counted_off, released, nothing_shown, StartsUnshown, StartsAtTerminal, ShowsEnd, EndsInSilence, shown_line, IsTextOfEnd};
 
-use crate::endings::{push_end, said};
+use crate::endings::said;
 use crate::terminal::has_terminal;
 use graph::Graph;
 use model::{Finished, SiteFault};
@@ -80,7 +80,7 @@ impl<'a> Model for Display<'a> {
 impl<'a> Display<'a> {
     /// A display on which nothing was shown. `unstarted` commands are due before anything runs.
     pub fn new(alloc: Global, pattern: &'a Pattern, verbose: bool, unstarted: usize) -> Display<'a>
-        ensures { result ≡ record { pattern = pattern.now; verbose = verbose; held = None; unstarted = unstarted } }
+        ensures { result ≡ nothing_shown pattern.now verbose unstarted }
     {
         Display {
             alloc,
@@ -130,8 +130,8 @@ impl<'a> Display<'a> {
         requires within { edge < length graph.now.manifest.lines }
         ensures looks { OnlyLooks S.tells (S.world site.old) (S.world site.new) }
         ensures cause { HasCause (S.world site.old) (S.world site.new) result }
-        ensures others { is_console (edge_in graph.now edge) ≡ false → IsOk result × (self.new ≡ counted_off self.old) × (S.world site.new ≡ S.world site.old) }
-        ensures console { is_console (edge_in graph.now edge) ≡ true → OnOk result (TakesTerminal progress (edge_in graph.now edge) self.old self.new) }
+        ensures others { StartsUnshown S.world site.old site.new graph.now edge self.old self.new result }
+        ensures console { StartsAtTerminal graph.now edge progress self.old self.new result }
         ensures err { OnErr result (self.new ≡ counted_off self.old) }
     {
         self.unstarted = self.unstarted.saturating_sub(1);
@@ -146,35 +146,13 @@ impl<'a> Display<'a> {
         Ok(())
     }
 
-    /// Shows a command that has ended: its line, why it failed where it did, and what it printed; or holds that back, while
-    /// another has the terminal. `progress` counts it as ended. Of one that had the terminal it shows what was held back for it
-    /// and then why it failed, where it did. `depfile` says what is wrong with its depfile, where that is why it counts as
-    /// failed.
+    /// Takes in a command that has ended, and gives what to show now, by [`show_all`]: its line, why it failed where it did, and what
+    /// it printed; or holds that back, while another has the terminal, and gives nothing. `progress` counts it as ended. Of one that
+    /// had the terminal it gives what was held back for it and then why it failed, where it did. `depfile` says what is wrong with its
+    /// depfile, where that is why it counts as failed.
     ///
     /// Where it fails, all is as it was, or what was held back is gone and nothing is held back any more.
-    pub fn end<S: Site>(
-        &mut self,
-        site: &mut S,
-        graph: &Graph,
-        edge: EdgeId,
-        finished: &Finished,
-        depfile: Option<DepfileFault<'_>>,
-        progress: Progress,
-    ) -> Result<(), SiteFault>
-        requires running { (S.world site.old).stopped ≡ false }
-        requires within { edge < length graph.now.manifest.lines }
-        ensures looks { OnlyLooks S.tells (S.world site.old) (S.world site.new) }
-        ensures cause { HasCause (S.world site.old) (S.world site.new) result }
-        ensures ok { OnOk result ((shown : List ℕ) × Ends progress (edge_in graph.now edge) finished.now.ok depfile.entry finished.now.output self.old self.new shown) }
-        ensures silent { ends_silently (edge_in graph.now edge) finished.now.ok self.old.held ≡ true → (S.world site.new ≡ S.world site.old) }
-        ensures err { OnErr result ((self.new ≡ self.old) ⊎ (self.new ≡ released self.old)) }
-    {
-        let shown = self.ended(graph, edge, finished, depfile, progress)?;
-        show_all(site, shown.as_slice())
-    }
-
-    /// Takes in a command that has ended, and gives what to show now.
-    fn ended(
+    pub fn ended(
         &mut self,
         graph: &Graph,
         edge: EdgeId,
@@ -183,7 +161,8 @@ impl<'a> Display<'a> {
         progress: Progress,
     ) -> Result<Vec<u8>, AllocError>
         requires { edge < length graph.now.manifest.lines }
-        ensures ok { IfOk result (λ shown. Ends progress (edge_in graph.now edge) finished.now.ok depfile.entry finished.now.output self.old self.new shown.items) }
+        ensures ok { ShowsEnd progress graph.now edge finished.now depfile.entry self.old self.new result }
+        ensures silent { IfOk result (λ shown. EndsInSilence graph.now edge finished.now self.old shown) }
         ensures err { OnErr result ((self.new ≡ self.old) ⊎ (self.new ≡ released self.old)) }
     {
         let counts = progress.counts(self.unstarted);
@@ -198,7 +177,7 @@ impl<'a> Display<'a> {
     /// The line of a command, with its newline.
     fn line(&self, graph: &Graph, edge: EdgeId, counts: &Counts) -> Result<Vec<u8>, AllocError>
         requires { edge < length graph.now.manifest.lines }
-        ensures { IfOk result (λ line. line.items ≡ command_line self.now.pattern self.now.verbose counts.now (edge_in graph.now edge)) }
+        ensures { IfOk result (λ line. line.items ≡ shown_line self.now counts.now (edge_in graph.now edge)) }
     {
         line(
             self.alloc,
@@ -218,31 +197,15 @@ impl<'a> Display<'a> {
         counts: &Counts,
     ) -> Result<Vec<u8>, AllocError>
         requires { edge < length graph.now.manifest.lines }
-        ensures { IfOk result (λ text. text.items ≡ end_text self.now.pattern self.now.verbose counts.now (edge_in graph.now edge) finished.now.ok depfile.entry finished.now.output) }
+        ensures { IfOk result (λ text. IsTextOfEnd self.now counts.now graph.now edge finished.now depfile.entry text) }
     {
         if has_terminal(graph, edge) {
             let mut text = Vec::new(self.alloc);
-            push_end(
-                self.alloc,
-                &mut text,
-                graph,
-                edge,
-                finished.ok,
-                depfile,
-                b"",
-            )?;
+            self.push_end(&mut text, graph, edge, finished, depfile)?;
             return Ok(text);
         }
         let mut text = self.line(graph, edge, counts)?;
-        push_end(
-            self.alloc,
-            &mut text,
-            graph,
-            edge,
-            finished.ok,
-            depfile,
-            finished.output.as_slice(),
-        )?;
+        self.push_end(&mut text, graph, edge, finished, depfile)?;
         Ok(text)
     }
 
@@ -275,7 +238,7 @@ impl<'a> Display<'a> {
 }
 
 /// Shows the text, by one call of the site, and by none where it is empty.
-fn show_all<S: Site>(site: &mut S, text: &[u8]) -> Result<(), SiteFault>
+pub fn show_all<S: Site>(site: &mut S, text: &[u8]) -> Result<(), SiteFault>
     requires running { (S.world site.old).stopped ≡ false }
     ensures looks { OnlyLooks S.tells (S.world site.old) (S.world site.new) }
     ensures cause { HasCause (S.world site.old) (S.world site.new) result }

@@ -1,13 +1,15 @@
 //! The texts of a command, from its edge.
 
-ghost use Rattle.std.specs.Prelude.{◌≡◌, ◌<◌, ◌++◌, length, map, Some, None, IfOk, OnOk};
+ghost use Rattle.std.specs.Prelude.{◌≡◌, ◌<◌, length, map, Some, None, IfOk, OnOk};
 ghost use Rattle.model.specs.Graph.{outputs};
 ghost use Rattle.status.specs.Line.{said_of};
-ghost use Rattle.status.specs.Ending.{ending_text};
 ghost use Rattle.work.specs.EdgeIn.{edge_in};
-ghost use Rattle.work.specs.Shown.{failure_of};
+ghost use Rattle.work.specs.Shown.{printed_by, said_by, PutsEnd, PutsFailure};
 
+use crate::display::Display;
+use crate::terminal::has_terminal;
 use graph::Graph;
+use model::Finished;
 use paths::{Action, EdgeId};
 use status::{DepfileFault, Ending, Failure, push_ending};
 use std::alloc::{AllocError, Global};
@@ -15,7 +17,7 @@ use std::alloc::{AllocError, Global};
 /// What a line says of the command of an edge.
 pub fn said<'g>(verbose: bool, graph: &'g Graph, edge: EdgeId) -> &'g str
     requires { edge < length graph.now.manifest.lines }
-    ensures { result.now ≡ said_of verbose (edge_in graph.now edge).description (edge_in graph.now edge).act.command }
+    ensures { result.now ≡ said_by verbose (edge_in graph.now edge) }
 {
     match graph.manifest.action(edge) {
         Action::Alias => "",
@@ -27,35 +29,48 @@ pub fn said<'g>(verbose: bool, graph: &'g Graph, edge: EdgeId) -> &'g str
     }
 }
 
-/// Puts behind a text why the command of an edge failed, where it did, and what it printed. Where memory is refused, a part of
-/// it may stand there.
-pub fn push_end(
-    alloc: Global,
-    text: &mut Vec<u8>,
-    graph: &Graph,
-    edge: EdgeId,
-    ok: bool,
-    depfile: Option<DepfileFault<'_>>,
-    printed: &[u8],
-) -> Result<(), AllocError>
-    requires { edge < length graph.now.manifest.lines }
-    ensures { OnOk result (text.new.items ≡ text.old.items ++ ending_text (record { failure = failure_of (edge_in graph.now edge) ok depfile.entry; output = printed.now })) }
-{
-    if ok {
-        let ending = Ending {
-            failure: None,
-            output: printed,
-        };
-        return push_ending(text, &ending);
+impl Display<'_> {
+    /// Puts behind a text why the command of an edge failed, where it did, and what it printed, unless it had the terminal. Where
+    /// memory is refused, a part of it may stand there.
+    pub(crate) fn push_end(
+        &self,
+        text: &mut Vec<u8>,
+        graph: &Graph,
+        edge: EdgeId,
+        finished: &Finished,
+        depfile: Option<DepfileFault<'_>>,
+    ) -> Result<(), AllocError>
+        requires { edge < length graph.now.manifest.lines }
+        ensures { OnOk result (PutsEnd graph.now edge finished.now depfile.entry text.old text.new) }
+    {
+        let printed = printed(graph, edge, finished);
+        if finished.ok {
+            let ending = Ending {
+                failure: None,
+                output: printed,
+            };
+            return push_ending(text, &ending);
+        }
+        let outputs = outputs(self.alloc(), graph, edge)?;
+        push_failed(
+            text,
+            outputs.as_slice(),
+            command_of(graph, edge),
+            depfile,
+            printed,
+        )
     }
-    let outputs = outputs(alloc, graph, edge)?;
-    push_failed(
-        text,
-        outputs.as_slice(),
-        command_of(graph, edge),
-        depfile,
-        printed,
-    )
+}
+
+/// What is told of what a command printed: all of it, but of one that had the terminal nothing.
+fn printed<'f>(graph: &Graph, edge: EdgeId, finished: &'f Finished) -> &'f [u8]
+    requires { edge < length graph.now.manifest.lines }
+    ensures { result.now ≡ printed_by (edge_in graph.now edge) finished.now.output }
+{
+    if has_terminal(graph, edge) {
+        return b"";
+    }
+    finished.output.as_slice()
 }
 
 /// Puts behind a text that a command failed, and what it printed.
@@ -66,7 +81,7 @@ fn push_failed<'x>(
     depfile: Option<DepfileFault<'x>>,
     printed: &'x [u8],
 ) -> Result<(), AllocError>
-    ensures { OnOk result (text.new.items ≡ text.old.items ++ ending_text (record { failure = Some (record { outputs = map (λ output. output.now) outputs.now; command = command.now; depfile = depfile.entry }); output = printed.now })) }
+    ensures { OnOk result (PutsFailure outputs.now command.now depfile.entry printed.now text.old text.new) }
 {
     let failure = Failure {
         outputs,

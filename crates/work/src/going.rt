@@ -1,27 +1,16 @@
 //! Running a graph, and the dyndep files that are loaded on the way.
 
-ghost use Rattle.std.specs.Prelude.{◌≡◌, ◌<◌, ℕ, Option, None, false, Some, Err, IfOk, IfErr, OnOk, MatchOption};
+ghost use Rattle.std.specs.Prelude.{◌≡◌, ◌<◌, Option, None, false, Some, Err, IfOk, IfErr, OnOk, MatchOption};
 ghost use Rattle.model.specs.World.{World};
 ghost use Rattle.model.specs.SingleBuild.{PassesNoFault};
 ghost use Rattle.theory.specs.Seen.{IsSeen};
-ghost use Rattle.graph.specs.declared.graph.Graph.{Graph as GraphOf};
-ghost use Rattle.graph.specs.Links.{links_of};
-ghost use Rattle.graph.specs.Told.{declared_by};
-ghost use Rattle.plan.specs.declared.step.Step.TheVariants as step;
-ghost use Rattle.plan.specs.Planned.{IsNext};
-ghost use Rattle.work.specs.Course.{Course};
-ghost use Rattle.work.specs.Going.{IsCut};
+ghost use Rattle.work.specs.Going.{IsCutOfSome};
 ghost use Rattle.work.specs.Ran.{AreEdgesOf, IsPauseOf};
-ghost use Rattle.work.specs.Standing.{NoSourceIsDue, GoesWell, IsStopThere, IsStopOf, EndsFrom, DoneFrom, HaltsFrom, PausesFrom, IsBeginning, AsksFrom, HaltsOver, HaltsBehind, IsRefusedOf, EndsHalted, IsLoading, Loads, HaltsAt, IfRefused, IfFault, files_left, stop_answer};
+ghost use Rattle.work.specs.Standing.{NoSourceIsDue, GoesWell, IsStopThere, IsStopOf, EndsFrom, DoneFrom, HaltsFrom, PausesFrom, IsBeginning, AsksFrom, HaltsOver, HaltsBehind, IsRefusedOf, EndsHalted, IsLoading, Loads, HaltsAt, IfRefused, IfFault, stop_answer, IsSourceNext, IsMadePath, IsThatSource, HasFewerFiles, StopsBehind, StopsStill};
 
-use crate::closing::finish;
 use crate::commands::unstarted_commands;
-use crate::judged::judge_clean;
-use crate::loads::load;
 use crate::rest::give_up;
-use crate::run::run_plan;
-use crate::sources::check_sources;
-use crate::state::State;
+use crate::state::Work;
 use crate::stop::Stop;
 use crate::summary::{Pause, Summary};
 use graph::{Graph, lists_stand};
@@ -30,71 +19,66 @@ use plan::{Plan, Step};
 use records::log_stays;
 use site::Site;
 
-/// Runs the plan until nothing is left to do, and loads the dyndep files that become known (manual: "Dynamic Dependencies").
-///
-/// A refused load or a missing source ends the build: what runs is taken in, recorded and shown. After a fault it is taken in alone.
-pub fn run_graph<S: Site>(
-    site: &mut S,
-    graph: &mut Graph,
-    state: &mut State<'_>,
-) -> Result<Summary, Stop>
-    requires running { (S.world site.old).stopped ≡ false }
-    requires begins { IsBeginning S.tells graph.old state.old (S.world site.old) }
-    ensures ended { EndsFrom S.tells graph.old state.old (S.world site.old) graph.new state.new (S.world site.new) result }
-    ensures edges { IfOk result (AreEdgesOf graph.new) }
-    ensures seen { IfErr result (λ stop. IfFault stop (IsSeen (S.world site.old) (S.world site.new))) }
-    ensures faults { PassesNoFault (S.world site.old) (S.world site.new) (stop_answer result) }
-{
-    match run_and_load(site, graph, state) {
-        Ok(summary) => Ok(summary),
-        Err(stop) => Err(finished(site, graph, state, stop)),
-    }
-}
-
-/// The same, but that after a refusal commands may run.
-fn run_and_load<S: Site>(
-    site: &mut S,
-    graph: &mut Graph,
-    state: &mut State<'_>,
-) -> Result<Summary, Stop>
-    requires running { (S.world site.old).stopped ≡ false }
-    requires begins { IsBeginning S.tells graph.old state.old (S.world site.old) }
-    ensures done { IfOk result (DoneFrom S.tells graph.old state.old (S.world site.old) graph.new state.new (S.world site.new)) }
-    ensures edges { IfOk result (AreEdgesOf graph.new) }
-    ensures well { OnOk result (GoesWell (S.world site.old) (S.world site.new)) }
-    ensures stop { IfErr result (IsStopOf (S.world site.old) (S.world site.new)) }
-    ensures halted { IfErr result (HaltsFrom S.tells graph.old state.old (S.world site.old) graph.new state.new (S.world site.new)) }
-{
-    'run: loop {
-        match run_to_load(site, graph, state)? {
-            Pause::Ended(summary) => return Ok(summary),
-            Pause::Load(file) => load_file(site, graph, state, file)?,
+impl Work<'_> {
+    /// Runs the plan until nothing is left to do, and loads the dyndep files that become known (manual: "Dynamic Dependencies").
+    ///
+    /// A refused load or a missing source ends the build: what runs is taken in, recorded and shown. After a fault it is taken in alone.
+    pub fn run_graph<S: Site>(&mut self, site: &mut S) -> Result<Summary, Stop>
+        requires running { (S.world site.old).stopped ≡ false }
+        requires begins { IsBeginning S.tells self.old (S.world site.old) }
+        ensures ended { EndsFrom S.tells S.world site.old site.new self.old self.new result }
+        ensures edges { IfOk result (AreEdgesOf self.new.graph) }
+        ensures seen { IfErr result (λ stop. IfFault stop (IsSeen (S.world site.old) (S.world site.new))) }
+        ensures faults { PassesNoFault (S.world site.old) (S.world site.new) (stop_answer result) }
+    {
+        match self.run_and_load(site) {
+            Ok(summary) => Ok(summary),
+            Err(stop) => Err(self.finished(site, stop)),
         }
     }
-}
 
-/// Asks for sources, and runs the plan until it pauses. Where a file that no edge makes is to be loaded, that is done first.
-fn run_to_load<S: Site>(site: &mut S, graph: &Graph, state: &mut State<'_>) -> Result<Pause, Stop>
-    requires running { (S.world site.old).stopped ≡ false }
-    requires begins { IsBeginning S.tells graph.now state.old (S.world site.old) }
-    ensures pause { IfOk result (IsPauseOf graph.now) }
-    ensures well { OnOk result (GoesWell (S.world site.old) (S.world site.new)) }
-    ensures paused { IfOk result (PausesFrom S.tells graph.now state.old (S.world site.old) state.new (S.world site.new)) }
-    ensures stop { IfErr result (IsStopOf (S.world site.old) (S.world site.new)) }
-    ensures halted { IfErr result (HaltsOver S.tells graph.now state.old (S.world site.old) state.new (S.world site.new)) }
-{
-    match source_to_load(graph, &state.plan) {
-        Some(file) => Ok(Pause::Load(file)),
-        None => {
-            ask_for_sources(site, graph, state)?;
-            Ok(run_plan(site, graph, state)?)
+    /// The same, but that after a refusal commands may run.
+    fn run_and_load<S: Site>(&mut self, site: &mut S) -> Result<Summary, Stop>
+        requires running { (S.world site.old).stopped ≡ false }
+        requires begins { IsBeginning S.tells self.old (S.world site.old) }
+        ensures done { DoneFrom S.tells S.world site.old site.new self.old self.new result }
+        ensures edges { IfOk result (AreEdgesOf self.new.graph) }
+        ensures well { OnOk result (GoesWell (S.world site.old) (S.world site.new)) }
+        ensures stop { IfErr result (IsStopOf (S.world site.old) (S.world site.new)) }
+        ensures halted { HaltsFrom S.tells S.world site.old site.new self.old self.new result }
+    {
+        'run: loop {
+            match self.run_to_load(site)? {
+                Pause::Ended(summary) => return Ok(summary),
+                Pause::Load(file) => self.load_file(site, file)?,
+            }
+        }
+    }
+
+    /// Asks for sources, and runs the plan until it pauses. Where a file that no edge makes is to be loaded, that is done first.
+    fn run_to_load<S: Site>(&mut self, site: &mut S) -> Result<Pause, Stop>
+        requires running { (S.world site.old).stopped ≡ false }
+        requires begins { IsBeginning S.tells self.old (S.world site.old) }
+        ensures graph { self.new.graph ≡ self.old.graph }
+        ensures pause { IfOk result (IsPauseOf self.old.graph) }
+        ensures well { OnOk result (GoesWell (S.world site.old) (S.world site.new)) }
+        ensures paused { PausesFrom S.tells S.world site.old site.new self.old self.new result }
+        ensures stop { IfErr result (IsStopOf (S.world site.old) (S.world site.new)) }
+        ensures halted { HaltsOver S.tells S.world site.old site.new self.old self.new result }
+    {
+        match source_to_load(&self.graph, &self.plan) {
+            Some(file) => Ok(Pause::Load(file)),
+            None => {
+                self.ask_for_sources(site)?;
+                Ok(self.run_plan(site)?)
+            }
         }
     }
 }
 
 /// The dyndep file that is loaded next, if no edge makes it.
 pub fn source_to_load(graph: &Graph, plan: &Plan) -> Option<PathId>
-    ensures { MatchOption result (NoSourceIsDue graph.now plan.now) (λ file. IsNext plan.now (step.Load file) × ((links_of graph.now).maker file ≡ None)) }
+    ensures { MatchOption result (NoSourceIsDue graph.now plan.now) (λ file. IsSourceNext graph.now plan.now file) }
 {
     match plan.next() {
         Step::Load(file) => source(graph, file),
@@ -107,7 +91,7 @@ pub fn source_to_load(graph: &Graph, plan: &Plan) -> Option<PathId>
 
 /// The path, if no edge makes it.
 fn source(graph: &Graph, path: PathId) -> Option<PathId>
-    ensures { MatchOption result ((edge : ℕ) × ((links_of graph.now).maker path ≡ Some edge)) (λ source. (source ≡ path) × ((links_of graph.now).maker path ≡ None)) }
+    ensures { MatchOption result (IsMadePath graph.now path) (λ source. IsThatSource graph.now path source) }
 {
     match graph.maker(path) {
         Some(_) => None,
@@ -115,65 +99,55 @@ fn source(graph: &Graph, path: PathId) -> Option<PathId>
     }
 }
 
-/// Refuses a cone of which a source is missing; else what is due by now is noted, and counted by what is shown, and the edges that the
-/// plan says first are judged which are not due. Commands may run.
-fn ask_for_sources<S: Site>(site: &mut S, graph: &Graph, state: &mut State<'_>) -> Result<(), Stop>
-    requires running { (S.world site.old).stopped ≡ false }
-    requires begins { IsBeginning S.tells graph.now state.old (S.world site.old) }
-    requires made { NoSourceIsDue graph.now state.old.plan }
-    ensures well { OnOk result (GoesWell (S.world site.old) (S.world site.new)) }
-    ensures asked { OnOk result (AsksFrom S.tells graph.now state.old (S.world site.old) state.new (S.world site.new)) }
-    ensures stop { IfErr result (IsStopOf (S.world site.old) (S.world site.new)) }
-    ensures halted { IfErr result (HaltsOver S.tells graph.now state.old (S.world site.old) state.new (S.world site.new)) }
-{
-    log_stays();
-    lists_stand(graph);
-    match check_sources(
-        state.alloc,
-        site,
-        graph,
-        &state.cone,
-        &state.plan,
-        &mut state.looks,
-        &state.records,
-    ) {
-        Ok(due) => {
-            let unstarted = unstarted_commands(graph, &state.plan, &due);
-            state.display.recount(unstarted);
-            state.due = due;
-            judge_clean(graph, state);
-            Ok(())
+impl Work<'_> {
+    /// Refuses a cone of which a source is missing; else what is due by now is noted, and counted by what is shown, and the edges that the
+    /// plan says first are judged which are not due. Commands may run.
+    fn ask_for_sources<S: Site>(&mut self, site: &mut S) -> Result<(), Stop>
+        requires running { (S.world site.old).stopped ≡ false }
+        requires begins { IsBeginning S.tells self.old (S.world site.old) }
+        requires made { NoSourceIsDue self.old.graph self.old.plan }
+        ensures graph { self.new.graph ≡ self.old.graph }
+        ensures well { OnOk result (GoesWell (S.world site.old) (S.world site.new)) }
+        ensures asked { AsksFrom S.tells S.world site.old site.new self.old self.new result }
+        ensures stop { IfErr result (IsStopOf (S.world site.old) (S.world site.new)) }
+        ensures halted { HaltsOver S.tells S.world site.old site.new self.old self.new result }
+    {
+        log_stays();
+        lists_stand(&self.graph);
+        match self.check_sources(site) {
+            Ok(due) => {
+                let unstarted = unstarted_commands(&self.graph, &self.plan, &due);
+                self.display.recount(unstarted);
+                self.due = due;
+                self.judge_clean();
+                Ok(())
+            }
+            Err(stop) => Err(given_up(site, &self.plan, stop)),
         }
-        Err(stop) => Err(given_up(site, &state.plan, stop)),
     }
-}
 
-/// Loads the dyndep file, which is to be loaded next. Commands may run.
-fn load_file<S: Site>(
-    site: &mut S,
-    graph: &mut Graph,
-    state: &mut State<'_>,
-    file: PathId,
-) -> Result<(), Stop>
-    requires running { (S.world site.old).stopped ≡ false }
-    requires at { IsLoading S.tells graph.old state.old file (S.world site.old) }
-    ensures well { OnOk result (GoesWell (S.world site.old) (S.world site.new)) }
-    ensures fewer { OnOk result (files_left (declared_by graph.new).edges < files_left (declared_by graph.old).edges) }
-    ensures begun { OnOk result (Loads S.tells file graph.old state.old (S.world site.old) graph.new state.new (S.world site.new)) }
-    ensures stop { IfErr result (IsStopOf (S.world site.old) (S.world site.new)) }
-    ensures halted { IfErr result (HaltsAt S.tells file graph.old state.old (S.world site.old) graph.new state.new (S.world site.new)) }
-{
-    match load(site, graph, state, file) {
-        Ok(()) => Ok(()),
-        Err(stop) => Err(given_up(site, &state.plan, stop)),
+    /// Loads the dyndep file, which is to be loaded next. Commands may run.
+    fn load_file<S: Site>(&mut self, site: &mut S, file: PathId) -> Result<(), Stop>
+        requires running { (S.world site.old).stopped ≡ false }
+        requires at { IsLoading S.tells self.old file (S.world site.old) }
+        ensures well { OnOk result (GoesWell (S.world site.old) (S.world site.new)) }
+        ensures fewer { OnOk result (HasFewerFiles self.old.graph self.new.graph) }
+        ensures begun { Loads S.tells S.world site.old site.new file self.old self.new result }
+        ensures stop { IfErr result (IsStopOf (S.world site.old) (S.world site.new)) }
+        ensures halted { HaltsAt S.tells S.world site.old site.new file self.old self.new result }
+    {
+        match self.load(site, file) {
+            Ok(()) => Ok(()),
+            Err(stop) => Err(given_up(site, &self.plan, stop)),
+        }
     }
 }
 
 /// After a fault what runs is taken in; a refusal stays as it is.
 fn given_up<S: Site>(site: &mut S, plan: &Plan, stop: Stop) -> Stop
-    requires met { IfFault stop (λ fault. (course : Course) × (graph : GraphOf) × IsCut S.tells course graph plan.now (S.world site.old)) }
+    requires met { IfFault stop (λ fault. IsCutOfSome S.tells plan.now (S.world site.old)) }
     requires stop { (entry : World) × IsStopThere entry (S.world site.old) stop }
-    ensures stop { (entry : World) → IsStopThere entry (S.world site.old) stop → IsStopOf entry (S.world site.new) result }
+    ensures stop { StopsBehind (S.world site.old) (S.world site.new) stop result }
     ensures halted { HaltsBehind S.tells plan.now (S.world site.old) (S.world site.new) stop result }
 {
     match stop {
@@ -182,18 +156,21 @@ fn given_up<S: Site>(site: &mut S, plan: &Plan, stop: Stop) -> Stop
     }
 }
 
-/// After a refusal what runs is taken in, recorded and shown, which may meet a fault; a fault stays as it is.
-fn finished<S: Site>(site: &mut S, graph: &Graph, state: &mut State<'_>, stop: Stop) -> Stop
-    requires refused { IfRefused stop (IsRefusedOf S.tells graph.now state.old (S.world site.old)) }
-    requires stop { (entry : World) × IsStopOf entry (S.world site.old) stop }
-    ensures stop { (entry : World) → IsStopOf entry (S.world site.old) stop → IsStopOf entry (S.world site.new) result }
-    ensures ended { EndsHalted S.tells graph.now state.old (S.world site.old) (S.world site.new) stop result }
-{
-    match stop {
-        Stop::Fault(fault) => Stop::Fault(fault),
-        Stop::Refused(refusal) => match finish(site, graph, state) {
-            Ok(()) => Stop::Refused(refusal),
-            Err(cut) => Stop::Fault(cut.fault()),
-        },
+impl Work<'_> {
+    /// After a refusal what runs is taken in, recorded and shown, which may meet a fault; a fault stays as it is.
+    fn finished<S: Site>(&mut self, site: &mut S, stop: Stop) -> Stop
+        requires refused { IfRefused stop (IsRefusedOf S.tells self.old (S.world site.old)) }
+        requires stop { (entry : World) × IsStopOf entry (S.world site.old) stop }
+        ensures graph { self.new.graph ≡ self.old.graph }
+        ensures stop { StopsStill (S.world site.old) (S.world site.new) stop result }
+        ensures ended { EndsHalted S.tells S.world site.old site.new self.old stop result }
+    {
+        match stop {
+            Stop::Fault(fault) => Stop::Fault(fault),
+            Stop::Refused(refusal) => match self.finish(site) {
+                Ok(()) => Stop::Refused(refusal),
+                Err(cut) => Stop::Fault(cut.fault()),
+            },
+        }
     }
 }

@@ -3,11 +3,10 @@
 ghost use Rattle.std.specs.Prelude.{◌≡◌, ◌<◌, IfOk, OnOk, false, suc, length};
 ghost use Rattle.model.specs.Calls.{OnlyLooks, HasCause};
 ghost use Rattle.model.specs.Graph.{IsCommand};
-ghost use Rattle.graph.specs.Links.{links_of};
 ghost use Rattle.graph.specs.Told.{declared_by};
-ghost use Rattle.judge.specs.Looking.{HasLooked};
+ghost use Rattle.judge.specs.Looking.{HasLookedAt};
 ghost use Rattle.work.specs.EdgeIn.{edge_in};
-ghost use Rattle.work.specs.Restat.{is_same_look, AreChangesOf, AreLooksOf, AreFlagsOf, AreAskedBefore, LooksAnew};
+ghost use Rattle.work.specs.Restat.{is_same_look, AreLooksOf, AreFlagsOf, AreAskedBefore, SeesAnew, TellsChanges};
 
 use graph::{Graph, lists_stand};
 use judge::{Look, Looks};
@@ -38,8 +37,9 @@ pub fn ask_before<S: Site>(
     requires fits { length looks.old.seen.items ≡ length graph.now.manifest.paths }
     requires within { edge < length graph.now.manifest.lines }
     requires command { IsCommand (declared_by graph.now).edges (suc edge) }
-    ensures looked { HasLooked S.tells graph.now (S.world site.old) (S.world site.new) looks.old looks.new }
+    ensures looked { HasLookedAt S.tells S.world site.old site.new graph.now looks.old looks.new }
     ensures cause { HasCause (S.world site.old) (S.world site.new) result }
+    ensures sums { looks.new.sums ≡ looks.old.sums }
     ensures asked { OnOk result (AreAskedBefore graph.now edge looks.new) }
 {
     if !has_restat(graph, edge) {
@@ -63,8 +63,9 @@ pub fn changes<S: Site>(
     requires within { edge < length graph.now.manifest.lines }
     ensures looks { OnlyLooks S.tells (S.world site.old) (S.world site.new) }
     ensures cause { HasCause (S.world site.old) (S.world site.new) result }
-    ensures anew { OnOk result (LooksAnew S.tells graph.now edge (S.world site.old) (S.world site.new) looks.old looks.new) }
-    ensures changes { IfOk result (λ flags. AreChangesOf looks.old.seen.items looks.new.seen.items ((links_of graph.now).outputs edge) flags.items) }
+    ensures sums { looks.new.sums ≡ looks.old.sums }
+    ensures anew { SeesAnew S.tells S.world site.old site.new graph.now edge looks.old looks.new result }
+    ensures changes { IfOk result (λ flags. TellsChanges graph.now edge looks.old looks.new flags) }
 {
     lists_stand(graph);
     let outputs = graph.outputs(edge);

@@ -1,16 +1,16 @@
 //! What commands tell in their depfiles (manual: "Depfile").
 
-ghost use Rattle.std.specs.Prelude.{◌≡◌, ◌≢◌, [], ◌<◌, true, false, Some, None, IfOk, IfErr, OnOk, OnErr, IsOk};
+ghost use Rattle.std.specs.Prelude.{◌≡◌, ◌≢◌, [], ◌<◌, true, false, Some, None, IfOk, IfErr, IsOk};
 ghost use Rattle.model.specs.declared.fault.SiteFault.TheVariants.{Memory};
 ghost use Rattle.model.specs.declared.graph.Deps.TheVariants.{Gcc};
-ghost use Rattle.model.specs.Calls.{OnlyLooks, HasCause, Writes, WritesOrNot};
+ghost use Rattle.model.specs.Calls.{OnlyLooks, HasCause, WritesOrNot};
 ghost use Rattle.theory.specs.Writes.{WritesAt};
 ghost use Rattle.work.specs.Starting.{IsTakenInOf, MayBeDoneThen, CutsTelling};
 ghost use Rattle.work.specs.Telling.{Says, WasRead, fault_in, ended_well};
+ghost use Rattle.work.specs.Removing.{RemovesIfNamed, RemovesRead};
 
-use crate::state::State;
+use crate::state::Work;
 use depfile::{DepFault, Listed, ReadError, borrowed_inputs};
-use graph::Graph;
 use model::{Act, Deps, Finished, SiteFault};
 use paths::{Command, EdgeId};
 use site::Site;
@@ -91,33 +91,34 @@ pub fn ended(finished: Finished, told: &Told<'_>) -> Finished
     }
 }
 
-/// Puts behind the deps log what the command of the edge told, which was started under this stamp.
-pub fn report<S: Site>(
-    site: &mut S,
-    graph: &Graph,
-    state: &mut State<'_>,
-    edge: EdgeId,
-    start: u64,
-    told: &Told<'_>,
-) -> Result<(), SiteFault>
-    requires running { (S.world site.old).stopped ≡ false }
-    requires taken_in { IsTakenInOf S.tells graph.now edge start true told.now state.old (S.world site.old) }
-    ensures cause { HasCause (S.world site.old) (S.world site.new) result }
-    ensures writes { WritesAt S.tells state.old.records.logs.deps_log.path (S.world site.old) (S.world site.new) }
-    ensures plan { state.new.plan ≡ state.old.plan }
-    ensures starts { state.new.starts ≡ state.old.starts }
-    ensures looks { state.new.looks ≡ state.old.looks }
-    ensures failed { state.new.failed ≡ state.old.failed }
-    ensures on { OnOk result (MayBeDoneThen S.tells graph.now edge start told.now (S.world site.old) (S.world site.new) state.old state.new) }
-    ensures cut { OnErr result (CutsTelling S.tells graph.now edge start told.now (S.world site.old) (S.world site.new) state.old state.new) }
-{
-    let Told::Inputs(paths) = told else {
-        return Ok(());
-    };
-    let texts = paths.texts(state.alloc)?;
-    state
-        .records
-        .report(state.alloc, site, graph, edge, start, &texts)
+impl Work<'_> {
+    /// Puts behind the deps log what the command of the edge told, which was started under this stamp.
+    pub(crate) fn report<S: Site>(
+        &mut self,
+        site: &mut S,
+        edge: EdgeId,
+        start: u64,
+        told: &Told<'_>,
+    ) -> Result<(), SiteFault>
+        requires running { (S.world site.old).stopped ≡ false }
+        requires taken_in { IsTakenInOf S.tells self.old.graph edge start true told.now self.old (S.world site.old) }
+        ensures graph { self.new.graph ≡ self.old.graph }
+        ensures cause { HasCause (S.world site.old) (S.world site.new) result }
+        ensures writes { WritesAt S.tells self.old.records.logs.deps_log.path (S.world site.old) (S.world site.new) }
+        ensures plan { self.new.plan ≡ self.old.plan }
+        ensures starts { self.new.starts ≡ self.old.starts }
+        ensures looks { self.new.looks ≡ self.old.looks }
+        ensures failed { self.new.failed ≡ self.old.failed }
+        ensures on { MayBeDoneThen S.tells S.world site.old site.new edge start told.now self.old self.new result }
+        ensures cut { CutsTelling S.tells S.world site.old site.new edge start told.now self.old self.new result }
+    {
+        let Told::Inputs(paths) = told else {
+            return Ok(());
+        };
+        let texts = paths.texts(self.alloc)?;
+        self.records
+            .report(self.alloc, site, &self.graph, edge, start, &texts)
+    }
 }
 
 /// Removes the depfile that the act names, if it names one, before the command starts. Where it fails, it is as it was, or gone.
@@ -126,7 +127,7 @@ pub fn remove_old_depfile<S: Site>(site: &mut S, act: &Act) -> Result<(), SiteFa
     ensures cause { HasCause (S.world site.old) (S.world site.new) result }
     ensures none { act.now.depfile ≡ [] → IsOk result × (S.world site.new ≡ S.world site.old) }
     ensures at { WritesOrNot S.tells act.now.depfile None (S.world site.old) (S.world site.new) }
-    ensures removed { OnOk result (act.now.depfile ≢ [] → Writes S.tells act.now.depfile None (S.world site.old) (S.world site.new)) }
+    ensures removed { RemovesIfNamed S.tells S.world site.old site.new act.now.depfile result }
 {
     if act.depfile.is_empty() {
         return Ok(());
@@ -141,7 +142,7 @@ pub fn remove_read_depfile<S: Site>(site: &mut S, command: &Command) -> Result<(
     ensures cause { HasCause (S.world site.old) (S.world site.new) result }
     ensures stays { command.now.deps ≢ Gcc → IsOk result × (S.world site.new ≡ S.world site.old) }
     ensures at { WritesOrNot S.tells command.now.act.depfile None (S.world site.old) (S.world site.new) }
-    ensures removed { OnOk result (command.now.deps ≡ Gcc → command.now.act.depfile ≢ [] → Writes S.tells command.now.act.depfile None (S.world site.old) (S.world site.new)) }
+    ensures removed { RemovesRead S.tells S.world site.old site.new command.now result }
 {
     if command.deps != Deps::Gcc {
         return Ok(());

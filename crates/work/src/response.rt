@@ -1,8 +1,9 @@
 //! The response file of a command (manual: "Rule variables", `rspfile`).
 
-ghost use Rattle.std.specs.Prelude.{◌≡◌, ◌≢◌, [], Some, None, false, OnOk, IsOk};
-ghost use Rattle.model.specs.Calls.{HasCause, Writes};
+ghost use Rattle.std.specs.Prelude.{◌≡◌, [], false, IsOk};
+ghost use Rattle.model.specs.Calls.{HasCause};
 ghost use Rattle.theory.specs.Writes.{WritesAt};
+ghost use Rattle.work.specs.Removing.{RemovesIfNamed, WritesResponse};
 
 use model::{Act, SiteFault};
 use site::Site;
@@ -13,7 +14,7 @@ pub fn write_response<S: Site>(site: &mut S, act: &Act) -> Result<(), SiteFault>
     ensures cause { HasCause (S.world site.old) (S.world site.new) result }
     ensures none { act.now.response_path ≡ [] → IsOk result × (S.world site.new ≡ S.world site.old) }
     ensures at { WritesAt S.tells act.now.response_path (S.world site.old) (S.world site.new) }
-    ensures written { OnOk result (act.now.response_path ≢ [] → Writes S.tells act.now.response_path (Some act.now.response_content) (S.world site.old) (S.world site.new)) }
+    ensures written { WritesResponse S.tells S.world site.old site.new act.now result }
 {
     if act.response_path.is_empty() {
         return Ok(());
@@ -30,7 +31,7 @@ pub fn remove_response<S: Site>(site: &mut S, act: &Act) -> Result<(), SiteFault
     ensures cause { HasCause (S.world site.old) (S.world site.new) result }
     ensures none { act.now.response_path ≡ [] → IsOk result × (S.world site.new ≡ S.world site.old) }
     ensures at { WritesAt S.tells act.now.response_path (S.world site.old) (S.world site.new) }
-    ensures removed { OnOk result (act.now.response_path ≢ [] → Writes S.tells act.now.response_path None (S.world site.old) (S.world site.new)) }
+    ensures removed { RemovesIfNamed S.tells S.world site.old site.new act.now.response_path result }
 {
     if act.response_path.is_empty() {
         return Ok(());

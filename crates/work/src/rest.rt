@@ -3,13 +3,11 @@
 ghost use Rattle.std.specs.Prelude.{◌≡◌, ◌⊎◌, false, Some, Err, OnOk, OnErr};
 ghost use Rattle.model.specs.World.{IsIdle};
 ghost use Rattle.model.specs.Calls.{HasCause, is_stop};
-ghost use Rattle.graph.specs.declared.graph.Graph.{Graph};
 ghost use Rattle.work.specs.After.{ComesAfter};
-ghost use Rattle.work.specs.Course.{Course};
 ghost use Rattle.work.specs.declared.cut.Cut.TheVariants.{Other};
 ghost use Rattle.work.specs.Cut.{fault_of, HasRefusedWait, IsLeft};
 ghost use Rattle.work.specs.Cutting.{IfWaiting, SomeRuns, SoManyRun, StaysSeen, IsStoppedBy, TakesIn};
-ghost use Rattle.work.specs.Going.{IsCut};
+ghost use Rattle.work.specs.Going.{IsCutOfSome};
 ghost use Rattle.work.specs.Ran.{CutsStay, EndsCut};
 
 use crate::cut::Cut;
@@ -20,7 +18,7 @@ use site::Site;
 /// Takes in what runs after a fault that came between two calls of a run, of which this is the plan: nothing of that is recorded or
 /// shown. It gives the fault of the run: that the site stopped, where it did, and else this one, whatever a wait meets behind it.
 pub fn give_up<S: Site>(site: &mut S, plan: &Plan, fault: SiteFault) -> Cut
-    requires met { (course : Course) × (graph : Graph) × IsCut S.tells course graph plan.now (S.world site.old) }
+    requires met { IsCutOfSome S.tells plan.now (S.world site.old) }
     requires stopped { (S.world site.old).stopped ≡ is_stop {T = Unit {0}} (Err fault) }
     ensures ran { EndsCut S.tells plan.now (S.world site.old) (S.world site.new) result }
     ensures seen { StaysSeen (S.world site.old) (S.world site.new) (Other fault) result }

@@ -1,51 +1,53 @@
 //! Missing sources.
 
-ghost use Rattle.std.specs.Prelude.{◌≡◌, ◌<◌, ℕ, false, length, vec_len, All, IfOk, IfErr, OnOk};
+ghost use Rattle.std.specs.Prelude.{◌≡◌, ◌<◌, false, length, vec_len, All, IfOk, OnOk};
 ghost use Rattle.std.specs.Option.{option_map};
 ghost use Rattle.theory.specs.Seen.{Unrefused};
-ghost use Rattle.judge.specs.Looking.{HasLooked};
 ghost use Rattle.paths.specs.Told.{text_at};
-ghost use Rattle.judge.specs.Lacks.{HasDue, IsEdgeBelow, IsLackOf};
+ghost use Rattle.judge.specs.Lacks.{IsEdgeBelow, IsLackOf};
 ghost use Rattle.work.specs.Ends.{first_output_of};
-ghost use Rattle.work.specs.Sources.{HasSources, LacksSource};
+ghost use Rattle.work.specs.Sources.{with_looks, FindsDueFlags, FindsSources, FindsLacking, TellsWhoNeeds};
+ghost use Rattle.work.specs.After.{SeesFiles};
 
 use crate::names::{first_output, path_text};
 use crate::report::{Missing, Refusal};
+use crate::state::Work;
 use crate::stop::Stop;
-use graph::{Cone, Graph};
-use judge::{Found, Lack, Looks, sources};
+use graph::Graph;
+use judge::{Found, Lack};
 use paths::EdgeId;
-use plan::Plan;
-use records::Records;
 use site::Site;
 use std::alloc::{AllocError, Global};
 use text::Path;
 
-/// Refuses a cone of which a source is missing; else a flag for each edge of the graph says whether it is in the cone and due. Steps of
-/// the plan may be done by then, and commands may run. It only looks.
-pub fn check_sources<S: Site>(
-    alloc: Global,
-    site: &mut S,
-    graph: &Graph,
-    cone: &Cone,
-    plan: &Plan,
-    looks: &mut Looks,
-    records: &Records,
-) -> Result<Vec<bool>, Stop>
-    requires running { (S.world site.old).stopped ≡ false }
-    requires fits { length looks.old.seen.items ≡ length graph.now.manifest.paths }
-    requires order { All (λ e. e < length graph.now.manifest.lines) cone.now.order.items }
-    requires targets { All (λ p. p < length graph.now.manifest.paths) cone.now.targets.items }
-    requires plan { vec_len plan.now.standings ≡ length graph.now.manifest.lines }
-    ensures looked { HasLooked S.tells graph.now (S.world site.old) (S.world site.new) looks.old looks.new }
-    ensures passed { OnOk result (Unrefused (S.world site.old) (S.world site.new)) }
-    ensures due { IfOk result (λ due. HasDue S.tells graph.now records.now cone.now plan.now (S.world site.old) (S.world site.new) looks.old due.items) }
-    ensures sources { OnOk result (HasSources S.tells graph.now records.now cone.now plan.now (S.world site.old) (S.world site.new) looks.old) }
-    ensures lacking { IfErr result (LacksSource S.tells graph.now records.now cone.now plan.now (S.world site.old) (S.world site.new) looks.old) }
-{
-    match sources(alloc, site, graph, cone, plan, looks, records)? {
-        Found::Missing(lack) => Err(Stop::Refused(Refusal::Missing(missing(alloc, graph, lack)?))),
-        Found::Present(due) => Ok(due),
+impl Work<'_> {
+    /// Refuses the cone where a source of it is missing; else a flag for each edge of the graph says whether it is in the cone and due.
+    /// Steps of the plan may be done by then, and commands may run. It only looks.
+    pub fn check_sources<S: Site>(&mut self, site: &mut S) -> Result<Vec<bool>, Stop>
+        requires running { (S.world site.old).stopped ≡ false }
+        requires fits { length self.old.looks.seen.items ≡ length self.old.graph.manifest.paths }
+        requires order { All (λ e. e < length self.old.graph.manifest.lines) self.old.cone.order.items }
+        requires targets { All (λ p. p < length self.old.graph.manifest.paths) self.old.cone.targets.items }
+        requires plan { vec_len self.old.plan.standings ≡ length self.old.graph.manifest.lines }
+        ensures looked { SeesFiles S.tells S.world site.old site.new self.old self.new }
+        ensures beside { self.new ≡ with_looks self.old self.new.looks }
+        ensures passed { OnOk result (Unrefused (S.world site.old) (S.world site.new)) }
+        ensures due { FindsDueFlags S.tells S.world site.old site.new self.old result }
+        ensures sources { FindsSources S.tells S.world site.old site.new self.old result }
+        ensures lacking { FindsLacking S.tells S.world site.old site.new self.old result }
+    {
+        let alloc = self.alloc;
+        match self
+            .looks
+            .sources(site, &self.graph, &self.cone, &self.plan, &self.records)?
+        {
+            Found::Missing(lack) => Err(Stop::Refused(Refusal::Missing(missing(
+                alloc,
+                &self.graph,
+                lack,
+            )?))),
+            Found::Present(due) => Ok(due),
+        }
     }
 }
 
@@ -53,7 +55,7 @@ pub fn check_sources<S: Site>(
 fn missing(alloc: Global, graph: &Graph, lack: Lack) -> Result<Missing, AllocError>
     requires { IsLackOf graph.now lack }
     ensures path { IfOk result (λ missing. missing.path ≡ text_at graph.now.manifest.paths lack.path) }
-    ensures needed_by { IfOk result (λ missing. missing.needed_by ≡ option_map (first_output_of graph.now.manifest) lack.needed_by) }
+    ensures needed_by { IfOk result (λ missing. TellsWhoNeeds graph.now lack missing) }
 {
     Ok(Missing {
         path: path_text(alloc, &graph.manifest, lack.path)?,

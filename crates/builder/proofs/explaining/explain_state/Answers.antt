@@ -21,7 +21,7 @@ returns-clause-explains g c course edges phases begins =
     record {
       edges = at.0;
       phases = at.1;
-      graph = c.load_sources.new.graph;
+      graph = c.load_sources.new.state.graph;
       state = c.load_sources.new.state;
       begun = g.S.Texts.world c.load_sources.new.site;
       looks = c.load_sources.ensures.looks;

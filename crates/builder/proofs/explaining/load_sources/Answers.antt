@@ -14,7 +14,7 @@ load-requires-clause-at g c =
     let begins = c.requires.begins in
     let at = c.sources.invariant.begins begins.0 begins.1 begins.2 begins.3 in
     let next =
-    c.sources_load.ensures g.S.Texts.tells begins.0 at.0 at.1 c.sources.graph c.sources.state (g.S.Texts.world c.sources.site) at.2 c.in-Some.file c.in-Some.ensures.0 c.in-Some.ensures.1 in
+    c.sources_load.ensures g.S.Texts.tells begins.0 at.0 at.1 c.sources.state.graph c.sources.state (g.S.Texts.world c.sources.site) at.2 c.in-Some.file c.in-Some.ensures.0 c.in-Some.ensures.1 in
     (begins.0, at.0, at.1, next.stands, next.next)
 
 pub returns-in_err-load-in-Some-clause-looks : goal.returns-in_err-load-in-Some-clause-looks
@@ -28,7 +28,7 @@ sources-preserved g c = record {
   begins = λ course edges phases begins.
       let at = c.sources.invariant.begins course edges phases begins in
       let next =
-      c.sources_load.ensures g.S.Texts.tells course at.0 at.1 c.sources.graph c.sources.state (g.S.Texts.world c.sources.site) at.2 c.in-Some.file c.in-Some.ensures.0 c.in-Some.ensures.1 in
+      c.sources_load.ensures g.S.Texts.tells course at.0 at.1 c.sources.state.graph c.sources.state (g.S.Texts.world c.sources.site) at.2 c.in-Some.file c.in-Some.ensures.0 c.in-Some.ensures.1 in
       let begun = c.in_ok-load-in-Some.ensures.begun course at.0 at.1 next in
       (begun.0, at.1 ++ begun.1 ∷ [], begun.2);
 }

@@ -11,9 +11,9 @@ abbrev pub invariant-sources : goal.invariant-sources
 invariant-sources g l = record {
   looks : OnlyLooks g.S.Texts.tells (g.S.Texts.world l.fn.site) (g.S.Texts.world l.site);
   running : (g.S.Texts.world l.site).stopped ≡ false;
-  begins : (course : Course) (edges : List Edge) (phases : List Phase) → BeginsAt g.S.Texts.tells course edges phases l.fn.graph l.fn.state (g.S.Texts.world l.fn.site)
-      → (many : List Edge) × (more : List Phase) × BeginsAt g.S.Texts.tells course many more l.graph l.state (g.S.Texts.world l.site);
+  begins : (course : Course) (edges : List Edge) (phases : List Phase) → BeginsAt g.S.Texts.tells course edges phases l.fn.state.graph l.fn.state (g.S.Texts.world l.fn.site)
+      → (many : List Edge) × (more : List Phase) × BeginsAt g.S.Texts.tells course many more l.state.graph l.state (g.S.Texts.world l.site);
 }
 
 abbrev pub decreases-sources : goal.decreases-sources
-decreases-sources g l = files_left (declared_by l.graph).edges
+decreases-sources g l = files_left (declared_by l.state.graph).edges

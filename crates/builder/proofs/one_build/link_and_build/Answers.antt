@@ -7,7 +7,6 @@ use Rattle.paths.specs.Told.{graph_of}
 use Rattle.work.specs.declared.report.Report.{Report}
 use Rattle.builder.specs.Build.{Builds, BuildsFor}
 use Rattle.builder.specs.Parts.{IsReportOfNoGraph}
-use Rattle.builder.specs.Reports.{report_in}
 use Rattle.builder.proofs.Stages.{told_by}
 use Rattle.builder.proofs.one_build.link_and_build.Goals as goal
 
@@ -27,8 +26,8 @@ returns-in_err-graph g c =
     )
 
 -- the graph is that of what was read
-pub build_linked-requires : goal.build_linked-requires
-build_linked-requires g c =
+pub build_graph_read-report-requires : goal.build_graph_read-report-requires
+build_graph_read-report-requires g c =
     let same = sym {A = BuildGraph} (ap graph_of c.in_ok-graph.ensures.manifest) in
     record {
       idle = c.requires.idle;
@@ -43,7 +42,7 @@ build_linked-requires g c =
 
 pub returns : goal.returns
 returns g c = (
-  c.build_linked.ensures.0,
-  subst (λ (b : BuildGraph). BuildsFor g.S.Texts.tells b c.args.reading.asked c.build_linked.ensures.0 (g.S.Texts.world c.args.site.now) (g.S.Texts.world c.build_linked.new.site) (report_in c.build_linked.result))
-      (ap graph_of c.in_ok-graph.ensures.manifest) c.build_linked.ensures.1,
+  c.build_graph_read-report.ensures.0,
+  subst (λ (b : BuildGraph). BuildsFor g.S.Texts.tells b c.args.reading.asked c.build_graph_read-report.ensures.0 (g.S.Texts.world c.args.site.now) (g.S.Texts.world c.build_graph_read-report.new.site) c.build_graph_read-report.result)
+      (ap graph_of c.in_ok-graph.ensures.manifest) c.build_graph_read-report.ensures.1,
 )

@@ -5,7 +5,7 @@ use Rattle.builder.proofs.one_build.run_state.Goals as goal
 
 pub returns-in_err-summary : goal.returns-in_err-summary
 returns-in_err-summary g c = record {
-  grown = (declared_by c.run_graph.new.graph).edges;
+  grown = (declared_by c.run_graph.new.self.graph).edges;
   said = Err c.in_err-summary.field-0.0;
   ended = c.in_err-summary.ensures.ended;
   faults = c.in_err-summary.ensures.faults;
@@ -19,7 +19,7 @@ report-requires g c = c.in_ok-summary.ensures.edges
 -- there was no memory to tell it
 pub returns-in_err-report : goal.returns-in_err-report
 returns-in_err-report g c = record {
-  grown = (declared_by c.run_graph.new.graph).edges;
+  grown = (declared_by c.run_graph.new.self.graph).edges;
   said = Ok c.in_ok-summary.summary;
   ended = c.in_ok-summary.ensures.ended;
   faults = c.in_ok-summary.ensures.faults;
@@ -29,7 +29,7 @@ returns-in_err-report g c = record {
 
 pub returns : goal.returns
 returns g c = record {
-  grown = (declared_by c.run_graph.new.graph).edges;
+  grown = (declared_by c.run_graph.new.self.graph).edges;
   said = Ok c.in_ok-summary.summary;
   ended = c.in_ok-summary.ensures.ended;
   faults = c.in_ok-summary.ensures.faults;

@@ -1,18 +1,18 @@
-use Rattle.std.proofs.Common.{sym, ◌∙◌, ap, subst}
-use Rattle.judge.specs.declared.looks.Looks.{Looks}
-use Rattle.plan.specs.declared.plan.Plan.{Plan}
-use Rattle.builder.specs.Reports.{IsPlanFor}
+use Rattle.std.proofs.Common.{rules}
+use Rattle.work.specs.declared.report.Report.{Report}
+use Rattle.builder.specs.Reports.{SaysNoCone}
+use Rattle.builder.proofs.Stages.{refused_by}
 use Rattle.builder.proofs.one_build.state_of.Goals as goal
 
-pub returns : goal.returns
-returns c = record {
-  fresh = record {
-    plan = subst (λ (p : Plan). IsPlanFor c.args.graph.now c.args.cone c.args.asked.now.limits p) (sym {A = Plan} c.in_ok-state.ensures.plan) c.in_ok-plan.ensures;
-    looks = ap (λ (l : Looks). l.seen.items) c.in_ok-state.ensures.looks ∙ c.in_ok-looks.ensures;
-    coned = c.in_ok-state.ensures.cone;
-    kept = c.in_ok-state.ensures.records;
-    tick = c.in_ok-state.ensures.tick ∙ c.in_ok-tick.ensures;
-    failed = c.in_ok-state.ensures.failed;
-    starts = c.in_ok-state.ensures.starts;
-  };
+pub returns-in_err-fresh-clause-refused : goal.returns-in_err-fresh-clause-refused
+returns-in_err-fresh-clause-refused c =
+    refused_by (λ (r : Report). SaysNoCone c.args.graph c.args.asked.now.given.now c.args.asked.now.targets r) c.in_err-fresh.field-0.0 c.from_residual.result c.from_residual.ensures.1 c.in_err-fresh.ensures.refused
+
+pub returns-clause-fresh : goal.returns-clause-fresh
+returns-clause-fresh c = record {
+  plan = c.in_ok-fresh.ensures.plan;
+  looks = c.in_ok-fresh.ensures.looks;
+  tick = c.in_ok-fresh.ensures.tick;
+  failed = search rules;
+  starts = c.in_ok-fresh.ensures.starts;
 }

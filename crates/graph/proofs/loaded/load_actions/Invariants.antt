@@ -1,10 +1,10 @@
-use Rattle.std.proofs.Common.{◌≡◌, ℕ, cond, nat_lt, None, map, length, slice_index_or}
+use Rattle.std.proofs.Common.{◌≡◌, drop, length, map}
 use Rattle.graph.specs.Extended.{addition_of}
-use Rattle.graph.specs.Statements.{action_at, action_with}
+use Rattle.graph.specs.InTurn.{actions_given}
 use Rattle.graph.proofs.loaded.load_actions.Given as goal
 
-abbrev pub invariant-loop-place : goal.invariant-loop-place
-invariant-loop-place l = record {
+abbrev pub invariant-loop-choice : goal.invariant-loop-choice
+invariant-loop-choice l = record {
   fits : length l.actions ≡ length l.initial.actions;
-  each : (e : ℕ) → action_at l.actions e ≡ cond (nat_lt e l.place) (action_with (map addition_of l.additions) (action_at l.initial.actions e) (slice_index_or l.chosen e None)) (action_at l.initial.actions e);
+  rest : actions_given (map addition_of l.additions) l.actions (drop l.choice-index l.chosen) ≡ actions_given (map addition_of l.additions) l.initial.actions l.chosen;
 }

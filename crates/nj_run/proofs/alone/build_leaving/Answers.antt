@@ -20,8 +20,8 @@ returns g c =
     )
 
 -- the graph is that of what was read
-pub build_graph_holding-report-requires : goal.build_graph_holding-report-requires
-build_graph_holding-report-requires g c =
+pub build_graph_holding-requires : goal.build_graph_holding-requires
+build_graph_holding-requires g c =
     let same = sym {A = BuildGraph} (ap graph_of c.in-Ok.ensures.manifest) in
     record {
       idle = c.requires.idle;
@@ -36,7 +36,7 @@ build_graph_holding-report-requires g c =
 
 pub returns-in-Ok : goal.returns-in-Ok
 returns-in-Ok g c = (
-  c.build_graph_holding-report.ensures.0,
-  subst (λ (b : BuildGraph). BuildsFor g.S.Texts.tells b c.args.reading.asked c.build_graph_holding-report.ensures.0 (g.S.Texts.world c.args.site.now) (g.S.Texts.world c.build_graph_holding-report.new.site) c.build_graph_holding-report.result.0)
-      (ap graph_of c.in-Ok.ensures.manifest) c.build_graph_holding-report.ensures.1,
+  c.build_graph_holding.ensures.0,
+  subst (λ (b : BuildGraph). BuildsFor g.S.Texts.tells b c.args.reading.asked c.build_graph_holding.ensures.0 (g.S.Texts.world c.args.site.now) (g.S.Texts.world c.build_graph_holding.new.site) c.build_graph_holding.result.0)
+      (ap graph_of c.in-Ok.ensures.manifest) c.build_graph_holding.ensures.1,
 )

@@ -1,4 +1,4 @@
-use Rattle.std.proofs.Common.{◌≡◌, ◌<◌, ◌∙◌, ℕ, List, true, false, length, sym, ap, subst, arith}
+use Rattle.std.proofs.Common.{◌≡◌, ◌<◌, ◌∙◌, ℕ, List, true, false, length, refl, sym, ap, subst, arith}
 use Rattle.std.specs.List.{flat_map}
 use Rattle.std.proofs.lemmas.Bool.{false≢true}
 use Rattle.std.proofs.lemmas.List.{take_all}
@@ -11,6 +11,7 @@ use Rattle.reasons.proofs.asked.ask_regular.Goals as goal
 
 pub loop-edge-init : goal.loop-edge-init
 loop-edge-init g c = record {
+  sums = refl;
   looked = (c.looks_follow.ensures.follow g.S.Texts.tells (g.S.Texts.world c.args.site.now) (g.S.Texts.world c.args.site.now) (g.S.Texts.world c.args.site.now)).none c.args.graph.now c.args.looks.now;
   unrefused = unrefused_none (g.S.Texts.world c.args.site.now) c.requires.running;
   asked = λ p none. absurd (false≢true none);
@@ -38,6 +39,7 @@ loop-edge-preserved g c =
     let b = g.S.Texts.world c.loop-edge.site in
     let d = g.S.Texts.world c.ask.new.site in
     record {
+      sums = c.ask.ensures.sums ∙ c.loop-edge.invariant.sums;
       looked = (c.looks_follow.ensures.follow tells a b d).looked graph c.args.looks.now c.loop-edge.looks c.ask.new.self c.loop-edge.invariant.looked c.ask.ensures.looked;
       unrefused = unrefused_then a b d c.loop-edge.invariant.unrefused (unrefused_call b d _ c.in_ok-ask.ensures.cause);
       asked = asked_more (links_of graph).regular c.loop-edge.looks.seen.items c.ask.new.self.seen.items c.ask.ensures.looked.stays c.args.edges.now c.loop-edge.edge-index c.edge-item.result c.loop-edge-test.true
@@ -48,3 +50,6 @@ loop-edge-preserved g c =
 pub returns-clause-regular : goal.returns-clause-regular
 returns-clause-regular g c =
     subst (λ (l : List ℕ). HaveAsked c.loop-edge.looks.seen.items (flat_map (links_of c.args.graph.now).regular l)) (take_all c.loop-edge.edge-index c.args.edges.now (omega arith)) c.loop-edge.invariant.asked
+
+pub returns-in_err-ask-clause-sums : goal.returns-in_err-ask-clause-sums
+returns-in_err-ask-clause-sums g c = c.ask.ensures.sums ∙ c.loop-edge.invariant.sums

@@ -1,5 +1,7 @@
 use Rattle.std.proofs.Common.{[], length, sym, subst}
 use Rattle.graph.specs.ReadingOf.{IsReadingOf, edges_in}
+use Rattle.judge.specs.declared.sums.Sums.{Sums}
+use Rattle.judge.specs.Summed.{AreSums}
 use Rattle.reasons.proofs.Telling.{within_of}
 use Rattle.reasons.proofs.told.due_command.Goals as goal
 
@@ -11,19 +13,21 @@ told_of-requires-clause-edges g c = within_of (length c.args.graph.now.manifest.
 
 pub returns-in_err-ask_for-clause-looked : goal.returns-in_err-ask_for-clause-looked
 returns-in_err-ask_for-clause-looked g c =
-    (c.looks_follow.ensures.follow g.S.Texts.tells (g.S.Texts.world c.args.site.now) (g.S.Texts.world c.reason.new.site) (g.S.Texts.world c.ask_for.new.site)).looked c.args.graph.now c.args.looks.now c.reason.new.looks c.ask_for.new.looks
+    (c.looks_follow.ensures.follow g.S.Texts.tells (g.S.Texts.world c.args.site.now) (g.S.Texts.world c.reason.new.site) (g.S.Texts.world c.ask_for.new.site)).looked c.args.graph.now c.args.looks.now c.reason.new.self c.ask_for.new.looks
     c.reason.ensures.looked c.ask_for.ensures.looked
 
 pub returns-in_err-ask_for-clause-summed : goal.returns-in_err-ask_for-clause-summed
-returns-in_err-ask_for-clause-summed g c = c.sums_follow.ensures.sums c.args.graph.now [] c.reason.new.looks.seen.items c.ask_for.new.looks.seen.items c.ask_for.ensures.looked.stays c.reason.new.sums c.reason.ensures.summed
+returns-in_err-ask_for-clause-summed g c = subst (λ (s : Sums). AreSums c.args.graph.now [] c.ask_for.new.looks.seen.items s) (sym {A = Sums} c.ask_for.ensures.sums)
+    (c.sums_follow.ensures.sums c.args.graph.now [] c.reason.new.self.seen.items c.ask_for.new.looks.seen.items c.ask_for.ensures.looked.stays c.reason.new.self.sums c.reason.ensures.summed)
 
 pub returns-clause-looked : goal.returns-clause-looked
 returns-clause-looked g c =
-    (c.looks_follow.ensures.follow g.S.Texts.tells (g.S.Texts.world c.args.site.now) (g.S.Texts.world c.reason.new.site) (g.S.Texts.world c.ask_for.new.site)).looked c.args.graph.now c.args.looks.now c.reason.new.looks c.ask_for.new.looks
+    (c.looks_follow.ensures.follow g.S.Texts.tells (g.S.Texts.world c.args.site.now) (g.S.Texts.world c.reason.new.site) (g.S.Texts.world c.ask_for.new.site)).looked c.args.graph.now c.args.looks.now c.reason.new.self c.ask_for.new.looks
     c.reason.ensures.looked c.ask_for.ensures.looked
 
 pub returns-clause-summed : goal.returns-clause-summed
-returns-clause-summed g c = c.sums_follow.ensures.sums c.args.graph.now [] c.reason.new.looks.seen.items c.ask_for.new.looks.seen.items c.ask_for.ensures.looked.stays c.reason.new.sums c.reason.ensures.summed
+returns-clause-summed g c = subst (λ (s : Sums). AreSums c.args.graph.now [] c.ask_for.new.looks.seen.items s) (sym {A = Sums} c.ask_for.ensures.sums)
+    (c.sums_follow.ensures.sums c.args.graph.now [] c.reason.new.self.seen.items c.ask_for.new.looks.seen.items c.ask_for.ensures.looked.stays c.reason.new.self.sums c.reason.ensures.summed)
 
 pub returns-clause-why : goal.returns-clause-why
 returns-clause-why g c =
@@ -39,7 +43,7 @@ returns-clause-why g c =
         from = a;
         to = b;
         first = c.args.looks.now;
-        second = c.reason.new.looks;
+        second = c.reason.new.self;
         earlier = (c.looks_follow.ensures.follow tells a a a).none graph c.args.looks.now;
         asked = c.reason.ensures.looked;
         later = c.ask_for.ensures.looked;
@@ -47,7 +51,7 @@ returns-clause-why g c =
       };
       there = d;
       seen = c.ask_for.new.looks;
-      earlier = (c.looks_follow.ensures.follow tells a b d).looked graph c.args.looks.now c.reason.new.looks c.ask_for.new.looks c.reason.ensures.looked c.ask_for.ensures.looked;
+      earlier = (c.looks_follow.ensures.follow tells a b d).looked graph c.args.looks.now c.reason.new.self c.ask_for.new.looks c.reason.ensures.looked c.ask_for.ensures.looked;
       later = (c.looks_follow.ensures.follow tells d d d).none graph c.ask_for.new.looks;
       edges = c.edges_of-edges.result.now;
       read = subst (IsReadingOf graph c.args.edge) (sym c.edges_of-edges.ensures) c.in_ok-reading.ensures;

@@ -8,12 +8,14 @@ use Rattle.reasons.proofs.told.tell_all.Goals as goal
 
 pub loop-edge-init : goal.loop-edge-init
 loop-edge-init g c = record {
-  looked = (c.looks_follow.ensures.follow g.S.Texts.tells (g.S.Texts.world c.args.site.now) (g.S.Texts.world c.args.site.now) (g.S.Texts.world c.args.site.now)).none c.args.graph.now c.args.looks.now;
+  looked =
+      let none = (c.looks_follow.ensures.follow g.S.Texts.tells (g.S.Texts.world c.args.site.now) (g.S.Texts.world c.args.site.now) (g.S.Texts.world c.args.site.now)).none c.args.graph.now c.args.looks.now in
+      record { looks = none.looks; fits = none.fits; seen = none.seen; stays = none.stays };
   unrefused = unrefused_none (g.S.Texts.world c.args.site.now) c.requires.running;
-  summed = c.new-sums.ensures.summed c.args.graph.now [] c.args.looks.now.seen.items;
+  summed = c.clear.ensures.summed c.args.graph.now [] c.args.looks.now.seen.items;
   fits = search rules;
   listed = ap (map edge_in) c.requires.none;
-  all = subst (AreWhy g.S.Texts.tells c.args.graph.now c.args.records.now c.args.flags.now (g.S.Texts.world c.args.site.now) (g.S.Texts.world c.args.site.now) c.args.looks.now c.args.looks.now) (sym c.requires.none) tt;
+  all = subst (AreWhy g.S.Texts.tells c.args.graph.now c.args.records.now c.args.flags.now (g.S.Texts.world c.args.site.now) (g.S.Texts.world c.args.site.now) c.args.looks.now (record { seen = c.args.looks.now.seen; sums = c.clear.new.self })) (sym c.requires.none) tt;
 }
 
 pub tell_one-requires-clause-within : goal.tell_one-requires-clause-within

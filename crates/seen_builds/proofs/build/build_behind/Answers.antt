@@ -38,10 +38,10 @@ returns-in-Ok g c =
       idle = idle_looking g.S.Texts.tells old world c.in-Ok.ensures.asks.looks c.requires.1.1.0;
       running = answered_running old world c.requires.1.1.1.0 c.in-Ok.ensures.asks.ok;
       own = subst (λ (folder : List ℕ). AreOwnIn folder c.in-Ok.entry.counts.own) c.as_str.ensures c.in-Ok.ensures.own;
-      makes = listed_law c.in-Ok.entry.counts.makers c.args.graph.now.manifest c.in-Ok.ensures.unbegun.table c.in-Ok.ensures.lists;
+      makes = listed_law c.in-Ok.entry.counts.makers c.args.graph.manifest c.in-Ok.ensures.unbegun.table c.in-Ok.ensures.lists;
       enters = c.in-Ok.ensures.enters;
       built = over_from g.S.Texts.tells c.in-Ok.entry old.history g.past world c.requires.1.0
-          (declared_by c.args.graph.now) c.args.asked.now (g.S.Texts.world c.build_from.result.1) c.build_from.result.0 c.build_from.ensures;
+          (declared_by c.args.graph) c.args.asked.now (g.S.Texts.world c.build_from.result.1) c.build_from.result.0 c.build_from.ensures;
     })
 
 pub returns-in-Err : goal.returns-in-Err

@@ -26,6 +26,6 @@ build_graph_read-report-requires g c =
 pub returns : goal.returns
 returns g c =
     is_over g.S.Texts.tells g.B.Beginning.begun (g.S.Texts.world c.args.site) (g.S.Texts.world c.over-seen.result.retold.site) (ap g.S.Texts.world c.over-seen.ensures)
-    (declared_by c.args.graph.now) c.args.asked.now (g.S.Texts.world c.into_site.result) (g.S.Texts.world c.build_graph_read-report.new.site.retold.site) c.build_graph_read-report.result
+    (declared_by c.args.graph) c.args.asked.now (g.S.Texts.world c.into_site.result) (g.S.Texts.world c.build_graph_read-report.new.site.retold.site) c.build_graph_read-report.result
     (ap g.S.Texts.world c.into_site.ensures) c.build_graph_read-report.new.site.retold.so_far c.build_graph_read-report.ensures
     c.build_graph_read-report.new.site.retold.stand

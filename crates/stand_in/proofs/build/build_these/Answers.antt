@@ -10,8 +10,8 @@ build_named-requires-clause-idle g c = subst (λ (w : World). IsIdle w.events) (
 
 pub build_named-requires-clause-ready : goal.build_named-requires-clause-ready
 build_named-requires-clause-ready g c =
-    subst (λ (w : World). (old : World) × IsReady g.S.Texts.tells g.S.Site.outcome c.args.options.now old w c.args.declared.now) (sym c.learn.ensures) c.requires.ready
+    subst (λ (w : World). (old : World) × IsReady g.S.Texts.tells g.S.Site.outcome c.args.options.now old w c.args.declared) (sym c.learn.ensures) c.requires.ready
 
 pub returns : goal.returns
 returns g c =
-    subst (λ (w : World). EndsOnceReady g.S.Texts.tells g.S.Site.outcome c.args.options.now c.args.declared.now w (g.S.Texts.world c.build_named.new.site) (outcome_in c.build_named.result)) c.learn.ensures c.build_named.ensures
+    subst (λ (w : World). EndsOnceReady g.S.Texts.tells g.S.Site.outcome c.args.options.now c.args.declared w (g.S.Texts.world c.build_named.new.site) (outcome_in c.build_named.result)) c.learn.ensures c.build_named.ensures

@@ -11,7 +11,7 @@ use Rattle.work.proofs.recorded.join_loaded.Goals as goal
 pub loop-loaded-init : goal.loop-loaded-init
 loop-loaded-init c = record {
   grown = more_none c.args.graph.now;
-  numbered = numbered_none c.args.graph.now (texts_of c.args.records.now) c.new-numbers.result.items c.new-numbers.ensures.items;
+  numbered = numbered_none c.args.graph.now (texts_of c.args.records.now) c.new-numbers.result.known.items c.new-numbers.ensures;
   others = λ e other. refl;
   joined = λ rs ds known all. record { grown = more_none c.args.graph.now; joined = λ e there. absurd (false≢true there); others = λ e other. refl };
 }

@@ -11,7 +11,7 @@ use Rattle.work.proofs.recorded.join_loaded.Given as goal
 abbrev pub invariant-loop-loaded : goal.invariant-loop-loaded
 invariant-loop-loaded l = record {
   grown : HasMorePaths l.fn.graph l.graph;
-  numbered : AreNumbered l.graph (texts_of l.records) l.numbers.items;
+  numbered : AreNumbered l.graph (texts_of l.records) l.numbers.known.items;
   others : (e : ℕ) → has_number (numbers_in l.edges) e ≡ false → list_at l.graph.recorded e ≡ list_at l.fn.graph.recorded e;
   joined : (rs : List Record) (ds : List DepsRecord) → AreKnown l.fn.graph rs ds l.records → AreToJoin (numbers_in l.edges) l.fn.graph rs ds → HasJoinedOf (numbers_in (take l.loaded-index l.edges)) l.fn.graph l.graph rs ds;
 }

@@ -8,6 +8,6 @@ use Rattle.work.proofs.recorded.join_recorded.Given as goal
 abbrev pub invariant-loop-place : goal.invariant-loop-place
 invariant-loop-place l = record {
   grown : HasMorePaths l.fn.graph l.graph;
-  numbered : AreNumbered l.graph (texts_of l.records) l.numbers.items;
+  numbered : AreNumbered l.graph (texts_of l.records) l.numbers.known.items;
   joined : (rs : List Record) (ds : List DepsRecord) → AreKnown l.fn.graph rs ds l.records → IsUnrecorded l.fn.graph → AreJoined l.graph rs ds l.place;
 }

@@ -1,7 +1,9 @@
-use Rattle.std.proofs.Common.{ap, sym, ◌∙◌, get_or, IfErr, rules}
+use Rattle.std.proofs.Common.{◌<◌, ℕ, List, ap, sym, ◌∙◌, get_or, length, subst, IfErr, arith, rules}
+use Rattle.std.specs.Prelude.{All}
 use Rattle.std.proofs.lemmas.List.{get_or_default}
 use Rattle.graph.specs.Links.{links_of}
 use Rattle.graph.specs.Cone.{IsConeFault}
+use Rattle.graph.specs.Places.{ArePlaces}
 use Rattle.graph.proofs.ConesOf.{cone_for_each, fault_in}
 use Rattle.graph.proofs.Walking.{cone_end, listed_within}
 use Rattle.graph.proofs.cone.Cone.of.Goals as goal
@@ -41,3 +43,22 @@ returns-clause-within c k d lt =
     let two = c.list_validators.new.self in
     listed_within (links_of one.graph.now) (links_of c.args.graph.now) one.requested.now two.order.items two.marks.items two.left.items two.stack.items
     (sym (ap links_of (c.in_ok-list_requested.ensures.walk.same ∙ c.in_ok-walk.ensures.walk.same))) c.in_ok-list_validators.ensures.walk.at k (get_or two.order.items k d) lt (get_or_default two.order.items k d 0 lt)
+
+pub places_of-requires : goal.places_of-requires
+places_of-requires c =
+    let one = c.list_requested.new.self in
+    let two = c.list_validators.new.self in
+    let within : All (λ e. e < c.edges.result) two.order.items =
+    λ k d lt. subst (λ (n : ℕ). get_or two.order.items k d < n) (sym c.edges.ensures)
+    (listed_within (links_of one.graph.now) (links_of c.args.graph.now) one.requested.now two.order.items two.marks.items two.left.items two.stack.items
+    (sym (ap links_of (c.in_ok-list_requested.ensures.walk.same ∙ c.in_ok-walk.ensures.walk.same))) c.in_ok-list_validators.ensures.walk.at k (get_or two.order.items k d) lt (get_or_default two.order.items k d 0 lt)) in
+    subst (All (λ e. e < c.edges.result)) (sym c.deref.ensures.value) within
+
+pub invariant_of-result-clause-sized : goal.invariant_of-result-clause-sized
+invariant_of-result-clause-sized c =
+    let two = c.list_validators.new.self in
+    let lines = ap (λ g. length g.manifest.lines) (c.in_ok-list_requested.ensures.walk.same ∙ c.in_ok-walk.ensures.walk.same) in
+    omega (arith, c.in_ok-places.ensures.sized, c.edges.ensures, c.in_ok-list_validators.ensures.walk.at.fits, lines, two.marks.ok.0)
+
+pub invariant_of-result-clause-placed : goal.invariant_of-result-clause-placed
+invariant_of-result-clause-placed c = subst (λ (l : List ℕ). ArePlaces l c.in_ok-places.places.items) c.deref.ensures.value c.in_ok-places.ensures.placed

@@ -1,15 +1,41 @@
-use Rattle.std.proofs.Common.{◌≡◌, ◌∙◌, ℕ, List, Option, Vec, Global, map, refl, sym, ap, subst, length}
+use Rattle.std.proofs.Common.{◌≡◌, ◌∙◌, ◌<◌, ℕ, List, Option, Vec, Global, map, refl, sym, ap, subst, length, get_or, arith}
+use Rattle.std.specs.Prelude.{All}
 use Rattle.paths.specs.declared.manifest.Action.{Action}
 use Rattle.paths.specs.Told.{texts_at}
-use Rattle.graph.specs.declared.graph.Graph.{Graph}
+use Rattle.graph.specs.declared.back.LoadedEdge.{LoadedEdge}
+use Rattle.graph.specs.declared.choice.Choice.{Choice}
+use Rattle.graph.specs.Chosen.{chosen_edges, choice_in, AreRising, IsWithin}
 use Rattle.graph.specs.Extended.{addition_of}
 use Rattle.graph.specs.Held.{AreMakers, AreUsers}
-use Rattle.graph.specs.Statements.{AreChosen, AreLoadedActions}
-use Rattle.graph.specs.Back.{AreLoadedEdges}
+use Rattle.graph.specs.InTurn.{AreGivenTo}
+use Rattle.graph.specs.Statements.{AreChosen, AreGrownLines, AreLoadedActions}
+use Rattle.graph.specs.Back.{loaded_all, AreLoadedEdges}
 use Rattle.graph.proofs.Ends.{none_twice}
+use Rattle.graph.proofs.Lone.{grown_alone}
 use Rattle.graph.proofs.Extending.{is_grown, dyndeps_loaded, recorded_loaded, recorded_same, by_number, defaults_same, refused}
 use Rattle.graph.proofs.TakingBack.{undone_by, loaded_are}
+use Rattle.graph.proofs.Undoing.{loaded_each}
 use Rattle.graph.proofs.graph.Graph.extend.Goals as goal
+
+pub loaded_edges-requires : goal.loaded_edges-requires
+loaded_edges-requires c k d low =
+    let graph = c.args.self.now in
+    let within : All (IsWithin (length graph.manifest.lines) (length c.args.additions.now)) c.deref.result.now =
+    subst (All (IsWithin (length graph.manifest.lines) (length c.args.additions.now))) (sym {A = List Choice} c.deref.ensures.value) c.in_ok-chosen.ensures.within in
+    let edge = (within k d low).edge in
+    let fits = graph.manifest.fits in
+    subst (λ (l : List Action). (get_or c.deref.result.now k d).edge < length l) (sym {A = List Action} c.as_slice.ensures) (omega (arith, edge, fits))
+
+pub load-requires-clause-makers : goal.load-requires-clause-makers
+load-requires-clause-makers c = subst (AreMakers c.args.self.now.manifest) (sym {A = List (Option ℕ)} c.as_slice-2.ensures.value) c.args.self.now.making
+
+pub load-requires-clause-rising : goal.load-requires-clause-rising
+load-requires-clause-rising c = subst (λ (l : List Choice). AreRising (chosen_edges l)) (sym {A = List Choice} c.deref-2.ensures.value) c.in_ok-chosen.ensures.rising
+
+pub load-requires-clause-within : goal.load-requires-clause-within
+load-requires-clause-within c =
+    let graph = c.args.self.now in
+    subst (All (IsWithin (length graph.manifest.lines) (length c.args.additions.now))) (sym {A = List Choice} c.deref-2.ensures.value) c.in_ok-chosen.ensures.within
 
 pub invariant_of-self : goal.invariant_of-self
 invariant_of-self c =
@@ -19,7 +45,7 @@ invariant_of-self c =
     record {
       apart = c.in-Ok.ensures.apart;
       making = subst (λ (makers : Vec (Option ℕ) Global). AreMakers now makers.items) (sym c.replace.ensures.after) c.in-Ok.ensures.makers;
-      dyndeps = dyndeps_loaded graph (map addition_of c.args.additions.now) c.deref-2.result.now loaded.gains now.lines now.actions loaded.lines loaded.actions;
+      dyndeps = dyndeps_loaded graph (map addition_of c.args.additions.now) (choice_in c.deref-2.result.now) loaded.gains now.lines now.actions loaded.lines loaded.actions;
       recording = recorded_loaded graph now loaded.paths loaded.lines.fits;
       using = subst (λ (users : List (List ℕ)). AreUsers now graph.recorded users) (sym c.replace-in-Ok.ensures.after) c.in-Ok.ensures.users;
     }
@@ -31,9 +57,10 @@ returns-in-Ok-clause-loaded c =
     let loaded = c.in-Ok.ensures.loaded in
     let additions = map addition_of c.args.additions.now in
     let once = none_twice graph.manifest graph.makers.items graph.making graph.apart in
-    let are : AreChosen graph c.args.file additions c.deref-2.result.now = subst (AreChosen graph c.args.file additions) (sym {A = List (Option ℕ)} c.deref-2.ensures.value) c.in_ok-chosen.ensures.chosen in
+    let are : AreChosen graph c.args.file additions (choice_in c.deref-2.result.now) =
+    subst (λ (l : List Choice). AreChosen graph c.args.file additions (choice_in l)) (sym {A = List Choice} c.deref-2.ensures.value) c.in_ok-chosen.ensures.chosen in
     record {
-      grown = is_grown graph once c.args.file c.requires additions c.deref-2.result.now are now.paths loaded.paths loaded.gains loaded.gained now.lines loaded.lines now.actions loaded.actions;
+      grown = is_grown graph once c.args.file c.requires additions (choice_in c.deref-2.result.now) are now.paths loaded.paths loaded.gains loaded.gained now.lines loaded.lines now.actions loaded.actions;
       once = none_twice now c.in-Ok.loaded.makers.items c.in-Ok.ensures.makers c.in-Ok.ensures.apart;
       pools = loaded.pools;
       defaults = ap (texts_at now.paths) loaded.defaults ∙ defaults_same graph now.paths loaded.paths;
@@ -54,32 +81,53 @@ returns-in-Ok-clause-before c =
     let additions = map addition_of c.args.additions.now in
     let chosen = c.in_ok-chosen.chosen.items in
     let edges = c.in_ok-edges.edges.items in
-    let are : AreChosen graph c.args.file additions chosen = c.in_ok-chosen.ensures.chosen in
-    let actions : AreLoadedActions graph.manifest.actions chosen additions now.actions = subst (λ (l : List (Option ℕ)). AreLoadedActions graph.manifest.actions l additions now.actions) c.deref-2.ensures.value loaded.actions in
-    let kept : AreLoadedEdges graph.manifest.actions chosen (length chosen) edges =
-    subst (λ (l : List (Option ℕ)). AreLoadedEdges graph.manifest.actions l (length l) edges) c.deref.ensures.value
-    (subst (λ (l : List Action). AreLoadedEdges l c.deref.result.now (length c.deref.result.now) edges) c.as_slice.ensures c.in_ok-edges.ensures) in
+    let are : AreChosen graph c.args.file additions (choice_in chosen) = c.in_ok-chosen.ensures.chosen in
+    let actions : AreLoadedActions graph.manifest.actions (choice_in chosen) additions now.actions =
+    subst (λ (l : List Choice). AreLoadedActions graph.manifest.actions (choice_in l) additions now.actions) c.deref-2.ensures.value loaded.actions in
+    let are_edges : edges ≡ loaded_all graph.manifest.actions chosen = c.in_ok-edges.ensures ∙ (ap (loaded_all c.as_slice.result.now) c.deref.ensures.value ∙ ap (λ (l : List Action). loaded_all l chosen) c.as_slice.ensures) in
+    let kept : AreLoadedEdges graph.manifest.actions (choice_in chosen) edges =
+    subst (AreLoadedEdges graph.manifest.actions (choice_in chosen)) (sym {A = List LoadedEdge} are_edges) (loaded_each graph.manifest.actions chosen c.in_ok-chosen.ensures.rising) in
     record {
       manifest = record {
-        lines = c.in-Ok.ensures.lines;
+        lines = subst (λ (l : List Choice). AreGivenTo c.in-Ok.loaded.gains.items l graph.manifest.lines now.lines) c.deref-2.ensures.value c.in-Ok.ensures.given;
         paths = c.len-known.ensures.count;
         more = loaded.paths;
-        actions = undone_by graph c.args.file c.requires additions chosen are edges kept now.actions actions;
+        actions = undone_by graph c.args.file c.requires additions (choice_in chosen) are edges kept now.actions actions;
         named = loaded.named;
         pools = loaded.pools;
         defaults = loaded.defaults;
         builddir = loaded.builddir;
       };
+      of = refl;
       makers = c.replace.ensures.value;
       users = c.replace-in-Ok.ensures.value;
       recorded = refl;
-      edges = loaded_are graph c.args.file c.requires additions chosen are edges kept;
+      edges = loaded_are graph c.args.file c.requires additions (choice_in chosen) are edges kept;
     }
 
-pub returns-clause-fault : goal.returns-clause-fault
-returns-clause-fault c =
+pub returns-in-Ok-clause-alone : goal.returns-in-Ok-clause-alone
+returns-in-Ok-clause-alone c =
+    let graph = c.args.self.now in
+    let now = c.load.new.manifest in
+    let loaded = c.in-Ok.ensures.loaded in
+    let additions = map addition_of c.args.additions.now in
+    let chosen = c.in_ok-chosen.chosen.items in
+    let edges = c.in_ok-edges.edges.items in
+    let are : AreChosen graph c.args.file additions (choice_in chosen) = c.in_ok-chosen.ensures.chosen in
+    let lines : AreGrownLines graph.manifest.lines (choice_in chosen) loaded.gains now.lines =
+    subst (λ (l : List Choice). AreGrownLines graph.manifest.lines (choice_in l) loaded.gains now.lines) c.deref-2.ensures.value loaded.lines in
+    let actions : AreLoadedActions graph.manifest.actions (choice_in chosen) additions now.actions =
+    subst (λ (l : List Choice). AreLoadedActions graph.manifest.actions (choice_in l) additions now.actions) c.deref-2.ensures.value loaded.actions in
+    let are_edges : edges ≡ loaded_all graph.manifest.actions chosen = c.in_ok-edges.ensures ∙ (ap (loaded_all c.as_slice.result.now) c.deref.ensures.value ∙ ap (λ (l : List Action). loaded_all l chosen) c.as_slice.ensures) in
+    let kept : AreLoadedEdges graph.manifest.actions (choice_in chosen) edges =
+    subst (AreLoadedEdges graph.manifest.actions (choice_in chosen)) (sym {A = List LoadedEdge} are_edges) (loaded_each graph.manifest.actions chosen c.in_ok-chosen.ensures.rising) in
+    grown_alone graph _ c.args.file additions (choice_in chosen) loaded.gains edges lines actions kept (loaded_are graph c.args.file c.requires additions (choice_in chosen) are edges kept) refl
+
+pub returns-in-Err-clause-fault : goal.returns-in-Err-clause-fault
+returns-in-Err-clause-fault c =
     let graph = c.args.self.now in
     let additions = map addition_of c.args.additions.now in
     let once = none_twice graph.manifest graph.makers.items graph.making graph.apart in
-    let are : AreChosen graph c.args.file additions c.deref-2.result.now = subst (AreChosen graph c.args.file additions) (sym {A = List (Option ℕ)} c.deref-2.ensures.value) c.in_ok-chosen.ensures.chosen in
-    refused graph once c.args.file c.requires additions c.deref-2.result.now are c.in-Err.fault c.in-Err.ensures.fault
+    let are : AreChosen graph c.args.file additions (choice_in c.deref-2.result.now) =
+    subst (λ (l : List Choice). AreChosen graph c.args.file additions (choice_in l)) (sym {A = List Choice} c.deref-2.ensures.value) c.in_ok-chosen.ensures.chosen in
+    refused graph once c.args.file c.requires additions (choice_in c.deref-2.result.now) are c.in-Err.fault c.in-Err.ensures.fault

@@ -1,4 +1,4 @@
-use Rattle.std.proofs.Common.{◌≡◌, ℕ, ◌<◌, true, List, length, sym, ◌∙◌, ap, subst, inl, inr, arith}
+use Rattle.std.proofs.Common.{◌≡◌, ℕ, ◌<◌, true, List, length, sym, ◌∙◌, ap, subst, inl, inr, arith, refl}
 use Rattle.std.proofs.lemmas.Bool.{false≢true}
 use Rattle.std.proofs.lemmas.List.{take_all, length-set}
 use Rattle.model.specs.Graph.{has_number}
@@ -11,6 +11,7 @@ use Rattle.judge.proofs.looks.Looks.ask.Goals as goal
 
 pub loop-path-init : goal.loop-path-init
 loop-path-init g c = record {
+  sums = refl;
   looked = looked_none g.S.Texts.tells c.args.graph.now (g.S.Texts.world c.args.site.now) c.args.self.now;
   unrefused = unrefused_none (g.S.Texts.world c.args.site.now) c.requires.running;
   asked = λ p none. absurd (false≢true none);
@@ -43,6 +44,7 @@ loop-path-preserved g c =
     let within : path < length c.loop-path.self.seen.items =
     subst (λ (n : ℕ). path < n) (sym (c.loop-path.invariant.looked.fits ∙ c.requires.fits)) (subst (λ (p : ℕ). p < length graph.manifest.paths) (sym {A = ℕ} c.path-item.is) (c.requires.within _ (item_has c.args.paths.now place path c.loop-path-test.true))) in
     record {
+      sums = c.stamp.ensures.sums ∙ c.loop-path.invariant.sums;
       looked = looked_then g.S.Texts.tells graph a b d c.args.self.now c.loop-path.self c.stamp.new.self c.loop-path.invariant.looked (record {
         looks = c.stamp.ensures.looks;
         fits = ap length c.in_ok-stamp.ensures.seen ∙ length-set c.loop-path.self.seen.items path (look_of c.in_ok-stamp.field-0);
@@ -62,3 +64,6 @@ loop-path-preserved g c =
 pub returns-clause-asked : goal.returns-clause-asked
 returns-clause-asked g c =
     subst (λ (l : List ℕ). (p : ℕ) → has_number l p ≡ true → is_asked (look_at c.loop-path.self.seen.items p) ≡ true) (take_all c.loop-path.path-index c.args.paths.now (omega arith)) c.loop-path.invariant.asked
+
+pub returns-in_err-stamp-clause-sums : goal.returns-in_err-stamp-clause-sums
+returns-in_err-stamp-clause-sums g c = c.stamp.ensures.sums ∙ c.loop-path.invariant.sums

@@ -10,6 +10,7 @@ loop-path-preserved c =
     let place = c.loop-path.path-index in
     let path = c.path-item.result in
     record {
+      sums = c.forget_one.ensures.sums ∙ c.loop-path.invariant.sums;
       forgotten = λ p h. elim (same_or_other path p) [
         | inl here ↦ subst (λ (q : ℕ). look_at c.forget_one.new.self.seen.items q ≡ Unasked) (sym {A = ℕ} here) c.forget_one.ensures.forgotten
         | inr other ↦ c.forget_one.ensures.others p other ∙ c.loop-path.invariant.forgotten p (there_before paths place path c.loop-path-test.true p h (λ is. other (is ∙ sym {A = ℕ} c.path-item.is)))

@@ -7,4 +7,4 @@ pub returns : goal.returns
 returns c =
     ap (λ (l : List ℕ). between l c.index-row.result.now.implicit_outputs c.index-row.result.now.order_only_inputs) c.deref.ensures.value
     ∙ inputs_are c.self.inside.numbers.items (line_at c.args.self.now c.args.edge) c.index-row.result.now
-    (row_found c.self.inside.numbers.items c.self.inside.rows.items c.args.self.now c.args.edge c.index.result c.index-row.result.now c.self.view_is c.self.invariant c.index.ensures.place c.requires c.index-row.ensures)
+    (row_found c.self.inside.numbers.items c.self.inside.rows.items c.args.self.now c.args.edge c.index.result c.index-row.result.now c.self.view_is c.self.invariant.lie c.index.ensures.place c.requires c.index-row.ensures)

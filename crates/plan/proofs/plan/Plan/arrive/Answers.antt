@@ -1,4 +1,6 @@
 use Rattle.std.proofs.Common.{◌≡◌, ◌∙◌, ℕ, ◌+◌, ◌<◌, Bool, true, false, cond, List, length, get_or, take, sym, ap, subst, arith}
+use Rattle.std.proofs.Math.ListN.{set}
+use Rattle.plan.specs.Coming.{IsComing}
 use Rattle.plan.specs.Flags.{has}
 use Rattle.graph.specs.Held.{times}
 use Rattle.graph.specs.Links.{links_of, needs_at}
@@ -6,7 +8,17 @@ use Rattle.plan.specs.declared.step.Standing.{Standing}
 use Rattle.plan.specs.Standing.{standing_at, awaits}
 use Rattle.plan.specs.Settling.{IsCounted, lowered}
 use Rattle.plan.proofs.Arriving.{IsTold, next_within, next_some, counted_all, told_next, still_more, read_number, read_flag, take_all}
+use Rattle.plan.proofs.FilesThere.{one_comes}
 use Rattle.plan.proofs.plan.Plan.arrive.Goals as goal
+
+pub invariant_of-self-clause-come : goal.invariant_of-self-clause-come
+invariant_of-self-clause-come c =
+    let plan = c.args.self.now in
+    let p = c.index-place.result in
+    let lt : p < length plan.there.items = omega (arith, c.if-place-len.false, c.len.ensures, plan.there.ok.0) in
+    let files = ap (λ v. v.items) c.note.ensures.files in
+    subst (λ (f : List Bool). IsComing plan.loads.items (set plan.there.items p true) f c.note.new.self.any) (sym {A = List Bool} files)
+    (one_comes plan.loads.items plan.there.items plan.coming.files.items plan.coming.any c.note.new.self.any p lt c.note.ensures.any plan.come)
 
 pub count_down-requires-clause-within : goal.count_down-requires-clause-within
 count_down-requires-clause-within c =

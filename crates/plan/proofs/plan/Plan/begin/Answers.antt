@@ -4,6 +4,7 @@ use Rattle.graph.specs.Links.{links_of}
 use Rattle.plan.specs.declared.step.Standing.{Standing}
 use Rattle.plan.specs.Plan.{IsReady}
 use Rattle.plan.specs.First.{AreCounts, IsIdle}
+use Rattle.plan.specs.Coming.{IsComing}
 use Rattle.plan.specs.Loads.{AreLoads}
 use Rattle.plan.proofs.Begun.{none_counted, none_waits, over_first}
 use Rattle.plan.proofs.plan.Plan.begin.Goals as goal
@@ -43,6 +44,11 @@ invariant_of-result-clause-tallied c = none_counted (links_of c.args.graph.now) 
 
 some_left : (n : ℕ) → 0 < n → not (n == 0) ≡ true
 some_left n some = ap not (false_from_ne_true (n == 0) (λ h. omega (arith, eqb-true n 0 h, some)))
+
+pub invariant_of-result-clause-come : goal.invariant_of-result-clause-come
+invariant_of-result-clause-come c =
+    subst (λ (l : List ℕ). IsComing l c.in_ok-there.there.items c.in_ok-coming.coming.files.items c.in_ok-coming.coming.any) c.deref-7.ensures.value
+    (subst (λ (l : List Bool). IsComing c.deref-7.result.now l c.in_ok-coming.coming.files.items c.in_ok-coming.coming.any) c.deref-8.ensures.value c.in_ok-coming.ensures)
 
 pub returns : goal.returns
 returns c =

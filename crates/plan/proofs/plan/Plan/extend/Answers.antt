@@ -4,6 +4,7 @@ use Rattle.graph.specs.Links.{links_of}
 use Rattle.plan.specs.declared.step.Standing.{Standing}
 use Rattle.plan.specs.Plan.{IsReady}
 use Rattle.plan.specs.First.{AreCounts}
+use Rattle.plan.specs.Coming.{IsComing}
 use Rattle.plan.specs.Loads.{AreLoads}
 use Rattle.plan.specs.Growing.{AreGrown, AreThere}
 use Rattle.plan.proofs.Passing.{half_after, pooled_after, loading_after}
@@ -29,6 +30,8 @@ invariant_of-self c =
           (subst (λ (l : List ℕ). IsReady c.deref-5.result.now l c.first_ready.new.ready c.first_ready.new.pending) c.deref-6.ensures.value c.first_ready.ensures.sets);
       waits = waits_grown links marks plan.standings.items standings.items grown plan.queue plan.waits;
       tallied = tallied_grown links marks plan.standings.items standings.items grown plan.running plan.failed plan.well plan.tallied;
+      come = subst (λ (l : List ℕ). IsComing l c.in_ok-there.there.items c.in_ok-coming.coming.files.items c.in_ok-coming.coming.any) c.deref-9.ensures.value
+          (subst (λ (l : List Bool). IsComing c.deref-9.result.now l c.in_ok-coming.coming.files.items c.in_ok-coming.coming.any) c.deref-10.ensures.value c.in_ok-coming.ensures);
     }
 
 pub settle_pending-requires : goal.settle_pending-requires

@@ -1,0 +1,155 @@
+use Rattle.std.proofs.Common.{◌≡◌, ◌↔◌, ◌<◌, ◌+◌, ℕ, [], map, List, Bool, true, false, Some, suc, get_or, length, sym, ◌∙◌, ap, subst, arith, take, rules}
+use Rattle.std.proofs.Math.ListN.{set, replicate}
+use Rattle.std.proofs.lemmas.Bool.{false≢true}
+use Rattle.std.proofs.lemmas.List.{take_all, length-set, get_or_default}
+use Rattle.model.specs.Graph.{has_number}
+use Rattle.model.specs.OutOfDate.{IsDue}
+use Rattle.model.specs.Records.{recorded_inputs}
+use Rattle.theory.specs.Order.{AreMakersFirst}
+use Rattle.theory.proofs.Orderly.{kept_orderly}
+use Rattle.theory.proofs.SiteCalls.{unrefused_none, unrefused_call, unrefused_then}
+use Rattle.graph.specs.Told.{declared_by}
+use Rattle.judge.specs.UnderWay.{judged_due}
+use Rattle.judge.specs.Dues.{AreDue, AreListed, AreMakersKnown, AreFoundClean, AwaitsJudgement, IsDueEdge, IsFoundClean}
+use Rattle.judge.proofs.CleanEdges.{clean_added, clean_one_more}
+use Rattle.judge.proofs.LooksStay.{looked_cleared}
+use Rattle.judge.proofs.Judging.{due_by_standing, judged_as, unjudged_as, awaits_none}
+use Rattle.judge.proofs.DueEdges.{makers_known, due_one_more, none_due, none_listed, listed_one_more}
+use Rattle.judge.proofs.NumbersAsTexts.{at_has}
+use Rattle.judge.proofs.FilesStay.{looked_then, quiet_both, quiet_first, quiet_second}
+use Rattle.judge.proofs.looks.Looks.due_edges.Goals as goal
+
+pub loop-edge-init : goal.loop-edge-init
+loop-edge-init g c =
+    let none : c.in_ok-due.due.items ≡ replicate c.edges.result false = c.in_ok-due.ensures.items_if_clones_equal (λ y h. h) in
+    record {
+      looked = looked_cleared g.S.Texts.tells c.args.graph.now (g.S.Texts.world c.args.site.now) c.args.self.now c.clear.new.self;
+      unrefused = unrefused_none (g.S.Texts.world c.args.site.now) c.requires.running;
+      summed = c.clear.ensures.summed c.args.graph.now [] c.args.self.now.seen.items;
+      fits = search rules;
+      listed = subst (λ (l : List Bool). AreListed c.args.cone.now.order.items l) (sym none) (none_listed c.args.cone.now.order.items c.edges.result);
+      due = λ store targets before way keeps told set kept seen has files alike.
+          subst (λ (l : List Bool). AreDue (declared_by c.args.graph.now).edges store before files [] l) (sym none) (none_due (declared_by c.args.graph.now).edges store before files c.edges.result);
+      clean = λ e listed. absurd (false≢true listed);
+    }
+
+pub judged_due-requires-clause-within : goal.judged_due-requires-clause-within
+judged_due-requires-clause-within g c =
+    let low = c.requires.order c.loop-edge.edge-index c.edge-item.result (subst (λ (l : List ℕ). c.loop-edge.edge-index < length l) c.as_slice-order.ensures.value c.loop-edge-test.true) in
+    subst (λ (e : ℕ). e < length c.args.graph.now.manifest.lines) (sym {A = ℕ} c.edge-item.is)
+    (subst (λ (l : List ℕ). get_or l c.loop-edge.edge-index c.edge-item.result < length c.args.graph.now.manifest.lines) (sym {A = List ℕ} c.as_slice-order.ensures.value) low)
+
+pub is_due-requires-clause-within : goal.is_due-requires-clause-within
+is_due-requires-clause-within g c =
+    let low = c.requires.order c.loop-edge.edge-index c.edge-item.result (subst (λ (l : List ℕ). c.loop-edge.edge-index < length l) c.as_slice-order.ensures.value c.loop-edge-test.true) in
+    subst (λ (e : ℕ). e < length c.args.graph.now.manifest.lines) (sym {A = ℕ} c.edge-item.is)
+    (subst (λ (l : List ℕ). get_or l c.loop-edge.edge-index c.edge-item.result < length c.args.graph.now.manifest.lines) (sym {A = List ℕ} c.as_slice-order.ensures.value) low)
+
+pub returns-in_err-due-2-clause-looked : goal.returns-in_err-due-2-clause-looked
+returns-in_err-due-2-clause-looked g c =
+    looked_then c.looks_follow.ensures.follow g.S.Texts.tells c.args.graph.now (g.S.Texts.world c.args.site.now) (g.S.Texts.world c.loop-edge.site) (g.S.Texts.world c.is_due.new.site) c.args.self.now c.loop-edge.self c.is_due.new.self c.loop-edge.invariant.looked c.is_due.ensures.looked
+
+pub index_mut-requires : goal.index_mut-requires
+index_mut-requires g c =
+    let low = c.requires.order c.loop-edge.edge-index c.edge-item.result (subst (λ (l : List ℕ). c.loop-edge.edge-index < length l) c.as_slice-order.ensures.value c.loop-edge-test.true) in
+    let same : c.edge-item.result ≡ get_or c.args.cone.now.order.items c.loop-edge.edge-index c.edge-item.result = c.edge-item.is ∙ ap (λ (l : List ℕ). get_or l c.loop-edge.edge-index c.edge-item.result) c.as_slice-order.ensures.value in
+    omega (arith, low, same, c.index.ensures.place, c.loop-edge.due.ok.0, c.loop-edge.invariant.fits)
+
+-- an edge that was judged is due as it was found, and no file is looked at
+pub loop-edge-preserved-in-Some : goal.loop-edge-preserved-in-Some
+loop-edge-preserved-in-Some g c =
+    let graph = c.args.graph.now in
+    let edges = (declared_by graph).edges in
+    let order = c.as_slice-order.result.now in
+    let place = c.loop-edge.edge-index in
+    let due = c.loop-edge.due.items in
+    let judged = c.in-Some.judged in
+    let low : get_or order place 0 < length graph.manifest.lines = subst (λ (l : List ℕ). get_or l place 0 < length graph.manifest.lines) (sym {A = List ℕ} c.as_slice-order.ensures.value)
+    (c.requires.order place 0 (subst (λ (l : List ℕ). place < length l) c.as_slice-order.ensures.value c.loop-edge-test.true)) in
+    let at : c.edge-item.result ≡ get_or order place 0 = c.edge-item.is ∙ get_or_default order place c.edge-item.result 0 c.loop-edge-test.true in
+    record {
+      looked = c.loop-edge.invariant.looked;
+      unrefused = c.loop-edge.invariant.unrefused;
+      summed = c.loop-edge.invariant.summed;
+      fits = length-set due c.index.result judged ∙ c.loop-edge.invariant.fits;
+      listed = subst (λ (e : ℕ). AreListed c.args.cone.now.order.items (set due e judged)) (sym {A = ℕ} (c.index.ensures.place ∙ at))
+          (listed_one_more c.args.cone.now.order.items due (get_or order place 0) judged
+          (subst (λ (l : List ℕ). has_number l (get_or order place 0) ≡ true) c.as_slice-order.ensures.value (at_has order place 0 c.loop-edge-test.true)) c.loop-edge.invariant.listed);
+      due = λ store targets before way keeps told paths kept seen has files alike.
+          let first = subst (λ (l : List ℕ). AreMakersFirst edges (recorded_inputs store edges) [] (map suc l)) (sym {A = List ℕ} c.as_slice-order.ensures.value) way.listed.ordered in
+          let stands = way.stands c.edge-item.result (subst (λ (l : List ℕ). has_number l c.edge-item.result ≡ true) c.as_slice-order.ensures.value (subst (λ (e : ℕ). has_number order e ≡ true) (sym at) (at_has order place 0 c.loop-edge-test.true))) in
+          let stood = judged_as graph c.lists_stand.ensures c.args.plan.now before c.edge-item.result stands judged (sym c.judged_due.ensures ∙ c.in-Some.is) in
+          let decided = due_by_standing edges before (kept_orderly edges before way.orderly) (suc c.edge-item.result) store files judged stood in
+          let so_far = c.loop-edge.invariant.due store targets before way keeps told paths kept seen has files alike in
+          subst (λ (e : ℕ). AreDue edges store before files (take (place + 1) order) (set due e judged)) (sym {A = ℕ} (c.index.ensures.place ∙ at))
+          (due_one_more edges store before files order first place c.loop-edge-test.true due so_far (omega (arith, low, c.loop-edge.invariant.fits)) judged
+          (subst (λ (e : ℕ). (judged ≡ true) ↔ IsDue edges store before files (suc e)) at decided));
+      clean =
+          let is : judged_due graph c.args.plan.now (get_or order place 0) ≡ Some judged = subst (λ (e : ℕ). judged_due graph c.args.plan.now e ≡ Some judged) at (sym c.judged_due.ensures ∙ c.in-Some.is) in
+          subst (λ (e : ℕ). AreFoundClean g.S.Texts.tells graph c.args.records.now c.args.plan.now (g.S.Texts.world c.args.site.now) (g.S.Texts.world c.loop-edge.site) c.args.self.now (take (place + 1) order) (set due e judged)) (sym {A = ℕ} (c.index.ensures.place ∙ at))
+          (clean_added g.S.Texts.tells graph c.args.records.now c.args.plan.now (g.S.Texts.world c.args.site.now) (g.S.Texts.world c.loop-edge.site) c.args.self.now order place c.loop-edge-test.true due (omega (arith, low, c.loop-edge.invariant.fits)) judged
+          c.loop-edge.invariant.clean (λ not_due awaits. absurd (awaits_none graph c.args.plan.now (get_or order place 0) judged awaits is)));
+    }
+
+pub index_mut-requires-in-loop-edge : goal.index_mut-requires-in-loop-edge
+index_mut-requires-in-loop-edge g c =
+    let low = c.requires.order c.loop-edge.edge-index c.edge-item.result (subst (λ (l : List ℕ). c.loop-edge.edge-index < length l) c.as_slice-order.ensures.value c.loop-edge-test.true) in
+    let same : c.edge-item.result ≡ get_or c.args.cone.now.order.items c.loop-edge.edge-index c.edge-item.result = c.edge-item.is ∙ ap (λ (l : List ℕ). get_or l c.loop-edge.edge-index c.edge-item.result) c.as_slice-order.ensures.value in
+    omega (arith, low, same, c.index-in-loop-edge.ensures.place, c.loop-edge.due.ok.0, c.loop-edge.invariant.fits)
+
+pub loop-edge-preserved : goal.loop-edge-preserved
+loop-edge-preserved g c =
+    let graph = c.args.graph.now in
+    let edges = (declared_by graph).edges in
+    let order = c.as_slice-order.result.now in
+    let place = c.loop-edge.edge-index in
+    let due = c.loop-edge.due.items in
+    let low : get_or order place 0 < length graph.manifest.lines = subst (λ (l : List ℕ). get_or l place 0 < length graph.manifest.lines) (sym {A = List ℕ} c.as_slice-order.ensures.value)
+    (c.requires.order place 0 (subst (λ (l : List ℕ). place < length l) c.as_slice-order.ensures.value c.loop-edge-test.true)) in
+    let at : c.edge-item.result ≡ get_or order place 0 = c.edge-item.is ∙ get_or_default order place c.edge-item.result 0 c.loop-edge-test.true in
+    record {
+      looked = looked_then c.looks_follow.ensures.follow g.S.Texts.tells c.args.graph.now (g.S.Texts.world c.args.site.now) (g.S.Texts.world c.loop-edge.site) (g.S.Texts.world c.is_due.new.site) c.args.self.now c.loop-edge.self c.is_due.new.self c.loop-edge.invariant.looked c.is_due.ensures.looked;
+      unrefused = unrefused_then (g.S.Texts.world c.args.site.now) (g.S.Texts.world c.loop-edge.site) (g.S.Texts.world c.is_due.new.site) c.loop-edge.invariant.unrefused (unrefused_call (g.S.Texts.world c.loop-edge.site) (g.S.Texts.world c.is_due.new.site) _ c.in_ok-due-2.ensures.cause);
+      summed = c.is_due.ensures.summed;
+      fits = length-set due c.index-in-loop-edge.result c.in_ok-due-2.field-0 ∙ c.loop-edge.invariant.fits;
+      listed = subst (λ (e : ℕ). AreListed c.args.cone.now.order.items (set due e c.in_ok-due-2.field-0)) (sym {A = ℕ} (c.index-in-loop-edge.ensures.place ∙ at))
+          (listed_one_more c.args.cone.now.order.items due (get_or order place 0) c.in_ok-due-2.field-0
+          (subst (λ (l : List ℕ). has_number l (get_or order place 0) ≡ true) c.as_slice-order.ensures.value (at_has order place 0 c.loop-edge-test.true)) c.loop-edge.invariant.listed);
+      due = λ store targets before way.
+          let first = subst (λ (l : List ℕ). AreMakersFirst edges (recorded_inputs store edges) [] (map suc l)) (sym {A = List ℕ} c.as_slice-order.ensures.value) way.listed.ordered in
+          let stands = way.stands c.edge-item.result (subst (λ (l : List ℕ). has_number l c.edge-item.result ≡ true) c.as_slice-order.ensures.value (subst (λ (e : ℕ). has_number order e ≡ true) (sym at) (at_has order place 0 c.loop-edge-test.true))) in
+          let unjudged = unjudged_as graph c.lists_stand.ensures c.args.plan.now before c.edge-item.result stands (kept_orderly edges before way.orderly) (sym c.judged_due.ensures ∙ c.in_default.is) in
+          quiet_both g.S.Texts.tells graph (g.S.Texts.world c.args.site.now) (g.S.Texts.world c.is_due.new.site) c.args.self.now store targets before
+          (λ files. AreDue edges store before files (take place order) due) (λ files. IsDueEdge graph store before c.deref.result.now c.edge-item.result files c.in_ok-due-2.field-0)
+          (λ files. AreDue edges store before files (take (place + 1) order) (set due c.index-in-loop-edge.result c.in_ok-due-2.field-0))
+          (λ files so_far said.
+          let known = makers_known edges store before files order first place c.loop-edge-test.true due so_far in
+          let known_here = subst (λ (l : List Bool). AreMakersKnown edges store before files l (suc (get_or order place 0))) (sym {A = List Bool} c.deref.ensures.value) known in
+          let decided = said (subst (λ (e : ℕ). AreMakersKnown edges store before files c.deref.result.now (suc e)) (sym {A = ℕ} at) known_here) in
+          subst (λ (e : ℕ). AreDue edges store before files (take (place + 1) order) (set due e c.in_ok-due-2.field-0)) (sym {A = ℕ} (c.index-in-loop-edge.ensures.place ∙ at))
+          (due_one_more edges store before files order first place c.loop-edge-test.true due so_far (omega (arith, low, c.loop-edge.invariant.fits)) c.in_ok-due-2.field-0
+          (subst (λ (e : ℕ). (c.in_ok-due-2.field-0 ≡ true) ↔ IsDue edges store before files (suc e)) at decided)))
+          (quiet_first c.looks_follow.ensures.follow c.looks_follow.ensures.stay g.S.Texts.tells graph (g.S.Texts.world c.args.site.now) (g.S.Texts.world c.loop-edge.site) (g.S.Texts.world c.is_due.new.site) c.args.self.now c.loop-edge.self c.loop-edge.invariant.looked c.is_due.ensures.looked.looks store targets before (λ files. AreDue edges store before files (take place order) due) (c.loop-edge.invariant.due store targets before way))
+          (quiet_second c.looks_follow.ensures.follow c.looks_follow.ensures.stay g.S.Texts.tells graph (g.S.Texts.world c.args.site.now) (g.S.Texts.world c.loop-edge.site) (g.S.Texts.world c.is_due.new.site) c.args.self.now c.loop-edge.self c.loop-edge.invariant.looked c.is_due.ensures.looked.looks store targets before (λ files. IsDueEdge graph store before c.deref.result.now c.edge-item.result files c.in_ok-due-2.field-0)
+          (c.in_ok-due-2.ensures.due store targets before way.known way.orderly unjudged));
+      clean =
+          subst (λ (e : ℕ). AreFoundClean g.S.Texts.tells graph c.args.records.now c.args.plan.now (g.S.Texts.world c.args.site.now) (g.S.Texts.world c.is_due.new.site) c.args.self.now (take (place + 1) order) (set due e c.in_ok-due-2.field-0)) (sym {A = ℕ} (c.index-in-loop-edge.ensures.place ∙ at))
+          (clean_one_more c.looks_follow.ensures.follow c.looks_follow.ensures.stay g.S.Texts.tells graph c.args.records.now c.args.plan.now (g.S.Texts.world c.args.site.now) (g.S.Texts.world c.loop-edge.site) (g.S.Texts.world c.is_due.new.site) c.args.self.now c.loop-edge.self
+          c.loop-edge.invariant.looked c.is_due.ensures.looked.looks order place c.loop-edge-test.true due (omega (arith, low, c.loop-edge.invariant.fits)) c.in_ok-due-2.field-0 c.loop-edge.invariant.clean
+          (subst (λ (e : ℕ). c.in_ok-due-2.field-0 ≡ false → AwaitsJudgement graph c.args.plan.now e → IsFoundClean g.S.Texts.tells graph c.args.records.now (g.S.Texts.world c.loop-edge.site) (g.S.Texts.world c.is_due.new.site) c.loop-edge.self e) at (λ not_due awaits. c.in_ok-due-2.ensures.clean not_due awaits.0)));
+    }
+
+pub returns-clause-due : goal.returns-clause-due
+returns-clause-due g c store targets before way keeps told set kept seen has files alike =
+    let order = c.as_slice-order.result.now in
+    let whole : take c.loop-edge.edge-index order ≡ c.args.cone.now.order.items = take_all c.loop-edge.edge-index order (omega arith) ∙ c.as_slice-order.ensures.value in
+    subst (λ (l : List ℕ). AreDue (declared_by c.args.graph.now).edges store before files l c.loop-edge.due.items) whole (c.loop-edge.invariant.due store targets before way keeps told set kept seen has files alike)
+
+pub returns-clause-listed : goal.returns-clause-listed
+returns-clause-listed g c = c.loop-edge.invariant.listed
+
+pub returns-clause-clean : goal.returns-clause-clean
+returns-clause-clean g c =
+    let order = c.as_slice-order.result.now in
+    let whole : take c.loop-edge.edge-index order ≡ c.args.cone.now.order.items = take_all c.loop-edge.edge-index order (omega arith) ∙ c.as_slice-order.ensures.value in
+    subst (λ (l : List ℕ). AreFoundClean g.S.Texts.tells c.args.graph.now c.args.records.now c.args.plan.now (g.S.Texts.world c.args.site.now) (g.S.Texts.world c.loop-edge.site) c.args.self.now l c.loop-edge.due.items) whole c.loop-edge.invariant.clean

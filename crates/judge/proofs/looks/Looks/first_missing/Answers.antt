@@ -1,0 +1,44 @@
+use Rattle.std.proofs.Common.{◌≡◌, ◌<◌, ℕ, true, List, length, sym, subst, arith}
+use Rattle.std.proofs.lemmas.List.{take_all}
+use Rattle.model.specs.Graph.{has_number}
+use Rattle.model.specs.OutOfDate.{NoneIsMissing}
+use Rattle.theory.proofs.SiteCalls.{unrefused_call, unrefused_then}
+use Rattle.paths.specs.Told.{texts_at}
+use Rattle.graph.specs.Told.{declared_by}
+use Rattle.judge.proofs.Lacking.{missing_passed, missing_found}
+use Rattle.judge.proofs.NumbersAsTexts.{at_has}
+use Rattle.judge.proofs.FilesStay.{looked_then}
+use Rattle.judge.proofs.looks.Looks.first_missing.Goals as goal
+
+pub returns-in_err-is_missing-clause-looked : goal.returns-in_err-is_missing-clause-looked
+returns-in_err-is_missing-clause-looked g c =
+    looked_then c.looks_follow.ensures.follow g.S.Texts.tells c.args.graph.now (g.S.Texts.world c.args.site.now) (g.S.Texts.world c.loop-path.site) (g.S.Texts.world c.is_missing.new.site) c.args.self.now c.loop-path.self c.is_missing.new.self c.loop-path.invariant.looked c.is_missing.ensures.looked
+
+pub returns-then-branch-clause-looked : goal.returns-then-branch-clause-looked
+returns-then-branch-clause-looked g c =
+    looked_then c.looks_follow.ensures.follow g.S.Texts.tells c.args.graph.now (g.S.Texts.world c.args.site.now) (g.S.Texts.world c.loop-path.site) (g.S.Texts.world c.is_missing.new.site) c.args.self.now c.loop-path.self c.is_missing.new.self c.loop-path.invariant.looked c.is_missing.ensures.looked
+
+pub returns-then-branch-clause-first : goal.returns-then-branch-clause-first
+returns-then-branch-clause-first g c =
+    missing_found c.looks_follow.ensures.follow c.looks_follow.ensures.stay g.S.Texts.tells c.args.graph.now (g.S.Texts.world c.args.site.now) (g.S.Texts.world c.loop-path.site) (g.S.Texts.world c.is_missing.new.site) c.args.self.now c.loop-path.self c.loop-path.invariant.looked c.is_missing.ensures.looked.looks c.args.paths.now c.loop-path.path-index c.path-item.result c.loop-path-test.true c.loop-path.invariant.none
+    c.path-item.result c.path-item.is c.in_ok-is_missing.field-0 c.in_ok-is_missing.ensures.missing (cc)
+
+pub loop-path-preserved : goal.loop-path-preserved
+loop-path-preserved g c = record {
+  looked = looked_then c.looks_follow.ensures.follow g.S.Texts.tells c.args.graph.now (g.S.Texts.world c.args.site.now) (g.S.Texts.world c.loop-path.site) (g.S.Texts.world c.is_missing.new.site) c.args.self.now c.loop-path.self c.is_missing.new.self c.loop-path.invariant.looked c.is_missing.ensures.looked;
+  unrefused = unrefused_then (g.S.Texts.world c.args.site.now) (g.S.Texts.world c.loop-path.site) (g.S.Texts.world c.is_missing.new.site) c.loop-path.invariant.unrefused (unrefused_call (g.S.Texts.world c.loop-path.site) (g.S.Texts.world c.is_missing.new.site) _ c.in_ok-is_missing.ensures.cause);
+  none = missing_passed c.looks_follow.ensures.follow c.looks_follow.ensures.stay g.S.Texts.tells c.args.graph.now (g.S.Texts.world c.args.site.now) (g.S.Texts.world c.loop-path.site) (g.S.Texts.world c.is_missing.new.site) c.args.self.now c.loop-path.self c.loop-path.invariant.looked c.is_missing.ensures.looked.looks c.args.paths.now c.loop-path.path-index c.path-item.result c.loop-path-test.true c.loop-path.invariant.none
+      c.path-item.result c.path-item.is c.in_ok-is_missing.field-0 c.in_ok-is_missing.ensures.missing (cc);
+}
+
+pub returns-clause-first : goal.returns-clause-first
+returns-clause-first g c told set kept seen files same fit =
+    subst (λ (l : List ℕ). NoneIsMissing (declared_by c.args.graph.now).edges files (texts_at c.args.graph.now.manifest.paths l)) (take_all c.loop-path.path-index c.args.paths.now (omega arith))
+    (c.loop-path.invariant.none told set kept seen files same fit)
+
+pub returns-then-branch-clause-within : goal.returns-then-branch-clause-within
+returns-then-branch-clause-within g c = record {
+  within = subst (λ (p : ℕ). p < length c.args.graph.now.manifest.paths) (sym {A = ℕ} c.path-item.is) (c.requires.within c.loop-path.path-index c.path-item.result c.loop-path-test.true);
+  listed = subst (λ (p : ℕ). has_number c.args.paths.now p ≡ true) (sym {A = ℕ} c.path-item.is) (at_has c.args.paths.now c.loop-path.path-index c.path-item.result c.loop-path-test.true);
+  source = c.in_ok-is_missing.ensures.source (cc);
+}

@@ -1,0 +1,42 @@
+use Rattle.std.proofs.Common.{◌≡◌, ℕ, true, Option, Some, IfSome, subst, arith}
+use Rattle.theory.proofs.SiteCalls.{unrefused_call, unrefused_then}
+use Rattle.judge.specs.Dues.{due_at}
+use Rattle.judge.specs.Lacks.{IsSourceFor}
+use Rattle.judge.proofs.Lacking.{edge_passed, edge_found}
+use Rattle.judge.proofs.FilesStay.{looked_then}
+use Rattle.judge.proofs.looks.Looks.lack_of_due.Goals as goal
+
+pub returns-in_err-path-clause-looked : goal.returns-in_err-path-clause-looked
+returns-in_err-path-clause-looked g c =
+    looked_then c.looks_follow.ensures.follow g.S.Texts.tells c.args.graph.now (g.S.Texts.world c.args.site.now) (g.S.Texts.world c.loop-place.site) (g.S.Texts.world c.missing_of_edge.new.site) c.args.self.now c.loop-place.self c.missing_of_edge.new.self c.loop-place.invariant.looked c.missing_of_edge.ensures.looked
+
+pub returns-in-Some-clause-looked : goal.returns-in-Some-clause-looked
+returns-in-Some-clause-looked g c =
+    looked_then c.looks_follow.ensures.follow g.S.Texts.tells c.args.graph.now (g.S.Texts.world c.args.site.now) (g.S.Texts.world c.loop-place.site) (g.S.Texts.world c.missing_of_edge.new.site) c.args.self.now c.loop-place.self c.missing_of_edge.new.self c.loop-place.invariant.looked c.missing_of_edge.ensures.looked
+
+pub returns-in-Some-clause-found : goal.returns-in-Some-clause-found
+returns-in-Some-clause-found g c =
+    edge_found c.looks_follow.ensures.follow c.looks_follow.ensures.stay g.S.Texts.tells c.args.graph.now (g.S.Texts.world c.args.site.now) (g.S.Texts.world c.loop-place.site) (g.S.Texts.world c.missing_of_edge.new.site) c.args.self.now c.loop-place.self c.loop-place.invariant.looked c.missing_of_edge.ensures.looked.looks c.args.due.now c.loop-place.place c.loop-place.invariant.none c.edge-edge.result c.edge-edge.ensures
+    c.in_ok-path.field-0 c.in_ok-path.ensures.first c.in-Some.path (cc)
+
+pub loop-place-preserved : goal.loop-place-preserved
+loop-place-preserved g c = record {
+  looked = looked_then c.looks_follow.ensures.follow g.S.Texts.tells c.args.graph.now (g.S.Texts.world c.args.site.now) (g.S.Texts.world c.loop-place.site) (g.S.Texts.world c.missing_of_edge.new.site) c.args.self.now c.loop-place.self c.missing_of_edge.new.self c.loop-place.invariant.looked c.missing_of_edge.ensures.looked;
+  unrefused = unrefused_then (g.S.Texts.world c.args.site.now) (g.S.Texts.world c.loop-place.site) (g.S.Texts.world c.missing_of_edge.new.site) c.loop-place.invariant.unrefused (unrefused_call (g.S.Texts.world c.loop-place.site) (g.S.Texts.world c.missing_of_edge.new.site) _ c.in_ok-path.ensures.cause);
+  none = edge_passed c.looks_follow.ensures.follow c.looks_follow.ensures.stay g.S.Texts.tells c.args.graph.now (g.S.Texts.world c.args.site.now) (g.S.Texts.world c.loop-place.site) (g.S.Texts.world c.missing_of_edge.new.site) c.args.self.now c.loop-place.self c.loop-place.invariant.looked c.missing_of_edge.ensures.looked.looks c.args.due.now c.loop-place.place c.loop-place.invariant.none c.edge-edge.result c.edge-edge.ensures
+      c.in_ok-path.field-0 c.in_ok-path.ensures.first (cc);
+}
+
+pub returns-clause-found : goal.returns-clause-found
+returns-clause-found g c told set kept seen files same all e lt due = c.loop-place.invariant.none told set kept seen files same all e (omega (arith, lt, c.loop-place-test.false, c.edges-place-end.ensures)) due
+
+pub returns-in-Some-clause-named : goal.returns-in-Some-clause-named
+returns-in-Some-clause-named g c =
+    let is : c.in_ok-path.field-0 ≡ Some c.in-Some.path = cc in
+    subst (λ (o : Option ℕ). IfSome o (λ path. due_at c.args.due.now c.edge-edge.result ≡ true)) is c.in_ok-path.ensures.marked
+
+pub returns-in-Some-clause-within : goal.returns-in-Some-clause-within
+returns-in-Some-clause-within g c =
+    let is : c.in_ok-path.field-0 ≡ Some c.in-Some.path = cc in
+    let named = subst (λ (o : Option ℕ). IfSome o (IsSourceFor c.args.graph.now c.edge-edge.result)) is c.in_ok-path.ensures.within in
+    record { path = named.within; edge = omega (arith, c.edge-edge.ensures, c.loop-place-test.true, c.edges-place-end.ensures); source = named.source; input = named.input }

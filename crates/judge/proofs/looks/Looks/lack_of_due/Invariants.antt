@@ -1,0 +1,14 @@
+use Rattle.theory.specs.Seen.{Unrefused}
+use Rattle.graph.specs.Told.{declared_by}
+use Rattle.judge.specs.Looking.{HasLooked}
+use Rattle.judge.specs.Quiet.{IfStill}
+use Rattle.judge.specs.Lacks.{NoneBelow}
+use Rattle.judge.specs.Dues.{HasAllSources}
+use Rattle.judge.proofs.looks.Looks.lack_of_due.Given as goal
+
+abbrev pub invariant-loop-place : goal.invariant-loop-place
+invariant-loop-place g l = record {
+  looked : HasLooked g.S.Texts.tells l.graph (g.S.Texts.world l.fn.site) (g.S.Texts.world l.site) l.fn.self l.self;
+  unrefused : Unrefused (g.S.Texts.world l.fn.site) (g.S.Texts.world l.site);
+  none : IfStill g.S.Texts.tells l.graph (g.S.Texts.world l.fn.site) (g.S.Texts.world l.site) l.fn.self (λ set files. HasAllSources set l.graph → NoneBelow (declared_by l.graph).edges l.due files l.place);
+}

@@ -1,0 +1,82 @@
+use Rattle.std.proofs.Common.{◌≡◌, List, ℕ, Bool, true, Option, Some, None, IfSome, sym, subst}
+use Rattle.model.specs.Graph.{has_number}
+use Rattle.judge.specs.Dues.{AreSourcesIn}
+use Rattle.judge.specs.declared.lack.Lack.{Lack}
+use Rattle.judge.specs.Lacks.{IsFirstIn, IsFoundOfDue, IsSourceOf, IsLackOf, NamesDue}
+use Rattle.judge.proofs.CleanEdges.{clean_first, clean_second}
+use Rattle.judge.proofs.Finding.{target_found, due_told, all_found, asked_by}
+use Rattle.judge.proofs.FilesStay.{looked_then}
+use Rattle.judge.proofs.looks.Looks.sources.Goals as goal
+
+pub returns-in_err-due-in-None-clause-looked : goal.returns-in_err-due-in-None-clause-looked
+returns-in_err-due-in-None-clause-looked g c =
+    looked_then c.looks_follow.ensures.follow g.S.Texts.tells c.args.graph.now (g.S.Texts.world c.args.site.now) (g.S.Texts.world c.first_missing.new.site) (g.S.Texts.world c.due_edges.new.site) c.args.self.now c.first_missing.new.self c.due_edges.new.self c.first_missing.ensures.looked c.due_edges.ensures.looked
+
+pub returns-in_err-lack-in-None-clause-looked : goal.returns-in_err-lack-in-None-clause-looked
+returns-in_err-lack-in-None-clause-looked g c =
+    looked_then c.looks_follow.ensures.follow g.S.Texts.tells c.args.graph.now (g.S.Texts.world c.args.site.now) (g.S.Texts.world c.due_edges.new.site) (g.S.Texts.world c.lack_of_due.new.site) c.args.self.now c.due_edges.new.self c.lack_of_due.new.self (looked_then c.looks_follow.ensures.follow g.S.Texts.tells c.args.graph.now (g.S.Texts.world c.args.site.now) (g.S.Texts.world c.first_missing.new.site) (g.S.Texts.world c.due_edges.new.site) c.args.self.now c.first_missing.new.self c.due_edges.new.self c.first_missing.ensures.looked c.due_edges.ensures.looked) c.lack_of_due.ensures.looked
+
+pub returns-in-Some-2-clause-looked : goal.returns-in-Some-2-clause-looked
+returns-in-Some-2-clause-looked g c =
+    looked_then c.looks_follow.ensures.follow g.S.Texts.tells c.args.graph.now (g.S.Texts.world c.args.site.now) (g.S.Texts.world c.due_edges.new.site) (g.S.Texts.world c.lack_of_due.new.site) c.args.self.now c.due_edges.new.self c.lack_of_due.new.self (looked_then c.looks_follow.ensures.follow g.S.Texts.tells c.args.graph.now (g.S.Texts.world c.args.site.now) (g.S.Texts.world c.first_missing.new.site) (g.S.Texts.world c.due_edges.new.site) c.args.self.now c.first_missing.new.self c.due_edges.new.self c.first_missing.ensures.looked c.due_edges.ensures.looked) c.lack_of_due.ensures.looked
+
+pub returns-in-None-2-clause-looked : goal.returns-in-None-2-clause-looked
+returns-in-None-2-clause-looked g c =
+    looked_then c.looks_follow.ensures.follow g.S.Texts.tells c.args.graph.now (g.S.Texts.world c.args.site.now) (g.S.Texts.world c.due_edges.new.site) (g.S.Texts.world c.lack_of_due.new.site) c.args.self.now c.due_edges.new.self c.lack_of_due.new.self (looked_then c.looks_follow.ensures.follow g.S.Texts.tells c.args.graph.now (g.S.Texts.world c.args.site.now) (g.S.Texts.world c.first_missing.new.site) (g.S.Texts.world c.due_edges.new.site) c.args.self.now c.first_missing.new.self c.due_edges.new.self c.first_missing.ensures.looked c.due_edges.ensures.looked) c.lack_of_due.ensures.looked
+
+pub returns-in-Some-clause-found : goal.returns-in-Some-clause-found
+returns-in-Some-clause-found g c store targets before way =
+    let graph = c.args.graph.now in
+    target_found c.looks_follow.ensures.follow c.looks_follow.ensures.stay g.S.Texts.tells graph c.lists_stand.ensures c.args.records.now c.args.cone.now c.args.plan.now store targets before way c.requires.targets (g.S.Texts.world c.args.site.now) (g.S.Texts.world c.first_missing.new.site) c.args.self.now c.in-Some.path
+    (λ told set kept seen files same fit. subst (λ (l : List ℕ). IsFirstIn graph l files (Some c.in-Some.path)) c.as_slice-targets.ensures.value (subst (IsFirstIn graph c.as_slice-targets.result.now files) c.in-Some.is (c.in_ok-path.ensures.first told set kept seen files same (subst (AreSourcesIn set graph) (sym {A = List ℕ} c.as_slice-targets.ensures.value) fit))))
+
+pub returns-in-Some-2-clause-found : goal.returns-in-Some-2-clause-found
+returns-in-Some-2-clause-found g c store targets before way =
+    let graph = c.args.graph.now in
+    all_found c.looks_follow.ensures.follow c.looks_follow.ensures.stay g.S.Texts.tells graph c.lists_stand.ensures c.args.records.now c.args.cone.now c.args.plan.now store targets before way c.requires.targets (g.S.Texts.world c.args.site.now) (g.S.Texts.world c.first_missing.new.site) c.args.self.now (g.S.Texts.world c.due_edges.new.site) (g.S.Texts.world c.lack_of_due.new.site) c.first_missing.new.self c.due_edges.new.self c.lack_of_due.new.self c.first_missing.ensures.looked c.due_edges.ensures.looked c.lack_of_due.ensures.looked c.in_ok-due-in-None.due.items (c.in_ok-due-in-None.ensures.due store targets before way)
+    (λ told set kept seen files same fit. subst (λ (l : List ℕ). IsFirstIn graph l files None) c.as_slice-targets.ensures.value (subst (IsFirstIn graph c.as_slice-targets.result.now files) c.in-None.is (c.in_ok-path.ensures.first told set kept seen files same (subst (AreSourcesIn set graph) (sym {A = List ℕ} c.as_slice-targets.ensures.value) fit)))) (Some c.in-Some-2.lack)
+    (λ told set kept seen files same fit.
+    subst (λ (l : List Bool). IsFoundOfDue graph l files (Some c.in-Some-2.lack)) c.deref.ensures.value (subst (IsFoundOfDue graph c.deref.result.now files) c.in-Some-2.is (c.in_ok-lack-in-None.ensures.found told set kept seen files same fit)))
+
+pub returns-in-None-2-clause-found : goal.returns-in-None-2-clause-found
+returns-in-None-2-clause-found g c store targets before way =
+    let graph = c.args.graph.now in
+    all_found c.looks_follow.ensures.follow c.looks_follow.ensures.stay g.S.Texts.tells graph c.lists_stand.ensures c.args.records.now c.args.cone.now c.args.plan.now store targets before way c.requires.targets (g.S.Texts.world c.args.site.now) (g.S.Texts.world c.first_missing.new.site) c.args.self.now (g.S.Texts.world c.due_edges.new.site) (g.S.Texts.world c.lack_of_due.new.site) c.first_missing.new.self c.due_edges.new.self c.lack_of_due.new.self c.first_missing.ensures.looked c.due_edges.ensures.looked c.lack_of_due.ensures.looked c.in_ok-due-in-None.due.items (c.in_ok-due-in-None.ensures.due store targets before way)
+    (λ told set kept seen files same fit. subst (λ (l : List ℕ). IsFirstIn graph l files None) c.as_slice-targets.ensures.value (subst (IsFirstIn graph c.as_slice-targets.result.now files) c.in-None.is (c.in_ok-path.ensures.first told set kept seen files same (subst (AreSourcesIn set graph) (sym {A = List ℕ} c.as_slice-targets.ensures.value) fit)))) None
+    (λ told set kept seen files same fit.
+    subst (λ (l : List Bool). IsFoundOfDue graph l files None) c.deref.ensures.value (subst (IsFoundOfDue graph c.deref.result.now files) c.in-None-2.is (c.in_ok-lack-in-None.ensures.found told set kept seen files same fit)))
+
+pub returns-in-None-2-clause-due : goal.returns-in-None-2-clause-due
+returns-in-None-2-clause-due g c = record {
+  fits = c.in_ok-due-in-None.ensures.fits;
+  due = λ store targets before way.
+      let graph = c.args.graph.now in
+      due_told c.looks_follow.ensures.follow c.looks_follow.ensures.stay g.S.Texts.tells graph c.lists_stand.ensures c.args.records.now c.args.cone.now c.args.plan.now store targets before way c.requires.targets (g.S.Texts.world c.args.site.now) (g.S.Texts.world c.first_missing.new.site) c.args.self.now (g.S.Texts.world c.due_edges.new.site) (g.S.Texts.world c.lack_of_due.new.site) c.first_missing.new.self c.due_edges.new.self c.lack_of_due.new.self c.first_missing.ensures.looked c.due_edges.ensures.looked c.lack_of_due.ensures.looked c.in_ok-due-in-None.due.items (c.in_ok-due-in-None.ensures.due store targets before way);
+  clean = λ e listed not_due unjudged.
+      let tells = g.S.Texts.tells in
+      let graph = c.args.graph.now in
+      let old = g.S.Texts.world c.args.site.now in
+      let mid = g.S.Texts.world c.due_edges.new.site in
+      clean_first c.looks_follow.ensures.follow c.looks_follow.ensures.stay tells graph c.args.records.now e old mid (g.S.Texts.world c.lack_of_due.new.site) c.args.self.now c.lack_of_due.ensures.looked.looks
+      (clean_second c.looks_follow.ensures.follow c.looks_follow.ensures.stay tells graph c.args.records.now e old (g.S.Texts.world c.first_missing.new.site) mid c.args.self.now c.first_missing.new.self c.first_missing.ensures.looked c.due_edges.ensures.looked.looks
+      (c.in_ok-due-in-None.ensures.clean e listed not_due unjudged));
+}
+
+pub returns-in-Some-clause-within : goal.returns-in-Some-clause-within
+returns-in-Some-clause-within g c =
+    let named = subst (λ (o : Option ℕ). IfSome o (IsSourceOf c.args.graph.now c.as_slice-targets.result.now)) c.in-Some.is c.in_ok-path.ensures.within in
+    record { path = named.within; edge = tt; source = named.source; input = tt }
+
+pub returns-in-Some-clause-asked : goal.returns-in-Some-clause-asked
+returns-in-Some-clause-asked g c =
+    let named = subst (λ (o : Option ℕ). IfSome o (IsSourceOf c.args.graph.now c.as_slice-targets.result.now)) c.in-Some.is c.in_ok-path.ensures.within in
+    subst (λ (l : List ℕ). has_number l c.in-Some.path ≡ true) c.as_slice-targets.ensures.value named.listed
+
+pub returns-in-Some-2-clause-asked : goal.returns-in-Some-2-clause-asked
+returns-in-Some-2-clause-asked g c =
+    let named = subst (λ (o : Option Lack). IfSome o (λ lack. NamesDue c.deref.result.now lack.needed_by)) c.in-Some-2.is c.in_ok-lack-in-None.ensures.named in
+    asked_by c.args.cone.now c.in_ok-due-in-None.due.items c.in_ok-due-in-None.ensures.listed c.in-Some-2.lack
+    (subst (λ (l : List Bool). NamesDue l c.in-Some-2.lack.needed_by) c.deref.ensures.value named)
+
+pub returns-in-Some-2-clause-within : goal.returns-in-Some-2-clause-within
+returns-in-Some-2-clause-within g c = subst (λ (o : Option Lack). IfSome o (IsLackOf c.args.graph.now)) c.in-Some-2.is c.in_ok-lack-in-None.ensures.within

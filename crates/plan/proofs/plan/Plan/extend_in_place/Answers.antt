@@ -1,0 +1,84 @@
+use Rattle.std.proofs.Common.{◌≡◌, ◌∙◌, ℕ, List, Bool, true, length, ap, subst, sym, arith}
+use Rattle.graph.specs.declared.back.LoadedEdge.{LoadedEdge}
+use Rattle.graph.specs.Links.{links_of}
+use Rattle.graph.specs.LoadedEdges.{numbers_in}
+use Rattle.plan.specs.Coming.{IsComing}
+use Rattle.model.specs.Graph.{has_number}
+use Rattle.plan.specs.Flags.{has, AreNone}
+use Rattle.plan.specs.Staying.{without, AreLongerThere, AreRecounted}
+use Rattle.plan.proofs.Staying.{edges_below, over_by, goes_on_by}
+use Rattle.plan.proofs.plan.Plan.extend_in_place.Goals as goal
+
+pub longer_there-requires : goal.longer_there-requires
+longer_there-requires c =
+    let may = c.requires.may.1 in
+    let held = ap (λ (l : List Bool). length l) c.deref.ensures.value in
+    let known = may.over.over.known in
+    let more = may.paths in
+    omega (arith, held, known, more)
+
+pub grown_flags-requires : goal.grown_flags-requires
+grown_flags-requires c =
+    let may = c.requires.may.1 in
+    let held = ap (λ (l : List Bool). length l) c.deref-2.ensures.value in
+    let flags = may.over.flags in
+    let more = may.paths in
+    omega (arith, held, flags, more, c.paths.ensures)
+
+pub invariant_of-self : goal.invariant_of-self
+invariant_of-self c =
+    let plan = c.args.self.now in
+    record {
+      fits = plan.fits;
+      few = plan.few;
+      room = plan.room;
+      rest = plan.rest;
+      sets = plan.sets;
+      waits = plan.waits;
+      tallied = plan.tallied;
+      come = subst (λ (l : List ℕ). IsComing l c.in_ok-there.there.items c.in_ok-coming.coming.files.items c.in_ok-coming.coming.any) c.deref-4.ensures.value
+          (subst (λ (l : List Bool). IsComing c.deref-4.result.now l c.in_ok-coming.coming.files.items c.in_ok-coming.coming.any) c.deref-5.ensures.value c.in_ok-coming.ensures);
+    }
+
+pub recount-requires-clause-lines : goal.recount-requires-clause-lines
+recount-requires-clause-lines c =
+    let may = c.requires.may.1 in
+    let plan = c.args.self.now in
+    omega (arith, may.over.over.edges, may.edges, plan.standings.ok.0)
+
+pub recount-requires-clause-within : goal.recount-requires-clause-within
+recount-requires-clause-within c = λ e there.
+    edges_below c.files_stand.ensures c.requires.may.0 c.args.graph.now c.args.self.now c.args.before.now c.requires.may.1 e
+    (subst (λ (l : List LoadedEdge). has_number (numbers_in l) e ≡ true) c.deref-6.ensures.value there)
+
+pub returns-clause-over : goal.returns-clause-over
+returns-clause-over c =
+    let graph = c.args.graph.now in
+    let plan = c.args.self.now in
+    let load = c.args.before.now in
+    let may = c.requires.may.1 in
+    let new = c.recount.new.self in
+    let rest = c.recount.ensures.rest in
+    let there = ap (λ v. v.items) rest.there in
+    let more : AreLongerThere (links_of graph) (length graph.manifest.paths) plan.there.items c.in_ok-there.there.items =
+    subst (λ (l : List Bool). AreLongerThere (links_of graph) (length graph.manifest.paths) l c.in_ok-there.there.items) c.deref.ensures.value c.in_ok-there.ensures in
+    let again : AreRecounted graph plan.standings.items c.in_ok-there.there.items (numbers_in load.edges.items) plan.left.items new.left.items =
+    subst (λ (l : List LoadedEdge). AreRecounted graph plan.standings.items c.in_ok-there.there.items (numbers_in l) plan.left.items new.left.items) c.deref-6.ensures.value c.recount.ensures.left in
+    let flags : length c.in_ok-changed.changed.items ≡ length graph.manifest.paths = omega (arith, c.in_ok-changed.ensures.fits, c.paths.ensures, c.in_ok-changed.changed.ok.0) in
+    over_by c.files_stand.ensures c.requires.may.0 graph plan load may c.requires.counted new rest.still.standings rest.still.queue
+    (subst (λ (f : List Bool). AreNone f) (sym {A = List Bool} rest.pending) may.over.settled)
+    (ap (λ v. length v.items) rest.still.changed ∙ flags)
+    (ap (λ v. v.items) rest.still.loads ∙ (c.in_ok-loads.ensures ∙ ap (without load.file) c.deref-3.ensures.value))
+    (subst (AreLongerThere (links_of graph) (length graph.manifest.paths) plan.there.items) (sym there) more)
+    (subst (λ (t : List Bool). AreRecounted graph plan.standings.items t (numbers_in load.edges.items) plan.left.items new.left.items) (sym there) again)
+
+pub returns-clause-flags : goal.returns-clause-flags
+returns-clause-flags c = λ p. ap (λ v. has v.items p) c.recount.ensures.rest.still.changed ∙ (c.in_ok-changed.ensures.same p ∙ ap (λ (l : List Bool). has l p) c.deref-2.ensures.value)
+
+pub returns-clause-planned : goal.returns-clause-planned
+returns-clause-planned c = λ cone inside before may.
+    let graph = c.args.graph.now in
+    let plan = c.args.self.now in
+    let new = c.recount.new.self in
+    let rest = c.recount.ensures.rest in
+    goes_on_by c.files_stand.ensures before graph plan c.args.before.now may c.requires.counted new rest.still.standings rest.still.queue rest.still.jobs rest.still.keep (returns-clause-over c) cone inside

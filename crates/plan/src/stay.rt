@@ -1,0 +1,256 @@
+//! A plan goes on in place over a graph of which few edges have grown.
+
+ghost use Rattle.std.specs.Prelude.{◌≡◌, ◌⊎◌, ◌<◌, ◌≤◌, ◌==◌, ◌&&◌, true, not, length, slice_set, IfOk, OnOk};
+ghost use Rattle.graph.specs.Cone.{is_listed};
+ghost use Rattle.plan.specs.Standing.{is_outside, is_unjudged};
+ghost use Rattle.plan.specs.Staying.{without, pushed_other, AreInside, AreThereBehind};
+
+use crate::coming::{coming_of, is_any_there};
+use crate::extend::grown_flags;
+use crate::first::{is_source, missing_inputs};
+use crate::lowest::Lowest;
+use crate::plan::Plan;
+use crate::step::Standing;
+use graph::{Before, Cone, Graph, LoadedEdge, Mark, files_stand};
+use paths::{EdgeId, PathId};
+use std::alloc::{AllocError, Global};
+
+impl Plan {
+    ghost use Rattle.std.specs.Prelude.{◌≡◌, ◌<◌, ℕ, true, length, vec_len, OnOk, OnErr};
+    ghost use Rattle.plan.specs.Flags.{has};
+    ghost use Rattle.graph.specs.declared.graph.Graph.{Graph as GraphOf};
+    ghost use Rattle.plan.specs.Planned.{IsPlanOver};
+    ghost use Rattle.plan.specs.Staying.{MayGoOnBy, GoesOnAfter, GoesOnInside, MayBeCounted, MayCount, AreEdgesIn, AreInside, HasCounted, HasCountedOne, SetsLeft, OnlyCounts};
+
+    /// As `extend`, of the load that this undoes. Where the cone has the edges that it had, and nothing that the edges of the file make is
+    /// there, what else waits for is as it was: then it takes a time of the order of what these edges name, of the files that are still
+    /// to be loaded, and, for one look at each, of the edges and paths.
+    pub fn extend_by(
+        &mut self,
+        alloc: Global,
+        graph: &Graph,
+        cone: &Cone,
+        before: &Before,
+    ) -> Result<(), AllocError>
+        requires marks { vec_len cone.now.marks ≡ length graph.now.manifest.lines }
+        requires may { (was : GraphOf) × MayGoOnBy was graph.now self.old before.now }
+        ensures over { OnOk result (IsPlanOver graph.now self.new) }
+        ensures flags { OnOk result ((p : ℕ) → has self.new.changed.items p ≡ has self.old.changed.items p) }
+        ensures planned { OnOk result (GoesOnAfter graph.now cone.now self.old self.new before.now) }
+        ensures err { OnErr result (self.new ≡ self.old) }
+    {
+        files_stand();
+        if self.stays(graph, cone, &before.edges) {
+            return self.extend_in_place(alloc, graph, before);
+        }
+        self.extend(alloc, graph, cone)
+    }
+
+    /// Whether the cone has just the edges that stand in it, and these may be counted by themselves.
+    fn stays(&self, graph: &Graph, cone: &Cone, edges: &[LoadedEdge]) -> bool
+        requires lines { vec_len self.now.standings ≡ length graph.now.manifest.lines }
+        requires marks { vec_len cone.now.marks ≡ length graph.now.manifest.lines }
+        requires within { AreEdgesIn graph.now edges.now }
+        ensures inside { result ≡ true → AreInside cone.now.marks.items self.now.standings.items }
+        ensures counted { result ≡ true → MayCount graph.now self.now edges.now }
+    {
+        if !are_inside(&cone.marks, &self.standings) {
+            return false;
+        }
+        self.may_count_all(graph, edges)
+    }
+
+    /// Whether none of these edges was judged, and nothing that they make is there.
+    fn may_count_all(&self, graph: &Graph, edges: &[LoadedEdge]) -> bool
+        requires lines { vec_len self.now.standings ≡ length graph.now.manifest.lines }
+        requires within { AreEdgesIn graph.now edges.now }
+        ensures { result ≡ true → MayCount graph.now self.now edges.now }
+    {
+        for loaded in edges {
+            if !self.may_count(graph, loaded.edge) {
+                return false;
+            }
+        }
+        true
+    }
+
+    /// Whether the edge was not judged, and nothing that it makes is there.
+    fn may_count(&self, graph: &Graph, edge: EdgeId) -> bool
+        requires lines { vec_len self.now.standings ≡ length graph.now.manifest.lines }
+        requires within { edge < length graph.now.manifest.lines }
+        ensures { result ≡ true → MayBeCounted graph.now self.now.standings.items self.now.there.items edge }
+    {
+        let place = edge.index();
+        if !is_fresh(self.standings[place]) {
+            return false;
+        }
+        !is_any_there(graph.outputs(edge), &self.there)
+    }
+
+    /// What these edges wait for is counted anew, and the file is loaded.
+    fn extend_in_place(
+        &mut self,
+        alloc: Global,
+        graph: &Graph,
+        before: &Before,
+    ) -> Result<(), AllocError>
+        requires may { (was : GraphOf) × MayGoOnBy was graph.now self.old before.now }
+        requires counted { MayCount graph.now self.old before.now.edges.items }
+        ensures over { OnOk result (IsPlanOver graph.now self.new) }
+        ensures flags { OnOk result ((p : ℕ) → has self.new.changed.items p ≡ has self.old.changed.items p) }
+        ensures planned { OnOk result (GoesOnInside graph.now self.old self.new before.now) }
+        ensures err { OnErr result (self.new ≡ self.old) }
+    {
+        files_stand();
+        let there = longer_there(alloc, graph, &self.there)?;
+        let changed = grown_flags(alloc, &self.changed, graph.paths())?;
+        let loads = loads_without(alloc, &self.loads, before.file)?;
+        let coming = coming_of(alloc, &loads, &there)?;
+        self.there = there;
+        self.changed = changed;
+        self.loads = loads;
+        self.coming = coming;
+        self.recount(graph, &before.edges);
+        Ok(())
+    }
+
+    /// Counts anew what these edges wait for.
+    fn recount(&mut self, graph: &Graph, edges: &[LoadedEdge])
+        requires lines { vec_len self.old.standings ≡ length graph.now.manifest.lines }
+        requires within { AreEdgesIn graph.now edges.now }
+        ensures left { HasCounted graph.now self.old self.new edges.now }
+        ensures rest { OnlyCounts self.old self.new }
+    {
+        for loaded in edges {
+            self.recount_edge(graph, loaded.edge);
+        }
+    }
+
+    /// Counts anew what the edge waits for, if it is a command that was not judged.
+    fn recount_edge(&mut self, graph: &Graph, edge: EdgeId)
+        requires lines { vec_len self.old.standings ≡ length graph.now.manifest.lines }
+        requires within { edge < length graph.now.manifest.lines }
+        ensures left { HasCountedOne graph.now self.old self.new edge }
+        ensures rest { OnlyCounts self.old self.new }
+    {
+        let count = missing_inputs(graph, &self.there, edge);
+        let place = edge.index();
+        self.set_left(place, count);
+    }
+
+    /// So much is left of the edge, if it is a command that was not judged.
+    fn set_left(&mut self, place: usize, count: usize)
+        requires { place < vec_len self.old.standings }
+        ensures left { SetsLeft self.old self.new place count }
+        ensures rest { OnlyCounts self.old self.new }
+    {
+        match self.standings[place] {
+            Standing::Unjudged => put(&mut self.left, &mut self.ready, place, count),
+            _ => {}
+        }
+    }
+}
+
+/// So much is left of the edge, which is in the set where that is nothing.
+fn put(left: &mut [usize], set: &mut Lowest, place: usize, count: usize)
+    requires within { place < length left.old }
+    requires room { place < length set.old }
+    ensures left { left.new ≡ slice_set left.old place count }
+    ensures set { set.new ≡ slice_set set.old place (count == 0) }
+{
+    left[place] = count;
+    set_flag(set, place, count == 0);
+}
+
+/// The number is in the set, or not.
+fn set_flag(set: &mut Lowest, number: usize, flag: bool)
+    requires { number < length set.old }
+    ensures { set.new ≡ slice_set set.old number flag }
+{
+    if flag {
+        set.insert(number);
+        return;
+    }
+    set.remove(number);
+}
+
+/// Whether just the edges that stand in the cone are marked. All are looked at, since that is done for many at a time.
+fn are_inside(marks: &[Mark], standings: &[Standing]) -> bool
+    requires { length marks.now ≡ length standings.now }
+    ensures { result ≡ true → AreInside marks.now standings.now }
+{
+    let mut same = true;
+    for (place, standing) in standings.iter().enumerate() {
+        same = both(same, is_marked_so(marks[place], *standing));
+    }
+    same
+}
+
+fn both(one: bool, other: bool) -> bool
+    ensures { result ≡ (one && other) }
+{
+    one && other
+}
+
+/// Whether an edge that stands so is marked so.
+fn is_marked_so(mark: Mark, standing: Standing) -> bool
+    ensures { result ≡ true → is_listed mark ≡ not (is_outside standing) }
+{
+    mark.is_listed() == is_inside(standing)
+}
+
+fn is_inside(standing: Standing) -> bool
+    ensures { result ≡ not (is_outside standing) }
+{
+    !matches!(standing, Standing::Outside)
+}
+
+/// Whether it is a command that was not judged, or no edge of the cone.
+fn is_fresh(standing: Standing) -> bool
+    ensures { result ≡ true → (is_unjudged standing ≡ true) ⊎ (is_outside standing ≡ true) }
+{
+    matches!(standing, Standing::Unjudged | Standing::Outside)
+}
+
+/// These flags, and for each path behind them whether it is a source.
+fn longer_there(alloc: Global, graph: &Graph, there: &[bool]) -> Result<Vec<bool>, AllocError>
+    requires { length there.now ≤ length graph.now.manifest.paths }
+    ensures { IfOk result (λ longer. AreThereBehind graph.now there.now longer.items) }
+{
+    let known = there.len();
+    let count = graph.paths();
+    let mut longer = Vec::with_capacity(alloc, count)?;
+    longer.extend_from_slice(there)?;
+    for place in known..count {
+        longer.push(is_source(graph, place))?;
+    }
+    Ok(longer)
+}
+
+/// The files but for this one.
+fn loads_without(alloc: Global, loads: &[PathId], file: PathId) -> Result<Vec<PathId>, AllocError>
+    ensures { IfOk result (λ left. left.items ≡ without file loads.now) }
+{
+    let mut left = Vec::with_capacity(alloc, loads.len())?;
+    for load in loads {
+        push_other(&mut left, *load, file)?;
+    }
+    Ok(left)
+}
+
+/// Puts the path behind the others, if it is not the file.
+fn push_other(left: &mut Vec<PathId>, load: PathId, file: PathId) -> Result<(), AllocError>
+    ensures { OnOk result (left.new.items ≡ pushed_other file left.old.items load) }
+{
+    if is_path(load, file) {
+        return Ok(());
+    }
+    left.push(load)?;
+    Ok(())
+}
+
+fn is_path(path: PathId, other: PathId) -> bool
+    ensures { result ≡ (path == other) }
+{
+    path == other
+}

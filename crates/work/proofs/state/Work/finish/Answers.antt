@@ -1,0 +1,28 @@
+use Rattle.model.specs.SingleBuild.{task_of}
+use Rattle.work.proofs.Counting.{many_by_steps}
+use Rattle.work.proofs.Cutting.{starts_cut, met_by}
+use Rattle.work.proofs.Ends.{ran_cut}
+use Rattle.work.proofs.After.{after_then}
+use Rattle.work.proofs.state.Work.finish.Goals as goal
+
+pub take_in_rest-requires-clause-many : goal.take_in_rest-requires-clause-many
+take_in_rest-requires-clause-many g c =
+    let going = c.requires.going in
+    let cut = c.in-Err.ensures.cut going.course going.suits going.is going.on in
+    many_by_steps g.S.Texts.tells going.course.own (task_of going.course.asked going.course.store) cut.steps going.course.entry (g.S.Texts.world c.take_in_running.new.site) c.running.result going.suits.idle cut.run
+    (c.running.ensures.steps (task_of going.course.asked going.course.store) c.args.self.now.graph cut.steps cut.planned cut.taken)
+
+pub returns-in-Err-clause-ran : goal.returns-in-Err-clause-ran
+returns-in-Err-clause-ran g c course suits ends on =
+    ran_cut g.S.Texts.tells course c.args.self.now.graph (g.S.Texts.world c.take_in_running.new.site) c.take_in_running.new.self.plan (g.S.Texts.world c.take_in_rest.new.site) c.take_in_rest.result (c.in-Err.ensures.cut course suits ends on)
+    (λ steps met. c.take_in_rest.ensures.rest course steps met)
+
+pub returns-in-Err-clause-starts : goal.returns-in-Err-clause-starts
+returns-in-Err-clause-starts g c =
+    starts_cut (g.S.Texts.world c.args.site.now) (g.S.Texts.world c.take_in_running.new.site) (g.S.Texts.world c.take_in_rest.new.site) c.take_in_rest.result c.in-Err.ensures.cuts.starts c.take_in_rest.ensures.takes_in
+
+pub returns-in-Err-clause-grows : goal.returns-in-Err-clause-grows
+returns-in-Err-clause-grows g c = after_then g.S.Texts.tells (g.S.Texts.world c.args.site.now) (g.S.Texts.world c.take_in_running.new.site) (g.S.Texts.world c.take_in_rest.new.site) c.take_in_running.ensures.grows c.take_in_rest.ensures.grows
+
+pub returns-in-Err-clause-seen : goal.returns-in-Err-clause-seen
+returns-in-Err-clause-seen g c = c.take_in_rest.ensures.seen (g.S.Texts.world c.args.site.now) (met_by (g.S.Texts.world c.args.site.now) (g.S.Texts.world c.take_in_running.new.site) c.in-Err.cut c.in-Err.ensures.cuts.cause)

@@ -1,0 +1,118 @@
+use Rattle.std.proofs.Common.{Bool, true, Vec, Global, sym, subst}
+use Rattle.judge.specs.declared.looks.Looks.{Looks}
+use Rattle.judge.specs.Lasting.{AreMarked}
+use Rattle.judge.specs.Summed.{AreSums}
+use Rattle.work.proofs.Results.{on_err, ok_by, err_by}
+use Rattle.work.proofs.Ends.{cut_looking, at_load, at_end}
+use Rattle.work.proofs.Noticed.{on_summed}
+use Rattle.work.proofs.Onward.{may_wait}
+use Rattle.work.proofs.After.{after_same, after_looks}
+use Rattle.work.proofs.state.Work.go_on.Goals as goal
+
+pub judge-requires-clause-next : goal.judge-requires-clause-next
+judge-requires-clause-next g c = record { offered = c.in-Judge.ensures.offered; lawful = c.in-Judge.ensures.lawful; loads = c.in-Judge.ensures.loads }
+
+pub start_edge-requires-clause-next : goal.start_edge-requires-clause-next
+start_edge-requires-clause-next g c = record { offered = c.in-Start.ensures.offered; lawful = c.in-Start.ensures.lawful; loads = c.in-Start.ensures.loads }
+
+pub take_in-requires-clause-going : goal.take_in-requires-clause-going
+take_in-requires-clause-going g c = record {
+  goes = true;
+  may = may_wait c.args.self.now.plan (record { offered = c.in-Wait.ensures.offered; lawful = c.in-Wait.ensures.lawful; loads = c.in-Wait.ensures.loads });
+  going = c.requires.going;
+}
+
+pub returns-in_err-map_err-in-Judge-clause-cut : goal.returns-in_err-map_err-in-Judge-clause-cut
+returns-in_err-map_err-in-Judge-clause-cut g c = on_err c.from_residual.result (λ course suits goes on.
+    cut_looking g.S.Texts.tells course c.args.self.now.graph (g.S.Texts.world c.args.site.now) c.args.self.now c.judge.new.self.plan (g.S.Texts.world c.judge.new.site)
+    (err_by c.judge.result c.map_err.result _ c.map_err.ensures.variant c.in_err-map_err-in-Judge.was c.judge.ensures.plan) c.judge.ensures.looked.looks on)
+
+pub returns-in_err-map_err-in-Start-clause-cut : goal.returns-in_err-map_err-in-Start-clause-cut
+returns-in_err-map_err-in-Start-clause-cut g c = on_err c.from_residual-in_err-map_err-in-Start.result
+    (err_by c.start_edge.result c.map_err-in-Start.result _ c.map_err-in-Start.ensures.variant c.in_err-map_err-in-Start.was c.start_edge.ensures.cut)
+
+pub returns-in_err-take_in-in-Wait-clause-cut : goal.returns-in_err-take_in-in-Wait-clause-cut
+returns-in_err-take_in-in-Wait-clause-cut g c = on_err c.from_residual-in_err-take_in-in-Wait.result
+    (c.in_err-take_in-in-Wait.ensures.cut true (may_wait c.args.self.now.plan (record { offered = c.in-Wait.ensures.offered; lawful = c.in-Wait.ensures.lawful; loads = c.in-Wait.ensures.loads })))
+
+pub returns-in_ok-map_err-in-Judge-clause-on : goal.returns-in_ok-map_err-in-Judge-clause-on
+returns-in_ok-map_err-in-Judge-clause-on g c = ok_by c.judge.result c.map_err.result _ c.map_err.ensures.variant c.in_ok-map_err-in-Judge.was c.judge.ensures.on
+
+pub returns-in_ok-map_err-in-Start-clause-on : goal.returns-in_ok-map_err-in-Start-clause-on
+returns-in_ok-map_err-in-Start-clause-on g c = ok_by c.start_edge.result c.map_err-in-Start.result _ c.map_err-in-Start.ensures.variant c.in_ok-map_err-in-Start.was c.start_edge.ensures.on
+
+pub returns-in_ok-take_in-in-Wait-clause-on : goal.returns-in_ok-take_in-in-Wait-clause-on
+returns-in_ok-take_in-in-Wait-clause-on g c course suits goes on =
+    on_summed g.S.Texts.tells course c.args.self.now.graph c.log_stays.ensures suits c.take_in.new.self (g.S.Texts.world c.take_in.new.site) c.forget_made.new.self
+    (c.in_ok-take_in-in-Wait.ensures.on true (may_wait c.args.self.now.plan (record { offered = c.in-Wait.ensures.offered; lawful = c.in-Wait.ensures.lawful; loads = c.in-Wait.ensures.loads })) course suits goes on)
+
+pub returns-in-Load-clause-on : goal.returns-in-Load-clause-on
+returns-in-Load-clause-on g c course suits goes =
+    at_load g.S.Texts.tells course c.args.self.now.graph (g.S.Texts.world c.args.site.now) c.args.self.now c.in-Load.file
+    (record { offered = c.in-Load.ensures.offered; lawful = c.in-Load.ensures.lawful; loads = c.in-Load.ensures.loads })
+
+pub returns-in-Ended-clause-on : goal.returns-in-Ended-clause-on
+returns-in-Ended-clause-on g c course suits =
+    at_end g.S.Texts.tells course c.args.self.now.graph (g.S.Texts.world c.args.site.now) c.args.self.now _
+    (record { offered = c.in-Ended.ensures.offered; lawful = c.in-Ended.ensures.lawful; loads = c.in-Ended.ensures.loads })
+
+pub returns-in_err-map_err-in-Judge-clause-grows : goal.returns-in_err-map_err-in-Judge-clause-grows
+returns-in_err-map_err-in-Judge-clause-grows g c = after_looks g.S.Texts.tells (g.S.Texts.world c.args.site.now) (g.S.Texts.world c.judge.new.site) c.judge.ensures.looked.looks
+
+pub returns-in_ok-map_err-in-Judge-clause-grows : goal.returns-in_ok-map_err-in-Judge-clause-grows
+returns-in_ok-map_err-in-Judge-clause-grows g c = after_looks g.S.Texts.tells (g.S.Texts.world c.args.site.now) (g.S.Texts.world c.judge.new.site) c.judge.ensures.looked.looks
+
+pub returns-in_ok-map_err-in-Judge-clause-looked : goal.returns-in_ok-map_err-in-Judge-clause-looked
+returns-in_ok-map_err-in-Judge-clause-looked g c same = c.judge.ensures.looked
+
+pub returns-in_ok-map_err-in-Start-clause-looked : goal.returns-in_ok-map_err-in-Start-clause-looked
+returns-in_ok-map_err-in-Start-clause-looked g c same = absurd (ok_by c.start_edge.result c.map_err-in-Start.result _ c.map_err-in-Start.ensures.variant c.in_ok-map_err-in-Start.was c.start_edge.ensures.some same)
+
+pub returns-in_ok-take_in-in-Wait-clause-looked : goal.returns-in_ok-take_in-in-Wait-clause-looked
+returns-in_ok-take_in-in-Wait-clause-looked g c same = absurd (c.in_ok-take_in-in-Wait.ensures.some same)
+
+pub returns-in-Load-clause-grows : goal.returns-in-Load-clause-grows
+returns-in-Load-clause-grows g c = after_same g.S.Texts.tells (g.S.Texts.world c.args.site.now)
+
+pub returns-in-Load-clause-looked : goal.returns-in-Load-clause-looked
+returns-in-Load-clause-looked g c same = (c.looks_follow.ensures.follow g.S.Texts.tells (g.S.Texts.world c.args.site.now) (g.S.Texts.world c.args.site.now) (g.S.Texts.world c.args.site.now)).none c.args.self.now.graph c.args.self.now.looks
+
+pub returns-in-Ended-clause-grows : goal.returns-in-Ended-clause-grows
+returns-in-Ended-clause-grows g c = after_same g.S.Texts.tells (g.S.Texts.world c.args.site.now)
+
+pub returns-in-Ended-clause-looked : goal.returns-in-Ended-clause-looked
+returns-in-Ended-clause-looked g c same = (c.looks_follow.ensures.follow g.S.Texts.tells (g.S.Texts.world c.args.site.now) (g.S.Texts.world c.args.site.now) (g.S.Texts.world c.args.site.now)).none c.args.self.now.graph c.args.self.now.looks
+
+-- a start changes nothing of what the sums are of
+pub returns-in_ok-map_err-in-Start-clause-summed : goal.returns-in_ok-map_err-in-Start-clause-summed
+returns-in_ok-map_err-in-Start-clause-summed g c =
+    let graph = c.args.self.now.graph in
+    let new = c.start_edge.new.self in
+    subst (λ (flags : Vec Bool Global). AreSums graph flags.items new.looks.seen.items new.looks.sums) (sym c.start_edge.ensures.changed)
+    (subst (λ (looks : Looks). AreSums graph c.args.self.now.plan.changed.items looks.seen.items looks.sums) (sym c.start_edge.ensures.looks) c.requires.summed)
+
+pub returns-in_ok-map_err-in-Start-clause-marked : goal.returns-in_ok-map_err-in-Start-clause-marked
+returns-in_ok-map_err-in-Start-clause-marked g c =
+    let graph = c.args.self.now.graph in
+    let new = c.start_edge.new.self in
+    subst (λ (flags : Vec Bool Global). AreMarked graph flags.items new.looks.seen.items new.looks.sums) (sym c.start_edge.ensures.changed)
+    (subst (λ (looks : Looks). AreMarked graph c.args.self.now.plan.changed.items looks.seen.items looks.sums) (sym c.start_edge.ensures.looks) c.requires.marked)
+
+-- an end keeps what no command makes
+pub returns-in_ok-take_in-in-Wait-clause-summed : goal.returns-in_ok-take_in-in-Wait-clause-summed
+returns-in_ok-take_in-in-Wait-clause-summed g c =
+    let graph = c.args.self.now.graph in
+    let flags = c.args.self.now.plan.changed.items in
+    let seen = c.args.self.now.looks.seen.items in
+    let new = c.take_in.new.self in
+    c.sums_follow.ensures.last_sums graph flags new.plan.changed.items seen new.looks.seen.items c.in_ok-take_in-in-Wait.ensures.kept c.forget_made.new.self
+    (c.forget_made.ensures graph flags seen (subst (AreMarked graph flags seen) (sym c.in_ok-take_in-in-Wait.ensures.sums) c.requires.marked))
+
+pub returns-in_ok-take_in-in-Wait-clause-marked : goal.returns-in_ok-take_in-in-Wait-clause-marked
+returns-in_ok-take_in-in-Wait-clause-marked g c =
+    let graph = c.args.self.now.graph in
+    let flags = c.args.self.now.plan.changed.items in
+    let seen = c.args.self.now.looks.seen.items in
+    let new = c.take_in.new.self in
+    c.sums_follow.ensures.last_marks graph flags new.plan.changed.items seen new.looks.seen.items c.in_ok-take_in-in-Wait.ensures.kept c.forget_made.new.self
+    (c.forget_made.ensures graph flags seen (subst (AreMarked graph flags seen) (sym c.in_ok-take_in-in-Wait.ensures.sums) c.requires.marked))
