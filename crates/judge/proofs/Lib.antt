@@ -16,5 +16,9 @@ pub mod CommandDues
 pub mod Judging
 pub mod DueEdges
 pub mod CleanEdges
+pub mod Answered
+pub mod KeptAnswers
+pub mod LoadedAnswers
+pub mod FoundDues
 pub mod Lacking
 pub mod Finding

@@ -4,6 +4,7 @@ pub mod Seen
 pub mod Looking
 pub mod Facts
 pub mod Judged
+pub mod Answers
 pub mod Lasting
 pub mod Summed
 pub mod Stores

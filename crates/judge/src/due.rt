@@ -2,6 +2,7 @@
 
 ghost use Rattle.std.specs.Prelude.{◌≡◌, ◌<◌, All, [], IfOk, length, vec_len, false};
 ghost use Rattle.model.specs.Calls.{HasCause};
+ghost use Rattle.judge.specs.Answers.{KnowsRight};
 ghost use Rattle.judge.specs.Looking.{HasLookedAt};
 ghost use Rattle.judge.specs.UnderWay.{was_due, judged_due};
 ghost use Rattle.judge.specs.Dues.{AreListed, FindsDue, FindsClean, FindsDueEdges, FindsRest};
@@ -18,7 +19,8 @@ use site::Site;
 
 impl Looks {
     /// For each edge, whether it is in the cone and due: commands by how they were judged, and where they were not by their records
-    /// and files, aliases by the paths that they name, and both by the edges that make what they read.
+    /// and files, aliases by the paths that they name, and both by the edges that make what they read. What is found of commands is kept
+    /// where dyndep files are still to be loaded.
     pub(crate) fn due_edges<S: Site>(
         &mut self,
         site: &mut S,
@@ -31,8 +33,10 @@ impl Looks {
         requires fits { length self.old.seen.items ≡ length graph.now.manifest.paths }
         requires order { All (λ e. e < length graph.now.manifest.lines) cone.now.order.items }
         requires plan { vec_len plan.now.standings ≡ length graph.now.manifest.lines }
+        requires known { KnowsRight graph.now records.now self.old }
         ensures looked { HasLookedAt S.tells S.world site.old site.new graph.now self.old self.new }
         ensures cause { HasCause (S.world site.old) (S.world site.new) result }
+        ensures known { KnowsRight graph.now records.now self.new }
         ensures fits { IfOk result (λ due. length due.items ≡ length graph.now.manifest.lines) }
         ensures listed { IfOk result (λ due. AreListed cone.now.order.items due.items) }
         ensures due { FindsDueEdges S.tells S.world site.old site.new graph.now records.now cone.now plan.now self.old result }
@@ -43,6 +47,7 @@ impl Looks {
         let alloc = self.sums.alloc();
         let mut due = vec![in alloc; false; graph.edges()]?;
         self.sums.clear();
+        self.sums.answers.make_room(edges_to_keep(graph, plan));
         let order = cone.order.as_slice();
         for edge in order {
             if let Some(judged) = judged_due(graph, plan, *edge) {
@@ -68,9 +73,11 @@ impl Looks {
         requires within { edge < length graph.now.manifest.lines }
         requires due { length due.now ≡ length graph.now.manifest.lines }
         requires summed { AreSums graph.now [] self.old.seen.items self.old.sums }
+        requires known { KnowsRight graph.now records.now self.old }
         ensures looked { HasLookedAt S.tells S.world site.old site.new graph.now self.old self.new }
         ensures cause { HasCause (S.world site.old) (S.world site.new) result }
         ensures summed { AreSums graph.now [] self.new.seen.items self.new.sums }
+        ensures known { KnowsRight graph.now records.now self.new }
         ensures due { FindsDue S.tells S.world site.old site.new graph.now records.now self.old due.now edge result }
         ensures clean { FindsClean S.tells S.world site.old site.new graph.now records.now self.old edge result }
     {
@@ -79,6 +86,15 @@ impl Looks {
             return self.is_alias_due(site, graph, due, edge);
         }
         self.is_command_due(site, graph, records, due, edge)
+    }
+}
+
+/// Of how many edges it is kept what is found: of all, where dyndep files are still to be loaded: it is asked for again after each.
+fn edges_to_keep(graph: &Graph, plan: &Plan) -> usize {
+    if plan.loads.is_empty() {
+        0
+    } else {
+        graph.edges()
     }
 }
 

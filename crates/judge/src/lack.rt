@@ -2,6 +2,7 @@
 
 ghost use Rattle.std.specs.Prelude.{◌≡◌, ◌<◌, true, false, length, vec_len, All, IfOk, IfSome};
 ghost use Rattle.model.specs.Calls.{HasCause};
+ghost use Rattle.judge.specs.Answers.{KnowsRight};
 ghost use Rattle.judge.specs.Looking.{HasLookedAt};
 ghost use Rattle.judge.specs.Dues.{due_at};
 ghost use Rattle.judge.specs.Lacks.{lack_in, IsLackOf, IsSourceOf, IsSourceFor, IsSourceAt, IsAskedLack, NamesDue};
@@ -43,8 +44,10 @@ impl Looks {
     ///
     /// What was seen of a path is not asked for again. Of a command that reads what a due edge makes only inputs are asked for,
     /// and it takes time for its regular and recorded inputs alone; any other command that was not judged is judged by `reason`,
-    /// which walks what it reads through phony edges: the sums of before are forgotten, and these are as if nothing was made anew.
-    /// Memory is taken for one flag for each edge of the graph, and for what `reason` takes.
+    /// which walks what it reads through phony edges: the sums of before are forgotten, and these are as if nothing was made anew. Where
+    /// dyndep files are still to be loaded what is found of commands is kept, as far as there is memory for it, and the next call finds
+    /// it again of none but those of which it was forgotten; their depfiles it asks for again. Memory is taken for one flag for each
+    /// edge of the graph, and for what `reason` takes.
     pub fn sources<S: Site>(
         &mut self,
         site: &mut S,
@@ -58,8 +61,10 @@ impl Looks {
         requires order { All (λ e. e < length graph.now.manifest.lines) cone.now.order.items }
         requires targets { All (λ p. p < length graph.now.manifest.paths) cone.now.targets.items }
         requires plan { vec_len plan.now.standings ≡ length graph.now.manifest.lines }
+        requires known { KnowsRight graph.now records.now self.old }
         ensures looked { HasLookedAt S.tells S.world site.old site.new graph.now self.old self.new }
         ensures cause { HasCause (S.world site.old) (S.world site.new) result }
+        ensures known { KnowsRight graph.now records.now self.new }
         ensures found { FindsLack S.tells S.world site.old site.new graph.now records.now cone.now plan.now self.old result }
         ensures due { FindsFlags S.tells S.world site.old site.new graph.now records.now cone.now plan.now self.old result }
         ensures within { IfOk result (λ found. IfSome (lack_in found) (IsLackOf graph.now)) }
@@ -95,6 +100,7 @@ impl Looks {
         requires due { length due.now ≡ length graph.now.manifest.lines }
         ensures looked { HasLookedAt S.tells S.world site.old site.new graph.now self.old self.new }
         ensures cause { HasCause (S.world site.old) (S.world site.new) result }
+        ensures sums { self.new.sums ≡ self.old.sums }
         ensures found { FindsFirstOfDue S.tells S.world site.old site.new graph.now self.old due.now result }
         ensures within { IfOk result (λ found. IfSome found (IsLackOf graph.now)) }
         ensures named { IfOk result (λ found. IfSome found (λ lack. NamesDue due.now lack.needed_by)) }
@@ -126,6 +132,7 @@ impl Looks {
         requires due { length due.now ≡ length graph.now.manifest.lines }
         ensures looked { HasLookedAt S.tells S.world site.old site.new graph.now self.old self.new }
         ensures cause { HasCause (S.world site.old) (S.world site.new) result }
+        ensures sums { self.new.sums ≡ self.old.sums }
         ensures first { FindsFirstOf S.tells S.world site.old site.new graph.now self.old due.now edge result }
         ensures within { IfOk result (λ found. IfSome found (IsSourceFor graph.now edge)) }
         ensures marked { IfOk result (λ found. IfSome found (λ path. due_at due.now edge ≡ true)) }
@@ -150,6 +157,7 @@ impl Looks {
         requires within { All (λ p. p < length graph.now.manifest.paths) paths.now }
         ensures looked { HasLookedAt S.tells S.world site.old site.new graph.now self.old self.new }
         ensures cause { HasCause (S.world site.old) (S.world site.new) result }
+        ensures sums { self.new.sums ≡ self.old.sums }
         ensures first { FindsFirst S.tells S.world site.old site.new graph.now self.old paths.now result }
         ensures within { IfOk result (λ found. IfSome found (IsSourceOf graph.now paths.now)) }
     {
@@ -174,6 +182,7 @@ impl Looks {
         requires within { path < length graph.now.manifest.paths }
         ensures looked { HasLookedAt S.tells S.world site.old site.new graph.now self.old self.new }
         ensures cause { HasCause (S.world site.old) (S.world site.new) result }
+        ensures sums { self.new.sums ≡ self.old.sums }
         ensures missing { FindsMissing S.tells S.world site.old site.new graph.now self.old path result }
         ensures source { IfOk result (λ is. is ≡ true → IsSourceAt graph.now path) }
     {

@@ -1,7 +1,8 @@
-//! Laws of calls that ask for paths, and of sums.
+//! Laws of calls that ask for paths, of sums, and of what was found of commands.
 
 ghost use Rattle.std.specs.Prelude.{Bool};
 ghost use Rattle.model.specs.World.{World};
+ghost use Rattle.judge.specs.Answers.{AnswersFollow};
 ghost use Rattle.judge.specs.Lasting.{SumsFollow};
 ghost use Rattle.judge.specs.Looking.{FilesStay, LooksFollow};
 
@@ -16,4 +17,10 @@ pub fn looks_follow()
 /// command.
 pub fn sums_follow()
     ensures { SumsFollow }
+{}
+
+/// A law, which runs nothing: what was found of commands is right where what was seen stays, and after the load of a dyndep file, of
+/// edges that did not name it.
+pub fn answers_follow()
+    ensures { AnswersFollow }
 {}

@@ -3,6 +3,7 @@
 #![tactic(auto)]
 
 mod aliases;
+mod answers;
 mod commands;
 mod depfile;
 mod due;
@@ -20,9 +21,10 @@ mod reason_table;
 mod stamp;
 mod sums;
 
+pub use answers::{Answer, Answers};
 pub use input_facts::Inputs;
 pub use lack::{Found, Lack};
-pub use laws::{looks_follow, sums_follow};
+pub use laws::{answers_follow, looks_follow, sums_follow};
 pub use looks::{Look, Looks};
 pub use model::Reason;
 pub use output_facts::{OutputFacts, Outputs};

@@ -34,6 +34,8 @@ impl Work<'_> {
         ensures on { OnOk result (GoesOn S.tells S.world site.old site.new self.old.graph self.old self.new) }
         ensures summed { AreSumsOf self.old.graph self.new }
         ensures marked { AreMarkedOf self.old.graph self.new }
+        ensures records { self.new.records ≡ self.old.records }
+        ensures answers { self.new.looks.sums.answers ≡ self.old.looks.sums.answers }
         ensures plan { OnErr result (self.new.plan ≡ self.old.plan) }
     {
         lists_stand(&self.graph);
@@ -59,6 +61,7 @@ impl Work<'_> {
         requires { IsPlanOver self.old.graph self.old.plan }
         ensures graph { self.new.graph ≡ self.old.graph }
         ensures looks { self.new.looks ≡ self.old.looks }
+        ensures records { self.new.records ≡ self.old.records }
         ensures on { StaysKnowing self.old.graph self.old self.new }
     {
         log_stays();

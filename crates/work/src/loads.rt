@@ -11,6 +11,8 @@ ghost use Rattle.graph.specs.Back.{Undoes};
 ghost use Rattle.graph.specs.LoadedEdges.{numbers_in};
 ghost use Rattle.graph.specs.Targets.{IsNoConeAgain};
 ghost use Rattle.plan.specs.Staying.{MayGoOnBy, GoesOnAfter};
+ghost use Rattle.judge.specs.Answers.{KnowsOthers};
+ghost use Rattle.work.specs.Answered.{AreAnswersOf, ForgetsGrown};
 ghost use Rattle.work.specs.Cutting.{IsMet};
 ghost use Rattle.work.specs.Standing.{IsToLoad, Loads, RefusesLoad, StopsLoad, IsStopThere, IfRefused, IfFault, HasFewerFiles, OnRefusal, OnFault};
 ghost use Rattle.work.specs.Joined.{stop_of, IsMemory, MayJoin, HasRoomIn, StayKnown, IsUndone, IsLoaded, GoesOnBy, GoesOnOver, IsAskedOver, IsConeAgain, MayKeep, IsCircleOver, IsUnfitAt, IsUnfitOf, IsCircleOf, WasSaid, UnjoinedBy, UnjoinedOver, WereKnown, MayShrink, KeepsRest, StayKnownFrom, SawBefore, HasLoadedFile, JoinsFrom, IsUnreadAt, StopsAsSaid};
@@ -23,6 +25,7 @@ use crate::state::Work;
 use crate::stop::Stop;
 use dyndep::{Addition, DynFault, ReadError, one_answer, parse};
 use graph::{Before, Cone, ConeFault, ExtendFault, Graph, cones_stay, files_stand, lists_stand};
+use judge::answers_follow;
 use model::SiteFault;
 use paths::PathId;
 use plan::{loads_go_on_by, task_of};
@@ -39,9 +42,11 @@ impl Work<'_> {
     pub fn load<S: Site>(&mut self, site: &mut S, file: PathId) -> Result<(), Stop>
         requires running { (S.world site.old).stopped ≡ false }
         requires at { IsToLoad S.tells self.old file (S.world site.old) }
+        requires known { AreAnswersOf self.old }
         ensures looks { OnlyLooks S.tells (S.world site.old) (S.world site.new) }
         ensures well { OnOk result (Unrefused (S.world site.old) (S.world site.new)) }
         ensures begun { Loads S.tells S.world site.old site.new file self.old self.new result }
+        ensures known { OnOk result (AreAnswersOf self.new) }
         ensures fewer { OnOk result (HasFewerFiles self.old.graph self.new.graph) }
         ensures stop { IfErr result (IsStopThere (S.world site.old) (S.world site.new)) }
         ensures undone { OnErr result (IsUndone self.old.graph self.new.graph self.old self.new) }
@@ -49,6 +54,7 @@ impl Work<'_> {
         ensures halted { StopsLoad S.tells S.world site.old site.new file self.old self.new result }
     {
         log_stays();
+        answers_follow();
         one_answer();
         lists_stand(&self.graph);
         let additions = additions_in(self.alloc, site, &self.graph, file)?;
@@ -69,11 +75,13 @@ impl Work<'_> {
         ensures goes { OnOk result (GoesOnBy file additions.now self.old self.new) }
         ensures room { OnOk result (HasRoomIn self.new.graph self.old self.new) }
         ensures known { OnOk result (StayKnown self.old.graph self.new.graph self.old.records self.new.records) }
+        ensures left { OnOk result (ForgetsGrown self.old self.new) }
         ensures logs { OnOk result (self.new.records.logs ≡ self.old.records.logs) }
         ensures undone { OnErr result (IsUndone self.old.graph self.new.graph self.old self.new) }
         ensures cause { OnRefusal result (UnjoinedBy file additions.now self.old) }
         ensures memory { IfErr result IsMemory }
     {
+        files_stand();
         let alloc = self.alloc;
         let before = extend(alloc, &mut self.graph, file, additions)?;
         match self.join_parts(&before) {
@@ -97,6 +105,8 @@ impl Work<'_> {
         ensures room { OnOk result (HasRoomIn self.new.graph self.old self.new) }
         ensures known { OnOk result (StayKnownFrom self.old.graph self.new.graph self.old.records self.new.records) }
         ensures beside { KeepsRest self.old self.new }
+        ensures stays { OnOk result (HasGrownAt (numbers_in before.now.edges.items) self.old.graph self.new.graph) }
+        ensures answers { OnOk result (KnowsOthers (numbers_in before.now.edges.items) self.old.looks.sums.answers self.new.looks.sums.answers) }
         ensures grown { OnErr result (HasGrownAt (numbers_in before.now.edges.items) self.old.graph self.new.graph) }
         ensures cone { OnErr result (self.new.cone ≡ self.old.cone) }
         ensures plan { OnErr result (self.new.plan ≡ self.old.plan) }
@@ -185,7 +195,8 @@ impl Work<'_> {
         }
     }
 
-    /// The run goes on over the graph as it is now, of whose targets this is the cone, behind the load that this undoes.
+    /// The run goes on over the graph as it is now, of whose targets this is the cone, behind the load that this undoes. What was found of
+    /// its edges is forgotten.
     fn grow(&mut self, cone: &Cone, before: &Before) -> Result<(), AllocError>
         requires marks { vec_len cone.now.marks ≡ length self.old.graph.manifest.lines }
         requires may { (was : GraphOf) × MayGoOnBy was self.old.graph self.old.plan before.now }
@@ -194,6 +205,7 @@ impl Work<'_> {
         ensures planned { OnOk result (GoesOnAfter self.old.graph cone.now self.old.plan self.new.plan before.now) }
         ensures room { OnOk result (HasRoomIn self.old.graph self.old self.new) }
         ensures records { self.new.records ≡ self.old.records }
+        ensures answers { OnOk result (KnowsOthers (numbers_in before.now.edges.items) self.old.looks.sums.answers self.new.looks.sums.answers) }
         ensures cone { self.new.cone ≡ self.old.cone }
         ensures beside { KeepsRest self.old self.new }
         ensures plan { OnErr result (self.new.plan ≡ self.old.plan) }
@@ -201,6 +213,7 @@ impl Work<'_> {
     {
         self.looks.grow(&self.graph)?;
         self.plan.extend_by(self.alloc, &self.graph, cone, before)?;
+        self.looks.sums.answers.forget(&before.edges);
         Ok(())
     }
 }

@@ -16,3 +16,6 @@ returns-clause-fresh c = record {
   failed = search rules;
   starts = c.in_ok-fresh.ensures.starts;
 }
+
+pub returns-clause-known : goal.returns-clause-known
+returns-clause-known c = c.answers_follow.ensures.none c.args.graph c.args.records c.in_ok-fresh.fresh.looks.seen.items c.in_ok-fresh.fresh.looks.sums.answers c.in_ok-fresh.ensures.answers

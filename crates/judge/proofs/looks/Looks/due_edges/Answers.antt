@@ -9,6 +9,8 @@ use Rattle.theory.specs.Order.{AreMakersFirst}
 use Rattle.theory.proofs.Orderly.{kept_orderly}
 use Rattle.theory.proofs.SiteCalls.{unrefused_none, unrefused_call, unrefused_then}
 use Rattle.graph.specs.Told.{declared_by}
+use Rattle.judge.specs.declared.answers.Answers.{Answers}
+use Rattle.judge.specs.Answers.{answer_at}
 use Rattle.judge.specs.UnderWay.{judged_due}
 use Rattle.judge.specs.Dues.{AreDue, AreListed, AreMakersKnown, AreFoundClean, AwaitsJudgement, IsDueEdge, IsFoundClean}
 use Rattle.judge.proofs.CleanEdges.{clean_added, clean_one_more}
@@ -23,9 +25,11 @@ pub loop-edge-init : goal.loop-edge-init
 loop-edge-init g c =
     let none : c.in_ok-due.due.items ≡ replicate c.edges.result false = c.in_ok-due.ensures.items_if_clones_equal (λ y h. h) in
     record {
-      looked = looked_cleared g.S.Texts.tells c.args.graph.now (g.S.Texts.world c.args.site.now) c.args.self.now c.clear.new.self;
+      looked = looked_cleared g.S.Texts.tells c.args.graph.now (g.S.Texts.world c.args.site.now) c.args.self.now
+          (record { alloc = c.clear.new.self.alloc; by_edge = c.clear.new.self.by_edge; passing = c.clear.new.self.passing; answers = c.make_room.new.self });
       unrefused = unrefused_none (g.S.Texts.world c.args.site.now) c.requires.running;
       summed = c.clear.ensures.summed c.args.graph.now [] c.args.self.now.seen.items;
+      known = λ e answer is. c.requires.known e answer (ap (λ (a : Answers). answer_at a e) (sym {A = Answers} c.clear.ensures.answers) ∙ (sym (c.make_room.ensures e) ∙ is));
       fits = search rules;
       listed = subst (λ (l : List Bool). AreListed c.args.cone.now.order.items l) (sym none) (none_listed c.args.cone.now.order.items c.edges.result);
       due = λ store targets before way keeps told set kept seen has files alike.
@@ -71,6 +75,7 @@ loop-edge-preserved-in-Some g c =
       looked = c.loop-edge.invariant.looked;
       unrefused = c.loop-edge.invariant.unrefused;
       summed = c.loop-edge.invariant.summed;
+      known = c.loop-edge.invariant.known;
       fits = length-set due c.index.result judged ∙ c.loop-edge.invariant.fits;
       listed = subst (λ (e : ℕ). AreListed c.args.cone.now.order.items (set due e judged)) (sym {A = ℕ} (c.index.ensures.place ∙ at))
           (listed_one_more c.args.cone.now.order.items due (get_or order place 0) judged
@@ -111,6 +116,7 @@ loop-edge-preserved g c =
       looked = looked_then c.looks_follow.ensures.follow g.S.Texts.tells c.args.graph.now (g.S.Texts.world c.args.site.now) (g.S.Texts.world c.loop-edge.site) (g.S.Texts.world c.is_due.new.site) c.args.self.now c.loop-edge.self c.is_due.new.self c.loop-edge.invariant.looked c.is_due.ensures.looked;
       unrefused = unrefused_then (g.S.Texts.world c.args.site.now) (g.S.Texts.world c.loop-edge.site) (g.S.Texts.world c.is_due.new.site) c.loop-edge.invariant.unrefused (unrefused_call (g.S.Texts.world c.loop-edge.site) (g.S.Texts.world c.is_due.new.site) _ c.in_ok-due-2.ensures.cause);
       summed = c.is_due.ensures.summed;
+      known = c.is_due.ensures.known;
       fits = length-set due c.index-in-loop-edge.result c.in_ok-due-2.field-0 ∙ c.loop-edge.invariant.fits;
       listed = subst (λ (e : ℕ). AreListed c.args.cone.now.order.items (set due e c.in_ok-due-2.field-0)) (sym {A = ℕ} (c.index-in-loop-edge.ensures.place ∙ at))
           (listed_one_more c.args.cone.now.order.items due (get_or order place 0) c.in_ok-due-2.field-0
@@ -153,3 +159,9 @@ returns-clause-clean g c =
     let order = c.as_slice-order.result.now in
     let whole : take c.loop-edge.edge-index order ≡ c.args.cone.now.order.items = take_all c.loop-edge.edge-index order (omega arith) ∙ c.as_slice-order.ensures.value in
     subst (λ (l : List ℕ). AreFoundClean g.S.Texts.tells c.args.graph.now c.args.records.now c.args.plan.now (g.S.Texts.world c.args.site.now) (g.S.Texts.world c.loop-edge.site) c.args.self.now l c.loop-edge.due.items) whole c.loop-edge.invariant.clean
+
+pub returns-clause-known : goal.returns-clause-known
+returns-clause-known g c = c.loop-edge.invariant.known
+
+pub returns-in_err-due-2-clause-known : goal.returns-in_err-due-2-clause-known
+returns-in_err-due-2-clause-known g c = c.is_due.ensures.known

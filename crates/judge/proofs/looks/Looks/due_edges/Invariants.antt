@@ -3,6 +3,7 @@ use Rattle.model.specs.Records.{Store}
 use Rattle.model.specs.Schedule.{Step}
 use Rattle.theory.specs.Seen.{Unrefused}
 use Rattle.graph.specs.Told.{declared_by}
+use Rattle.judge.specs.Answers.{KnowsRight}
 use Rattle.judge.specs.Looking.{HasLooked}
 use Rattle.judge.specs.Summed.{AreSums}
 use Rattle.judge.specs.Quiet.{IfQuiet}
@@ -15,6 +16,7 @@ invariant-loop-edge g l = record {
   looked : HasLooked g.S.Texts.tells l.graph (g.S.Texts.world l.fn.site) (g.S.Texts.world l.site) l.fn.self l.self;
   unrefused : Unrefused (g.S.Texts.world l.fn.site) (g.S.Texts.world l.site);
   summed : AreSums l.graph [] l.self.seen.items l.self.sums;
+  known : KnowsRight l.graph l.records l.self;
   fits : length l.due.items ≡ length l.graph.manifest.lines;
   listed : AreListed l.cone.order.items l.due.items;
   due : (store : Store) (targets : List (List ℕ)) (before : List Step) → IsUnderWay l.graph l.records l.cone l.plan store targets before

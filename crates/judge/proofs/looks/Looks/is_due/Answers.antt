@@ -1,10 +1,12 @@
-use Rattle.std.proofs.Common.{◌≡◌, [], true, false, suc, sym, ◌∙◌, rules}
+use Rattle.std.proofs.Common.{◌≡◌, [], true, false, suc, sym, ap, ◌∙◌, rules}
 use Rattle.std.proofs.lemmas.Bool.{false≢true, false_from_ne_true}
 use Rattle.model.specs.Graph.{has_number}
 use Rattle.model.specs.Schedule.{out_of_date_in}
 use Rattle.theory.proofs.Orderly.{kept_orderly}
 use Rattle.graph.specs.Links.{links_of}
 use Rattle.graph.specs.Told.{declared_by}
+use Rattle.judge.specs.declared.sums.Sums.{Sums}
+use Rattle.judge.proofs.Answered.{known_kept}
 use Rattle.judge.proofs.Summing.{sums_kept}
 use Rattle.judge.proofs.AliasDues.{alias_due}
 use Rattle.judge.proofs.Lacking.{outputs_known, regular_known}
@@ -41,3 +43,7 @@ returns-then-is_phony-clause-clean g c =
 
 pub returns-clause-clean : goal.returns-clause-clean
 returns-clause-clean g c = if_ok_then c.is_command_due.result c.is_command_due.ensures.clean (λ is said not_due command. said not_due)
+
+pub returns-then-is_phony-clause-known : goal.returns-then-is_phony-clause-known
+returns-then-is_phony-clause-known g c =
+    known_kept c.args.graph.now c.args.records.now c.args.self.now c.is_alias_due.new.self c.is_alias_due.ensures.looked.stays (ap (λ (s : Sums). s.answers) c.is_alias_due.ensures.sums) c.requires.known

@@ -1,3 +1,4 @@
+use Rattle.std.proofs.Common.{◌≡◌}
 use Rattle.theory.specs.Seen.{Unrefused}
 use Rattle.graph.specs.Told.{declared_by}
 use Rattle.judge.specs.Looking.{HasLooked}
@@ -8,6 +9,7 @@ use Rattle.judge.proofs.looks.Looks.lack_of_due.Given as goal
 
 abbrev pub invariant-loop-place : goal.invariant-loop-place
 invariant-loop-place g l = record {
+  sums : l.self.sums ≡ l.fn.self.sums;
   looked : HasLooked g.S.Texts.tells l.graph (g.S.Texts.world l.fn.site) (g.S.Texts.world l.site) l.fn.self l.self;
   unrefused : Unrefused (g.S.Texts.world l.fn.site) (g.S.Texts.world l.site);
   none : IfStill g.S.Texts.tells l.graph (g.S.Texts.world l.fn.site) (g.S.Texts.world l.site) l.fn.self (λ set files. HasAllSources set l.graph → NoneBelow (declared_by l.graph).edges l.due files l.place);

@@ -1,7 +1,9 @@
-use Rattle.std.proofs.Common.{◌≡◌, List, ℕ, Bool, true, Option, Some, None, IfSome, sym, subst}
+use Rattle.std.proofs.Common.{◌≡◌, List, ℕ, Bool, true, Option, Some, None, IfSome, sym, ap, subst}
 use Rattle.model.specs.Graph.{has_number}
 use Rattle.judge.specs.Dues.{AreSourcesIn}
 use Rattle.judge.specs.declared.lack.Lack.{Lack}
+use Rattle.judge.specs.declared.sums.Sums.{Sums}
+use Rattle.judge.proofs.Answered.{known_kept}
 use Rattle.judge.specs.Lacks.{IsFirstIn, IsFoundOfDue, IsSourceOf, IsLackOf, NamesDue}
 use Rattle.judge.proofs.CleanEdges.{clean_first, clean_second}
 use Rattle.judge.proofs.Finding.{target_found, due_told, all_found, asked_by}
@@ -80,3 +82,31 @@ returns-in-Some-2-clause-asked g c =
 
 pub returns-in-Some-2-clause-within : goal.returns-in-Some-2-clause-within
 returns-in-Some-2-clause-within g c = subst (λ (o : Option Lack). IfSome o (IsLackOf c.args.graph.now)) c.in-Some-2.is c.in_ok-lack-in-None.ensures.within
+
+pub returns-in_err-path-clause-known : goal.returns-in_err-path-clause-known
+returns-in_err-path-clause-known g c =
+    known_kept c.args.graph.now c.args.records.now c.args.self.now c.first_missing.new.self c.first_missing.ensures.looked.stays (ap (λ (s : Sums). s.answers) c.first_missing.ensures.sums) c.requires.known
+
+pub returns-in-Some-clause-known : goal.returns-in-Some-clause-known
+returns-in-Some-clause-known g c =
+    known_kept c.args.graph.now c.args.records.now c.args.self.now c.first_missing.new.self c.first_missing.ensures.looked.stays (ap (λ (s : Sums). s.answers) c.first_missing.ensures.sums) c.requires.known
+
+pub due_edges-requires-clause-known : goal.due_edges-requires-clause-known
+due_edges-requires-clause-known g c =
+    known_kept c.args.graph.now c.args.records.now c.args.self.now c.first_missing.new.self c.first_missing.ensures.looked.stays (ap (λ (s : Sums). s.answers) c.first_missing.ensures.sums) c.requires.known
+
+pub returns-in_err-due-in-None-clause-known : goal.returns-in_err-due-in-None-clause-known
+returns-in_err-due-in-None-clause-known g c =
+    c.due_edges.ensures.known
+
+pub returns-in_err-lack-in-None-clause-known : goal.returns-in_err-lack-in-None-clause-known
+returns-in_err-lack-in-None-clause-known g c =
+    known_kept c.args.graph.now c.args.records.now c.due_edges.new.self c.lack_of_due.new.self c.lack_of_due.ensures.looked.stays (ap (λ (s : Sums). s.answers) c.lack_of_due.ensures.sums) c.due_edges.ensures.known
+
+pub returns-in-Some-2-clause-known : goal.returns-in-Some-2-clause-known
+returns-in-Some-2-clause-known g c =
+    known_kept c.args.graph.now c.args.records.now c.due_edges.new.self c.lack_of_due.new.self c.lack_of_due.ensures.looked.stays (ap (λ (s : Sums). s.answers) c.lack_of_due.ensures.sums) c.due_edges.ensures.known
+
+pub returns-in-None-2-clause-known : goal.returns-in-None-2-clause-known
+returns-in-None-2-clause-known g c =
+    known_kept c.args.graph.now c.args.records.now c.due_edges.new.self c.lack_of_due.new.self c.lack_of_due.ensures.looked.stays (ap (λ (s : Sums). s.answers) c.lack_of_due.ensures.sums) c.due_edges.ensures.known

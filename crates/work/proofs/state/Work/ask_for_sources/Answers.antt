@@ -1,5 +1,8 @@
 use Rattle.std.proofs.Common.{◌≡◌, length, vec_len, arith, refl, sym, ◌∙◌, ap, subst}
 use Rattle.graph.specs.declared.graph.Graph.{Graph}
+use Rattle.judge.specs.Answers.{KnowsRight}
+use Rattle.judge.specs.declared.looks.Looks.{Looks}
+use Rattle.records.specs.declared.records.Records.{Records}
 use Rattle.plan.specs.Planned.{IsPlanOver}
 use Rattle.work.specs.declared.state.Work.{Work}
 use Rattle.work.specs.Clean.{StaysKnowing}
@@ -86,3 +89,10 @@ returns-in-Ok-clause-graph g c = c.judge_clean.ensures.graph ∙ ap (λ (s : Wor
 
 pub returns-in-Err-clause-graph : goal.returns-in-Err-clause-graph
 returns-in-Err-clause-graph g c = ap (λ (s : Work). s.graph) c.check_sources.ensures.beside
+
+-- what is noted of due edges, and judged by it, changes nothing of that
+pub returns-in-Ok-clause-known : goal.returns-in-Ok-clause-known
+returns-in-Ok-clause-known g c =
+    subst (λ (graph : Graph). KnowsRight graph c.judge_clean.new.self.records c.judge_clean.new.self.looks) (sym {A = Graph} c.judge_clean.ensures.graph)
+    (subst (λ (records : Records). KnowsRight c.check_sources.new.self.graph records c.judge_clean.new.self.looks) (sym {A = Records} c.judge_clean.ensures.records)
+    (subst (λ (looks : Looks). KnowsRight c.check_sources.new.self.graph c.check_sources.new.self.records looks) (sym {A = Looks} c.judge_clean.ensures.looks) c.check_sources.ensures.known))

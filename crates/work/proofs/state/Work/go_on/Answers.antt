@@ -2,6 +2,10 @@ use Rattle.std.proofs.Common.{Bool, true, Vec, Global, sym, subst}
 use Rattle.judge.specs.declared.looks.Looks.{Looks}
 use Rattle.judge.specs.Lasting.{AreMarked}
 use Rattle.judge.specs.Summed.{AreSums}
+use Rattle.judge.specs.Answers.{AreAnswers, KnowsRight}
+use Rattle.judge.specs.declared.answers.Answers.{Answers}
+use Rattle.graph.specs.declared.graph.Graph.{Graph}
+use Rattle.records.specs.declared.records.Records.{Records}
 use Rattle.work.proofs.Results.{on_err, ok_by, err_by}
 use Rattle.work.proofs.Ends.{cut_looking, at_load, at_end}
 use Rattle.work.proofs.Noticed.{on_summed}
@@ -106,7 +110,7 @@ returns-in_ok-take_in-in-Wait-clause-summed g c =
     let seen = c.args.self.now.looks.seen.items in
     let new = c.take_in.new.self in
     c.sums_follow.ensures.last_sums graph flags new.plan.changed.items seen new.looks.seen.items c.in_ok-take_in-in-Wait.ensures.kept c.forget_made.new.self
-    (c.forget_made.ensures graph flags seen (subst (AreMarked graph flags seen) (sym c.in_ok-take_in-in-Wait.ensures.sums) c.requires.marked))
+    (c.forget_made.ensures.lasting graph flags seen (subst (AreMarked graph flags seen) (sym c.in_ok-take_in-in-Wait.ensures.sums) c.requires.marked))
 
 pub returns-in_ok-take_in-in-Wait-clause-marked : goal.returns-in_ok-take_in-in-Wait-clause-marked
 returns-in_ok-take_in-in-Wait-clause-marked g c =
@@ -115,4 +119,33 @@ returns-in_ok-take_in-in-Wait-clause-marked g c =
     let seen = c.args.self.now.looks.seen.items in
     let new = c.take_in.new.self in
     c.sums_follow.ensures.last_marks graph flags new.plan.changed.items seen new.looks.seen.items c.in_ok-take_in-in-Wait.ensures.kept c.forget_made.new.self
-    (c.forget_made.ensures graph flags seen (subst (AreMarked graph flags seen) (sym c.in_ok-take_in-in-Wait.ensures.sums) c.requires.marked))
+    (c.forget_made.ensures.lasting graph flags seen (subst (AreMarked graph flags seen) (sym c.in_ok-take_in-in-Wait.ensures.sums) c.requires.marked))
+
+-- a judgement asks for more, a start changes nothing of what answers are of, and after an end none is kept
+pub returns-in_ok-map_err-in-Judge-clause-known : goal.returns-in_ok-map_err-in-Judge-clause-known
+returns-in_ok-map_err-in-Judge-clause-known g c =
+    let state = c.args.self.now in
+    let new = c.judge.new.self in
+    subst (λ (graph : Graph). KnowsRight graph new.records new.looks) (sym {A = Graph} c.judge.ensures.graph)
+    (subst (λ (records : Records). KnowsRight state.graph records new.looks) (sym {A = Records} c.judge.ensures.records)
+    (subst (λ (answers : Answers). AreAnswers state.graph state.records new.looks.seen.items answers) (sym {A = Answers} c.judge.ensures.answers)
+    (c.answers_follow.ensures.stay state.graph state.records state.looks.seen.items new.looks.seen.items c.judge.ensures.looked.stays state.looks.sums.answers c.requires.known)))
+
+pub returns-in_ok-map_err-in-Start-clause-known : goal.returns-in_ok-map_err-in-Start-clause-known
+returns-in_ok-map_err-in-Start-clause-known g c =
+    let state = c.args.self.now in
+    let new = c.start_edge.new.self in
+    subst (λ (graph : Graph). KnowsRight graph new.records new.looks) (sym {A = Graph} c.start_edge.ensures.graph)
+    (subst (λ (looks : Looks). KnowsRight state.graph new.records looks) (sym {A = Looks} c.start_edge.ensures.looks)
+    (c.answers_follow.ensures.told state.graph state.records new.records c.start_edge.ensures.told state.looks.seen.items state.looks.sums.answers c.requires.known))
+
+pub returns-in_ok-take_in-in-Wait-clause-known : goal.returns-in_ok-take_in-in-Wait-clause-known
+returns-in_ok-take_in-in-Wait-clause-known g c =
+    let new = c.take_in.new.self in
+    c.answers_follow.ensures.none new.graph new.records new.looks.seen.items c.forget_made.new.self.answers c.forget_made.ensures.answers
+
+pub returns-in-Load-clause-known : goal.returns-in-Load-clause-known
+returns-in-Load-clause-known g c = c.requires.known
+
+pub returns-in-Ended-clause-known : goal.returns-in-Ended-clause-known
+returns-in-Ended-clause-known g c = c.requires.known

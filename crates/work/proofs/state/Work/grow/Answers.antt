@@ -1,4 +1,8 @@
-use Rattle.std.proofs.Common.{refl}
+use Rattle.std.proofs.Common.{List, refl, subst}
+use Rattle.graph.specs.declared.back.LoadedEdge.{LoadedEdge}
+use Rattle.graph.specs.LoadedEdges.{numbers_in}
+use Rattle.judge.specs.Answers.{KnowsOthers}
+use Rattle.judge.specs.declared.sums.Sums.{Sums}
 use Rattle.work.proofs.Results.{on_err}
 use Rattle.work.proofs.state.Work.grow.Goals as goal
 
@@ -28,3 +32,8 @@ returns-clause-beside c = record { logs = refl; tick = refl; starts = refl; fail
 
 pub returns-clause-looks : goal.returns-clause-looks
 returns-clause-looks c = c.grow.ensures.front
+
+pub returns-clause-answers : goal.returns-clause-answers
+returns-clause-answers c =
+    subst (λ (l : List LoadedEdge). KnowsOthers (numbers_in l) c.args.self.now.looks.sums.answers c.forget.new.self) c.deref.ensures.value
+    (subst (λ (s : Sums). KnowsOthers (numbers_in c.deref.result.now) s.answers c.forget.new.self) c.grow.ensures.sums c.forget.ensures)

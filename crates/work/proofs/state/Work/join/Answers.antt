@@ -2,7 +2,8 @@ use Rattle.std.proofs.Common.{ℕ, length, take, map, refl, sym, ◌∙◌, ap, 
 use Rattle.graph.specs.declared.graph.Graph.{Graph}
 use Rattle.graph.specs.Extended.{addition_of}
 use Rattle.records.specs.Known.{AreStillKnown}
-use Rattle.work.proofs.FileJoins.{may_take_back, may_over, known_shrunk}
+use Rattle.graph.specs.LoadedEdges.{numbers_in}
+use Rattle.work.proofs.FileJoins.{has_grown_by, may_take_back, may_over, known_shrunk}
 use Rattle.work.proofs.Results.{on_err}
 use Rattle.work.proofs.StopCases.{refused_then}
 use Rattle.work.proofs.state.Work.join.Goals as goal
@@ -81,3 +82,10 @@ pub returns-in-Ok-clause-room : goal.returns-in-Ok-clause-room
 returns-in-Ok-clause-room c =
     let room = c.in-Ok.ensures.room in
     record { fits = room.fits; looks = room.looks; changed = room.changed; tick = room.tick; starts = room.starts; failed = room.failed }
+
+pub returns-in-Ok-clause-left : goal.returns-in-Ok-clause-left
+returns-in-Ok-clause-left c = record {
+  edges = numbers_in c.in_ok-before.before.edges.items;
+  grown = has_grown_by c.requires.may.2 c.in_ok-before.ensures.before c.in_ok-before.ensures.loaded c.files_stand.ensures c.in-Ok.ensures.stays;
+  forgets = c.in-Ok.ensures.answers;
+}

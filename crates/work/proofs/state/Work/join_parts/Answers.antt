@@ -167,3 +167,9 @@ returns-clause-beside c = record {
   starts = c.grow.ensures.beside.starts;
   failed = c.grow.ensures.beside.failed;
 }
+
+pub returns-clause-stays : goal.returns-clause-stays
+returns-clause-stays c = subst (λ (of : Graph). HasGrownAt (numbers_in c.args.before.now.edges.items) c.args.self.now.graph of) (sym {A = Graph} c.grow.ensures.graph) c.join_inputs.ensures.grown
+
+pub returns-clause-answers : goal.returns-clause-answers
+returns-clause-answers c = c.in_ok-grow.ensures.answers

@@ -6,6 +6,7 @@ use Rattle.graph.specs.Told.{declared_by}
 use Rattle.judge.specs.Seen.{IfKept}
 use Rattle.plan.specs.Planned.{is_stale}
 use Rattle.records.specs.Known.{AreKnown}
+use Rattle.judge.specs.declared.sums.Sums.{Sums}
 use Rattle.judge.specs.Lasting.{AreMarked}
 use Rattle.judge.specs.Summed.{AreSums}
 use Rattle.judge.specs.Judged.{IsAnswer, KeepsDepfile}
@@ -92,3 +93,13 @@ returns-clause-on g c course suits goes on =
     → IfKept tells graph.manifest.paths mid (g.S.Texts.world c.reason.new.site) c.ask_before.new.looks.seen.items (IsAnswer graph rs ds flags c.args.edge c.in_ok-reason.reason))
     c.deref.ensures.value c.in_ok-reason.ensures.reason)
     c.judged.new.self c.judged-2.new.self c.judged.ensures.planned c.judged.ensures.flags
+
+-- the answers that are kept are left alone
+pub returns-in_err-ask_before-clause-answers : goal.returns-in_err-ask_before-clause-answers
+returns-in_err-ask_before-clause-answers g c = ap (λ (s : Sums). s.answers) c.ask_before.ensures.sums
+
+pub returns-in_err-reason-clause-answers : goal.returns-in_err-reason-clause-answers
+returns-in_err-reason-clause-answers g c = c.reason.ensures.answers ∙ ap (λ (s : Sums). s.answers) c.ask_before.ensures.sums
+
+pub returns-clause-answers : goal.returns-clause-answers
+returns-clause-answers g c = c.reason.ensures.answers ∙ ap (λ (s : Sums). s.answers) c.ask_before.ensures.sums

@@ -8,7 +8,7 @@ use Rattle.work.proofs.WorkLeft.{judged_less}
 use Rattle.work.proofs.state.Work.judge_clean.Goals as goal
 
 pub loop-edge-init : goal.loop-edge-init
-loop-edge-init c = record { over = c.requires; graph = refl; looks = refl; due = refl; fresh = λ e unjudged. unjudged; on = λ tells now course suits goes on knows. on }
+loop-edge-init c = record { over = c.requires; graph = refl; looks = refl; records = refl; due = refl; fresh = λ e unjudged. unjudged; on = λ tells now course suits goes on knows. on }
 
 pub next_clean-requires : goal.next_clean-requires
 next_clean-requires c = c.loop-edge.invariant.over
@@ -29,6 +29,7 @@ loop-edge-preserved c =
       over = c.judged.ensures.over;
       graph = was.graph;
       looks = was.looks;
+      records = was.records;
       due = was.due;
       fresh = still_unjudged c.args.self.now.plan c.loop-edge.self.plan.standings.items c.judged.new.self.standings.items c.in-Some.edge c.judged.ensures.stands was.fresh;
       on = λ tells now course suits goes on knows.
@@ -44,3 +45,6 @@ returns-clause-looks c = c.loop-edge.invariant.looks
 
 pub returns-clause-on : goal.returns-clause-on
 returns-clause-on c = c.loop-edge.invariant.on
+
+pub returns-clause-records : goal.returns-clause-records
+returns-clause-records c = c.loop-edge.invariant.records

@@ -10,6 +10,7 @@ invariant-loop-edge l = record {
   over : IsPlanOver l.self.graph l.self.plan;
   graph : l.self.graph ≡ l.fn.self.graph;
   looks : l.self.looks ≡ l.fn.self.looks;
+  records : l.self.records ≡ l.fn.self.records;
   due : l.self.due ≡ l.fn.self.due;
   fresh : StayUnjudged l.fn.self.plan l.self.plan;
   on : StaysKnowing l.fn.self.graph l.fn.self l.self;

@@ -126,3 +126,15 @@ returns-clause-halted g c course edges phases at =
     (refused_then c.in-Err.stop c.in-Err.ensures.cause (λ refusal cause.
     unjoined_cause tells course edges phases graph state old at.stands file at.next c.log_stays.ensures new c.additions_in.ensures.looks c.one_answer.ensures adds read refusal
     (cause (asked_with course.asked edges) course.store (may_join tells course edges phases graph state old at.stands file at.next))))
+
+-- what was found of other edges is right after the load
+pub returns-in-Ok-clause-known : goal.returns-in-Ok-clause-known
+returns-in-Ok-clause-known g c =
+    let course = c.requires.at.0 in
+    let state = c.args.self.now in
+    let after = c.join-joined.new.self in
+    let left = c.in-Ok.ensures.left in
+    let may = may_join g.S.Texts.tells course c.requires.at.1 c.requires.at.2 state.graph state (g.S.Texts.world c.args.site.now) c.requires.at.3 c.args.file c.requires.at.4 in
+    c.answers_follow.ensures.stay after.graph after.records state.looks.seen.items after.looks.seen.items (λ p asked. c.in-Ok.ensures.room.looks p) after.looks.sums.answers
+    (c.answers_follow.ensures.loaded left.edges state.graph after.graph left.grown (record { before = c.lists_stand.ensures; after = c.lists_stand-2.ensures }) state.records after.records
+    (record { rs = course.store.records; ds = course.store.deps; known = may.known; stay = c.in-Ok.ensures.known }) state.looks.seen.items state.looks.sums.answers after.looks.sums.answers left.forgets c.requires.known)

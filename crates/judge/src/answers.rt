@@ -1,0 +1,119 @@
+//! What was found of commands that were not judged.
+
+ghost use Rattle.std.specs.Prelude.{◌≡◌, ◌∷◌, [], IfSome, Some};
+ghost use Rattle.graph.specs.LoadedEdges.{numbers_in};
+ghost use Rattle.judge.specs.Answers.{answer_at, KnowsNone, KnowsSame, KnowsWith, KnowsOthers};
+
+use graph::LoadedEdge;
+use paths::EdgeId;
+use std::alloc::Global;
+
+/// What was found of a command that was not judged.
+#[derive(Clone, Copy, Debug, PartialEq, Eq)]
+pub struct Answer {
+    /// Whether the depfile was there that it is to leave; no where the site is not asked for one.
+    pub depfile: bool,
+    /// Whether it has to run, where its depfile is there, or is not.
+    pub due: bool,
+}
+
+impl Answer {
+    /// Whether the command has to run, where its depfile is there, or is not: if it was found by such a depfile.
+    fn due_by(self, depfile: bool) -> Option<bool>
+        ensures { IfSome result (λ due. self ≡ record { depfile = depfile; due = due }) }
+    {
+        if self.depfile == depfile {
+            Some(self.due)
+        } else {
+            None
+        }
+    }
+}
+
+/// What was found of commands that were not judged, so that it is not found again after each load of a dyndep file: 2 bytes for each
+/// edge, which are taken only where such files are to be loaded. It is right as long as nothing is forgotten of what was seen of the paths
+/// of these commands, and they read and make what they did.
+#[derive(Drop)]
+pub struct Answers {
+    /// By the number of the edge; none at all where nothing is kept.
+    pub known: Vec<Option<Answer>>,
+}
+
+impl Answers {
+    /// Nothing is known, and no memory is taken.
+    pub(crate) fn new(alloc: Global) -> Answers
+        ensures { KnowsNone result }
+    {
+        Answers {
+            known: Vec::new(alloc),
+        }
+    }
+
+    /// Makes room for what will be found of so many edges. Where memory is refused, there is as much room as before: what finds none is
+    /// not kept.
+    pub(crate) fn make_room(&mut self, edges: usize)
+        ensures { KnowsSame self.old self.new }
+    {
+        let room = self.known.len();
+        if room >= edges {
+            return;
+        }
+        match self.known.resize(edges, None) {
+            Ok(()) => {}
+            Err(_) => {}
+        }
+    }
+
+    /// Whether the command of the edge has to run, where its depfile is there, or is not: if that is known.
+    pub(crate) fn get(&self, edge: EdgeId, depfile: bool) -> Option<bool>
+        ensures { IfSome result (λ due. answer_at self.now edge ≡ Some (record { depfile = depfile; due = due })) }
+    {
+        match self.answer_of(edge) {
+            Some(answer) => answer.due_by(depfile),
+            None => None,
+        }
+    }
+
+    /// What was found of the command of the edge, if that is known.
+    fn answer_of(&self, edge: EdgeId) -> Option<Answer>
+        ensures { result ≡ answer_at self.now edge }
+    {
+        self.known.get(edge.index()).copied().unwrap_or(None)
+    }
+
+    /// Notes what was found of the command of the edge, where there is room.
+    pub(crate) fn note(&mut self, edge: EdgeId, answer: Answer)
+        ensures { KnowsWith edge answer self.old self.new }
+    {
+        let place = edge.index();
+        if place < self.known.len() {
+            self.known[place] = Some(answer);
+        }
+    }
+
+    /// Forgets all: what was found of a command may be of a path that another one has made since then. It takes one step.
+    pub fn forget_all(&mut self)
+        ensures { KnowsNone self.new }
+    {
+        self.known.clear();
+    }
+
+    /// Forgets what was found of the edges whose dyndep file was loaded: they may read and make more.
+    pub fn forget(&mut self, edges: &[LoadedEdge])
+        ensures { KnowsOthers (numbers_in edges.now) self.old self.new }
+    {
+        for loaded in edges {
+            self.forget_one(loaded.edge);
+        }
+    }
+
+    /// Forgets what was found of the edge.
+    fn forget_one(&mut self, edge: EdgeId)
+        ensures { KnowsOthers (edge ∷ []) self.old self.new }
+    {
+        let place = edge.index();
+        if place < self.known.len() {
+            self.known[place] = None;
+        }
+    }
+}
