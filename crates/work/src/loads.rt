@@ -13,7 +13,7 @@ ghost use Rattle.graph.specs.Targets.{IsNoConeAgain};
 ghost use Rattle.plan.specs.Staying.{MayGoOnBy, GoesOnAfter};
 ghost use Rattle.work.specs.Cutting.{IsMet};
 ghost use Rattle.work.specs.Standing.{IsToLoad, Loads, RefusesLoad, StopsLoad, IsStopThere, IfRefused, IfFault, HasFewerFiles, OnRefusal, OnFault};
-ghost use Rattle.work.specs.Joined.{stop_of, IsMemory, MayJoin, HasRoomIn, StayKnown, IsUndone, IsLoaded, GoesOnBy, GoesOnOver, IsAskedOver, IsConeAgain, MayKeep, IsCircleOver, IsUnfitAt, IsUnfitOf, IsCircleOf, WasSaid, UnjoinedBy, UnjoinedOver, WereKnown, MayShrink, KeepsRest, StayKnownFrom, SawBefore, HasLoadedFile, JoinsFrom, IsUnreadAt, StopsAsSaid};
+ghost use Rattle.work.specs.Joined.{stop_of, IsMemory, MayJoin, HasRoomIn, StayKnown, IsUndone, IsLoaded, GoesOnBy, GoesOnOver, IsAskedOver, MayKeep, IsCircleOver, IsUnfitAt, IsUnfitOf, IsCircleOf, WasSaid, cone_then, HasMarksFor, IsConeBehind, UnjoinedBy, UnjoinedOver, WereKnown, MayShrink, KeepsRest, StayKnownFrom, SawBefore, HasLoadedFile, JoinsFrom, IsUnreadAt, StopsAsSaid};
 ghost use Rattle.work.specs.Recorded.{HasGrownAt, AreEdgesIn};
 
 use crate::names::{path_text, path_texts};
@@ -111,7 +111,7 @@ impl Work<'_> {
         join_inputs(alloc, &mut self.graph, &mut self.records, before)?;
         let grown = self.cone_again(before)?;
         self.grow(&grown, before)?;
-        self.cone = grown;
+        put_cone(&mut self.cone, grown);
         Ok(())
     }
 }
@@ -159,14 +159,14 @@ fn join_inputs(
 }
 
 impl Work<'_> {
-    /// The cone of the same targets over the graph as it is now, behind the load that this undoes. Where the edges that it changed are in
-    /// their places, it is the one that was.
-    fn cone_again(&self, before: &Before) -> Result<Cone, Stop>
+    /// The cone of the same targets over the graph as it is now, behind the load that this undoes; none where the edges that it changed
+    /// are in their places: then it is the one that was.
+    fn cone_again(&self, before: &Before) -> Result<Option<Cone>, Stop>
         requires targets { All (λ p. p < length self.now.graph.manifest.paths) self.now.cone.targets.items }
         requires asked { IsAskedOver self.now.graph self.now.cone.targets.items }
         requires kept { MayKeep self.now.graph self.now.cone before.now }
-        ensures marks { IfOk result (λ grown. vec_len grown.marks ≡ length self.now.graph.manifest.lines) }
-        ensures cone { IfOk result (IsConeAgain self.now.graph self.now.cone.targets.items) }
+        ensures marks { IfOk result (λ grown. HasMarksFor self.now.graph (cone_then self.now.cone grown)) }
+        ensures cone { IfOk result (IsConeBehind self.now) }
         ensures refused { OnRefusal result (IsCircleOver self.now.graph self.now.cone.targets.items) }
         ensures memory { IfErr result IsMemory }
     {
@@ -175,23 +175,23 @@ impl Work<'_> {
         files_stand();
         cones_stay();
         if self.graph.are_in_place(&self.cone, &before.edges) {
-            let copied = self.cone.copied(alloc)?;
-            return Ok(copied);
+            return Ok(None);
         }
         let targets = self.cone.targets.as_slice().to_vec(alloc)?;
         match self.graph.cone_again(alloc, targets) {
-            Ok(grown) => Ok(grown),
+            Ok(grown) => Ok(Some(grown)),
             Err(fault) => Err(circle(alloc, &self.graph, fault)?),
         }
     }
 
-    /// The run goes on over the graph as it is now, of whose targets this is the cone, behind the load that this undoes.
-    fn grow(&mut self, cone: &Cone, before: &Before) -> Result<(), AllocError>
-        requires marks { vec_len cone.now.marks ≡ length self.old.graph.manifest.lines }
+    /// The run goes on over the graph as it is now, of whose targets this is the cone, or the one that was where there is none, behind
+    /// the load that this undoes.
+    fn grow(&mut self, grown: &Option<Cone>, before: &Before) -> Result<(), AllocError>
+        requires marks { HasMarksFor self.old.graph (cone_then self.old.cone grown.now) }
         requires may { (was : GraphOf) × MayGoOnBy was self.old.graph self.old.plan before.now }
         requires fits { length self.old.looks.seen.items ≤ length self.old.graph.manifest.paths }
         ensures graph { self.new.graph ≡ self.old.graph }
-        ensures planned { OnOk result (GoesOnAfter self.old.graph cone.now self.old.plan self.new.plan before.now) }
+        ensures planned { OnOk result (GoesOnAfter self.old.graph (cone_then self.old.cone grown.now) self.old.plan self.new.plan before.now) }
         ensures room { OnOk result (HasRoomIn self.old.graph self.old self.new) }
         ensures records { self.new.records ≡ self.old.records }
         ensures cone { self.new.cone ≡ self.old.cone }
@@ -200,8 +200,28 @@ impl Work<'_> {
         ensures looks { SawBefore self.old.looks self.new.looks }
     {
         self.looks.grow(&self.graph)?;
+        let cone = cone_behind(&self.cone, grown);
         self.plan.extend_by(self.alloc, &self.graph, cone, before)?;
         Ok(())
+    }
+}
+
+/// The cone behind a load: the one that was made, else the one that was.
+fn cone_behind<'c>(kept: &'c Cone, grown: &'c Option<Cone>) -> &'c Cone
+    ensures { result.now ≡ cone_then kept.now grown.now }
+{
+    match grown {
+        Some(cone) => cone,
+        None => kept,
+    }
+}
+
+/// Takes the one that was made in the place of the one that was, if there is one.
+fn put_cone(cone: &mut Cone, grown: Option<Cone>)
+    ensures { cone.new ≡ cone_then cone.old grown }
+{
+    if let Some(made) = grown {
+        *cone = made;
     }
 }
 

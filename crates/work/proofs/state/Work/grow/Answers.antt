@@ -1,30 +1,11 @@
-use Rattle.std.proofs.Common.{refl}
-use Rattle.work.proofs.Results.{on_err}
+use Rattle.std.proofs.Common.{◌∙◌, ap, subst, vec_len}
+use Rattle.graph.specs.declared.cone.Cone.{Cone}
+use Rattle.plan.specs.Staying.{GoesOnAfter}
 use Rattle.work.proofs.state.Work.grow.Goals as goal
 
-pub returns-in_err-grow-clause-beside : goal.returns-in_err-grow-clause-beside
-returns-in_err-grow-clause-beside c = record { logs = refl; tick = refl; starts = refl; failed = refl }
-
-pub returns-in_err-grow-clause-looks : goal.returns-in_err-grow-clause-looks
-returns-in_err-grow-clause-looks c = c.grow.ensures.front
-
-pub returns-in_err-extend_by-clause-beside : goal.returns-in_err-extend_by-clause-beside
-returns-in_err-extend_by-clause-beside c = record { logs = refl; tick = refl; starts = refl; failed = refl }
-
-pub returns-in_err-extend_by-clause-plan : goal.returns-in_err-extend_by-clause-plan
-returns-in_err-extend_by-clause-plan c = on_err c.from_residual-in_err-extend_by.result c.in_err-extend_by.ensures.err
-
-pub returns-in_err-extend_by-clause-looks : goal.returns-in_err-extend_by-clause-looks
-returns-in_err-extend_by-clause-looks c = c.grow.ensures.front
+pub extend_by-requires-clause-marks : goal.extend_by-requires-clause-marks
+extend_by-requires-clause-marks c = ap (λ (cone : Cone). vec_len cone.marks) c.cone_behind-cone.ensures ∙ c.requires.marks
 
 pub returns-clause-planned : goal.returns-clause-planned
-returns-clause-planned c = c.in_ok-extend_by.ensures.planned
-
-pub returns-clause-room : goal.returns-clause-room
-returns-clause-room c = record { fits = c.in_ok-grow.ensures.fits; looks = c.in_ok-grow.ensures.same; changed = c.in_ok-extend_by.ensures.flags; tick = refl; starts = refl; failed = refl }
-
-pub returns-clause-beside : goal.returns-clause-beside
-returns-clause-beside c = record { logs = refl; tick = refl; starts = refl; failed = refl }
-
-pub returns-clause-looks : goal.returns-clause-looks
-returns-clause-looks c = c.grow.ensures.front
+returns-clause-planned c =
+    subst (λ (cone : Cone). GoesOnAfter c.args.self.now.graph cone c.args.self.now.plan c.extend_by.new.self c.args.before.now) c.cone_behind-cone.ensures c.in_ok-extend_by.ensures.planned
