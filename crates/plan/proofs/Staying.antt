@@ -374,7 +374,7 @@ module _ (stand : FilesStand) (before graph : Graph) (plan : Plan) (load : Befor
   -- who makes a path that was not there is not settled
   new_unsettled : (q m : ℕ) → length before.manifest.paths ≤ q → (links_of graph).maker q ≡ Some m → is_settled (standing_at stood m) ≡ false
   new_unsettled q m past is = elim (may.alone.makers q m is) [
-    | inl old ↦ absurd (none_some m (sym (past_end before.makers.items q None (let fits = before.making.fits in omega (arith, past, fits))) ∙ old))
+    | inl old ↦ absurd (none_some m (sym (past_end before.makers q None (let fits = before.making.fits in omega (arith, past, fits))) ∙ old))
     | inr there_m ↦ fresh_unsettled (standing_at stood m) (to_count m there_m).fresh
   ]
 
