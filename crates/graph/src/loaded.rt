@@ -223,10 +223,7 @@ fn grow_makers(
     ensures kept { OnErr result (makers.new ≡ makers.old) }
     ensures fault { IfErr result (IsMakingFault (graph_of manifest.now).edges (length manifest.now.lines)) }
 {
-    let mut grown = mem::replace(makers, Items::new(alloc)).into_vec();
-    let claimed = claim_more(&mut grown, manifest.paths.len(), chosen, gains);
-    *makers = Items::from_vec(grown);
-    if claimed? {
+    if claim_more(alloc, makers, manifest.paths.len(), chosen, gains)? {
         return Ok(());
     }
     Err(first_fault(alloc, manifest))
@@ -246,6 +243,29 @@ fn first_fault(alloc: Global, manifest: &Manifest) -> GraphFault
 /// There may be makers of so many paths, and each edge makes the outputs that it gained, if none of these has a maker. Whether it is
 /// so; else nothing is changed.
 fn claim_more(
+    alloc: Global,
+    makers: &mut Items<Option<EdgeId>>,
+    paths: usize,
+    chosen: &[Choice],
+    gains: &[Gain],
+) -> Result<bool, AllocError>
+    requires fits { length makers.old ≤ paths }
+    requires outputs { AreOutputsBelow paths gains.now }
+    requires within { (lines : ℕ) × All (IsWithin lines (length gains.now)) chosen.now }
+    ensures fits { IfYes result (length makers.new ≡ paths) }
+    ensures made { IfYes result (ClaimsGains gains.now chosen.now makers.old makers.new) }
+    ensures gained { IfYes result (HaveGainedBy gains.now chosen.now makers.old makers.new) }
+    ensures kept { IfNo result (makers.new ≡ makers.old) }
+    ensures err { OnErr result (makers.new ≡ makers.old) }
+{
+    let mut grown = mem::replace(makers, Items::new(alloc)).into_vec();
+    let claimed = claim_within(&mut grown, paths, chosen, gains);
+    *makers = Items::from_vec(grown);
+    claimed
+}
+
+/// The same, of a list.
+fn claim_within(
     makers: &mut Vec<Option<EdgeId>>,
     paths: usize,
     chosen: &[Choice],
@@ -262,7 +282,7 @@ fn claim_more(
 {
     let known = makers.len();
     makers.resize(paths, None)?;
-    if claim_gains(makers, chosen, gains) {
+    if claim_gains(makers.as_mut_slice(), chosen, gains) {
         return Ok(true);
     }
     makers.truncate(known);
