@@ -113,12 +113,12 @@ pub(crate) fn claim_free(makers: &mut [Option<EdgeId>], outputs: &[PathId], edge
     ensures claimed { result ≡ true → HaveClaimed makers.old makers.new outputs.now edge }
     ensures kept { result ≡ false → makers.new ≡ makers.old }
 {
-    for (done, output) in outputs.iter().enumerate() {
-        if makers[output.index()].is_some() {
+    for (done, path) in outputs.iter().enumerate() {
+        if makers[path.index()].is_some() {
             free(makers, &outputs[..done]);
             return false;
         }
-        makers[output.index()] = Some(edge);
+        makers[path.index()] = Some(edge);
     }
     true
 }

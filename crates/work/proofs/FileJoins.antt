@@ -166,6 +166,8 @@ module _ {asked : Asked} {store : Store} {graph : Graph} {state : Work} {file : 
         builddir = ap (λ (b : BuildGraph). b.builddir) so_far.grown.declared;
         lines = so_far.grown.lines;
         others = so_far.others;
+        makers = so_far.grown.makers;
+        users = so_far.grown.users;
       };
       none = λ e there. nothing_of graph.manifest.paths (list_at graph.recorded e) (nothing_in (recorded_by graph (suc e)) (none_recorded e (sym (undoes.edges e) ∙ there)));
     }
