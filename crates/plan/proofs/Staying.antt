@@ -29,6 +29,7 @@ use Rattle.graph.specs.Linked.{IsConeOf}
 use Rattle.graph.specs.LoadedEdges.{numbers_in}
 use Rattle.graph.specs.Statements.{is_place as is_file}
 use Rattle.graph.specs.Told.{declared_by}
+use Rattle.plan.specs.Coming.{AreAway, IsComing}
 use Rattle.plan.specs.Flags.{has as has_flag, AreNone}
 use Rattle.plan.specs.Turns.{Turns}
 use Rattle.plan.specs.declared.plan.Plan.{Plan}
@@ -332,6 +333,32 @@ may_go_on_by before after file additions plan load over some loaded alone = reco
     | inr other ↦ ap (λ (e : Edge). e.pool) (loaded.grown.others i other)
   ];
   alone = alone;
+}
+
+-- ---- the files that are still to be loaded
+
+has_without : (file p : ℕ) (loads : List ℕ) → has_number (without file loads) p ≡ true → has_number loads p ≡ true
+has_without file p [] there = there
+has_without file p (f ∷ loads) there = by (f == file) there
+  where
+    by : (b : Bool) → has_number (cond b (without file loads) (f ∷ without file loads)) p ≡ true → has_number (f ∷ loads) p ≡ true
+    by true rest = or_right (f == p) (has_number loads p) (has_without file p loads rest)
+    by false rest = elim (or_cases (f == p) (has_number (without file loads) p) rest) [
+      | inl here ↦ or_left (f == p) (has_number loads p) here
+      | inr later ↦ or_right (f == p) (has_number loads p) (has_without file p loads later)
+    ]
+
+-- they are marked as they were
+pub coming_still : FilesStand → (before graph : Graph) (plan : Plan) (load : Before) → MayGoOnBy before graph plan load → (left : List ℕ) (there files : List Bool) (any : Bool) → left ≡ without load.file plan.loads.items → files ≡ plan.coming.files.items
+    → (any ≡ false → AreAway there left) → IsComing left there files any
+coming_still stand before graph plan load may left there files any are same away = record {
+  marked = λ p low has.
+      let was = has_without load.file p plan.loads.items (subst (λ (l : List ℕ). has_number l p ≡ true) are has) in
+      let wanted = may.over.loading.loads_are.named p was in
+      let path = (stand before wanted.edge p wanted.names).1 in
+      let known = may.over.over.known in
+      subst (λ (l : List Bool). has_flag l p ≡ true) (sym same) (plan.come.marked p (omega (arith, path, known)) was);
+  none = away;
 }
 
 -- the edges of the file are edges of the graph

@@ -5,7 +5,7 @@ ghost use Rattle.graph.specs.Cone.{is_listed};
 ghost use Rattle.plan.specs.Standing.{is_outside, is_unjudged};
 ghost use Rattle.plan.specs.Staying.{without, pushed_other, AreInside, AreThereBehind};
 
-use crate::coming::{coming_of, is_any_there};
+use crate::coming::is_any_there;
 use crate::extend::grown_flags;
 use crate::first::{is_source, missing_inputs};
 use crate::lowest::Lowest;
@@ -105,11 +105,12 @@ impl Plan {
         let there = longer_there(alloc, graph, &self.there)?;
         let changed = grown_flags(alloc, &self.changed, graph.paths())?;
         let loads = loads_without(alloc, &self.loads, before.file)?;
-        let coming = coming_of(alloc, &loads, &there)?;
+        let any = is_any_there(&loads, &there);
         self.there = there;
         self.changed = changed;
         self.loads = loads;
-        self.coming = coming;
+        // which files are marked stays: the one that was loaded is marked as well
+        self.coming.set_any(any);
         self.recount(graph, &before.edges);
         Ok(())
     }

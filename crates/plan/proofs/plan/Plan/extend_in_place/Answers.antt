@@ -2,11 +2,11 @@ use Rattle.std.proofs.Common.{◌≡◌, ◌∙◌, ℕ, List, Bool, true, lengt
 use Rattle.graph.specs.declared.back.LoadedEdge.{LoadedEdge}
 use Rattle.graph.specs.Links.{links_of}
 use Rattle.graph.specs.LoadedEdges.{numbers_in}
-use Rattle.plan.specs.Coming.{IsComing}
+use Rattle.plan.specs.Coming.{AreAway}
 use Rattle.model.specs.Graph.{has_number}
 use Rattle.plan.specs.Flags.{has, AreNone}
 use Rattle.plan.specs.Staying.{without, AreLongerThere, AreRecounted}
-use Rattle.plan.proofs.Staying.{edges_below, over_by, goes_on_by}
+use Rattle.plan.proofs.Staying.{coming_still, edges_below, over_by, goes_on_by}
 use Rattle.plan.proofs.plan.Plan.extend_in_place.Goals as goal
 
 pub longer_there-requires : goal.longer_there-requires
@@ -36,8 +36,10 @@ invariant_of-self c =
       sets = plan.sets;
       waits = plan.waits;
       tallied = plan.tallied;
-      come = subst (λ (l : List ℕ). IsComing l c.in_ok-there.there.items c.in_ok-coming.coming.files.items c.in_ok-coming.coming.any) c.deref-4.ensures.value
-          (subst (λ (l : List Bool). IsComing c.deref-4.result.now l c.in_ok-coming.coming.files.items c.in_ok-coming.coming.any) c.deref-5.ensures.value c.in_ok-coming.ensures);
+      come = coming_still c.files_stand.ensures c.requires.may.0 c.args.graph.now plan c.args.before.now c.requires.may.1 c.in_ok-loads.loads.items c.in_ok-there.there.items c.set_any.new.self.files.items c.set_any.new.self.any
+          (c.in_ok-loads.ensures ∙ ap (without c.args.before.now.file) c.deref-3.ensures.value) (ap (λ v. v.items) c.set_any.ensures.files)
+          (λ none. subst (AreAway c.in_ok-there.there.items) c.deref-4.ensures.value
+          (subst (λ (l : List Bool). AreAway l c.deref-4.result.now) c.deref-5.ensures.value (c.is_any_there-any.ensures (sym c.set_any.ensures.any ∙ none))));
     }
 
 pub recount-requires-clause-lines : goal.recount-requires-clause-lines
