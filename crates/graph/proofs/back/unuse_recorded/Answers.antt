@@ -3,7 +3,7 @@ use Rattle.std.proofs.lemmas.List.{map-append, take_all}
 use Rattle.model.specs.Graph.{has_number}
 use Rattle.graph.specs.declared.back.LoadedEdge.{LoadedEdge}
 use Rattle.graph.specs.Fronts.{AreCut, recorded_times}
-use Rattle.graph.specs.Held.{list_at, times}
+use Rattle.graph.specs.Held.{times}
 use Rattle.graph.specs.LoadedEdges.{numbers_in}
 use Rattle.graph.proofs.Fronts.{cut_none, cut_then, recorded_push}
 use Rattle.graph.proofs.Gaining.{take_item}

@@ -1,4 +1,4 @@
-use Rattle.std.proofs.Common.{◌≡◌, ◌∙◌, ℕ, List, Option, ap, length, subst, sym, arith}
+use Rattle.std.proofs.Common.{◌∙◌, ℕ, List, Option, ap, length, subst, sym, arith}
 use Rattle.graph.specs.Gains.{gained_outputs, HaveGained}
 use Rattle.graph.specs.InTurn.{ClaimsGains}
 use Rattle.graph.proofs.Parts.{if_ok_then, on_err_then}

@@ -1,4 +1,4 @@
-use Rattle.std.proofs.Common.{◌≡◌, ◌∙◌, ◌<◌, ◌+◌, ℕ, List, IfSome, ap, length, subst, sym, take}
+use Rattle.std.proofs.Common.{◌∙◌, ◌<◌, ℕ, List, IfSome, ap, length, subst, sym, take}
 use Rattle.graph.specs.declared.choice.Choice.{Choice}
 use Rattle.graph.specs.Gains.{gained_outputs, AreFreed}
 use Rattle.graph.specs.InTurn.{AreOutputsBelow}

@@ -1,4 +1,4 @@
-use Rattle.std.proofs.Common.{◌≡◌, ◌∙◌, ◌≤◌, ℕ, List, length, subst, sym, arith}
+use Rattle.std.proofs.Common.{◌≡◌, ◌∙◌, ℕ, List, length, subst, sym, arith}
 use Rattle.paths.specs.declared.line.Line.{Line}
 use Rattle.graph.specs.InTurn.{AreMakersIn, AreOutputsBelow}
 use Rattle.graph.proofs.Claiming.{makers_are}

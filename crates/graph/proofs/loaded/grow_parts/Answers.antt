@@ -1,4 +1,4 @@
-use Rattle.std.proofs.Common.{◌≡◌, ◌∙◌, ◌≤◌, ℕ, List, Option, ap, length, sym, subst, take, arith}
+use Rattle.std.proofs.Common.{◌≡◌, ◌∙◌, ℕ, List, Option, ap, length, sym, subst, take, arith}
 use Rattle.graph.specs.declared.loaded.Parts.{Parts}
 use Rattle.graph.specs.Fronts.{AreCut}
 use Rattle.graph.specs.Gains.{gained_times, HaveGrown}

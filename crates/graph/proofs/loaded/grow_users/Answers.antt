@@ -1,4 +1,4 @@
-use Rattle.std.proofs.Common.{◌≡◌, ◌∙◌, ℕ, List, Result, Ok, Err, OnOk, OnErr, true, false, ap, length, subst, sym, take}
+use Rattle.std.proofs.Common.{◌≡◌, ◌∙◌, ℕ, List, ap, length, subst, sym, take}
 use Rattle.graph.specs.Held.{more_lists}
 use Rattle.graph.specs.InTurn.{users_given, AreInputsBelow}
 use Rattle.graph.proofs.Ends.{err_of, no_ok, no_err, some_err}

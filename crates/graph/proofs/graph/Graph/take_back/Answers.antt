@@ -1,9 +1,7 @@
-use Rattle.std.proofs.Common.{◌≡◌, ◌∙◌, ◌<◌, ◌++◌, ℕ, List, Option, Some, slice_get, length, sym, ap, subst, take, drop, arith}
+use Rattle.std.proofs.Common.{◌≡◌, ◌∙◌, ℕ, List, Option, Some, slice_get, length, sym, ap, subst, take, arith}
 use Rattle.std.specs.Prelude.{All}
-use Rattle.model.specs.Graph.{has_number}
 use Rattle.graph.specs.declared.back.LoadedEdge.{LoadedEdge}
 use Rattle.graph.specs.declared.choice.Choice.{Choice}
-use Rattle.graph.specs.declared.graph.Graph.{Graph}
 use Rattle.graph.specs.declared.loaded.Gain.{Gain}
 use Rattle.graph.specs.Chosen.{IsWithin}
 use Rattle.graph.specs.Fronts.{AreCut, recorded_times}

@@ -1,4 +1,4 @@
-use Rattle.std.proofs.Common.{◌≡◌, ◌∙◌, ◌++◌, ◌-◌, [], ℕ, List, ap, length, sym, take}
+use Rattle.std.proofs.Common.{◌∙◌, ◌++◌, ◌-◌, [], ℕ, ap, length, sym, take}
 use Rattle.std.specs.Prelude.{replicate}
 use Rattle.std.proofs.Math.Seq.{take-append_seam}
 use Rattle.graph.proofs.Ends.{err_of, no_ok, no_err, some_err}
