@@ -19,8 +19,8 @@ returns-then-is_err-clause-ok c = no_ok c.use_gains-used.result (sym c.if-is_err
 pub returns-then-is_err-clause-err : goal.returns-then-is_err-clause-err
 returns-then-is_err-clause-err c =
     let users = c.args.users.now in
-    let kept : c.use_gains.new.users ≡ more_lists users c.args.paths = err_of c.use_gains-used.result (sym c.if-is_err.ensures.value) c.use_gains-used.ensures.err ∙ c.in_ok-lengthen.ensures.ok in
-    some_err c.use_gains-used.result (c.truncate.ensures ∙ (ap (λ (n : ℕ). take n c.use_gains.new.users) c.len-known.ensures ∙ (ap (take (length users)) kept ∙ more_back users c.args.paths)))
+    let kept : c.use_gains-used.new.users ≡ more_lists users c.args.paths = err_of c.use_gains-used.result (sym c.if-is_err.ensures.value) c.use_gains-used.ensures.err ∙ c.in_ok-lengthen.ensures.ok in
+    some_err c.use_gains-used.result (c.truncate.ensures ∙ (ap (λ (n : ℕ). take n c.use_gains-used.new.users) c.len-known.ensures ∙ (ap (take (length users)) kept ∙ more_back users c.args.paths)))
 
 pub returns-else-is_err-clause-ok : goal.returns-else-is_err-clause-ok
 returns-else-is_err-clause-ok c =

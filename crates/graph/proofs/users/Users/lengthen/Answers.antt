@@ -12,7 +12,7 @@ pub returns-then-is_err-clause-err : goal.returns-then-is_err-clause-err
 returns-then-is_err-clause-err c =
     let old = c.args.self.now in
     let some = err_of c.add_paths-added.result (sym c.if-is_err.ensures.value) c.add_paths-added.ensures.err in
-    some_err c.add_paths-added.result (c.truncate.ensures ∙ (ap (λ (n : ℕ). take n c.add_paths.new.self) c.len-known.ensures ∙ (ap (take (length old)) some.1 ∙ take-append_seam old (replicate some.0 []))))
+    some_err c.add_paths-added.result (c.truncate.ensures ∙ (ap (λ (n : ℕ). take n c.add_paths-added.new.self) c.len-known.ensures ∙ (ap (take (length old)) some.1 ∙ take-append_seam old (replicate some.0 []))))
 
 pub returns-else-is_err-clause-ok : goal.returns-else-is_err-clause-ok
 returns-else-is_err-clause-ok c =
