@@ -160,7 +160,7 @@ module _ (old loaded now : Graph) (before : Before) (may : MayBeTakenBack old lo
 
   -- what joined a list since the load are the edges that recorded the path since then
   since_then : (p : ℕ) → p < length old.manifest.paths → GrewBy (recorded_times now.recorded (numbers_in before.edges.items) p) (list_at loaded.users p) (list_at now.users p)
-  since_then p low = record { more = more; grows = front.grows; long = recorded_counted now.recorded more edges p may.undoes.once each same }
+  since_then p low = record { more = more; grows = grows; long = recorded_counted now.recorded more edges p may.undoes.once each same }
     where
       edges : List ℕ
       edges = numbers_in before.edges.items
@@ -170,6 +170,9 @@ module _ (old loaded now : Graph) (before : Before) (may : MayBeTakenBack old lo
 
       more : List ℕ
       more = front.more
+
+      grows : list_at now.users p ≡ list_at loaded.users p ++ more
+      grows = front.grows
 
       in_loaded : p < length loaded.manifest.paths
       in_loaded = let long = more_length old.manifest.paths loaded.manifest.paths may.undoes.manifest.more in omega (arith, low, long)
@@ -185,7 +188,7 @@ module _ (old loaded now : Graph) (before : Before) (may : MayBeTakenBack old lo
           let one = times-append (line_inputs (line_at loaded.manifest.lines e)) (list_at loaded.recorded e) p in
           let two = times-append (line_inputs (line_at now.manifest.lines e)) (list_at now.recorded e) p in
           let lines = ap (λ (l : List Line). times (line_inputs (line_at l e)) p) may.gained.lines in
-          let list = ap (λ (l : List ℕ). times l e) front.grows in
+          let list = ap (λ (l : List ℕ). times l e) grows in
           let sum = times-append (list_at loaded.users p) more e in
           omega (arith, before_then, at_last, one, two, lines, list, sum)
 
