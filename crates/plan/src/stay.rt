@@ -250,9 +250,10 @@ fn take_room(flags: &mut Vec<bool>, copy: Vec<bool>, count: usize)
     ensures items { flags.new.items ≡ flags.old.items }
     ensures room { count ≤ vec_capacity flags.new }
 {
-    if flags.capacity() < count {
-        *flags = copy;
+    if flags.capacity() >= count {
+        return;
     }
+    *flags = copy;
 }
 
 /// Puts behind the flags whether each path of the graph that comes there is a source. There is room.
