@@ -22,10 +22,8 @@ impl Plan {
     ghost use Rattle.plan.specs.Planned.{IsPlanOver};
     ghost use Rattle.plan.specs.Staying.{MayGoOnBy, GoesOnAfter, GoesOnInside, MayBeCounted, MayCount, AreEdgesIn, AreInside, HasCounted, HasCountedOne, SetsLeft, OnlyCounts};
 
-    /// As `extend`, of the load that this undoes. Where the cone has the edges that it had, and nothing that the edges of the file make is
-    /// there, what else waits for is as it was: then it takes a time of the order of what these edges name, of the paths that came, and,
-    /// for one look at each, of the edges and of the files that are still to be loaded. The flags of paths are copied where there is no
-    /// room for more, and get room for half as many more then.
+    /// As `extend`, of the load that this undoes. Where the cone has the edges that it had, for which each edge is looked at once, it does
+    /// what `extend_inside` does.
     pub fn extend_by(
         &mut self,
         alloc: Global,
@@ -40,25 +38,36 @@ impl Plan {
         ensures planned { OnOk result (GoesOnAfter graph.now cone.now self.old self.new before.now) }
         ensures err { OnErr result (self.new ≡ self.old) }
     {
-        files_stand();
-        if self.stays(graph, cone, &before.edges) {
-            return self.extend_in_place(alloc, graph, before);
+        if are_inside(&cone.marks, &self.standings) {
+            return self.extend_inside(alloc, graph, cone, before);
         }
         self.extend(alloc, graph, cone)
     }
 
-    /// Whether the cone has just the edges that stand in it, and these may be counted by themselves.
-    fn stays(&self, graph: &Graph, cone: &Cone, edges: &[LoadedEdge]) -> bool
-        requires lines { vec_len self.now.standings ≡ length graph.now.manifest.lines }
+    /// As `extend_by`, over a cone that has just the edges that stand in it, as the one that was there before the load. Where nothing that
+    /// the edges of the file make is there, what else waits for is as it was: then it takes a time of the order of what these edges name,
+    /// of the paths that came, and, for one look at each, of the files that are still to be loaded. The flags of paths are copied where
+    /// there is no room for more, and get room for half as many more then.
+    pub fn extend_inside(
+        &mut self,
+        alloc: Global,
+        graph: &Graph,
+        cone: &Cone,
+        before: &Before,
+    ) -> Result<(), AllocError>
         requires marks { vec_len cone.now.marks ≡ length graph.now.manifest.lines }
-        requires within { AreEdgesIn graph.now edges.now }
-        ensures inside { result ≡ true → AreInside cone.now.marks.items self.now.standings.items }
-        ensures counted { result ≡ true → MayCount graph.now self.now edges.now }
+        requires inside { AreInside cone.now.marks.items self.old.standings.items }
+        requires may { (was : GraphOf) × MayGoOnBy was graph.now self.old before.now }
+        ensures over { OnOk result (IsPlanOver graph.now self.new) }
+        ensures flags { OnOk result ((p : ℕ) → has self.new.changed.items p ≡ has self.old.changed.items p) }
+        ensures planned { OnOk result (GoesOnAfter graph.now cone.now self.old self.new before.now) }
+        ensures err { OnErr result (self.new ≡ self.old) }
     {
-        if !are_inside(&cone.marks, &self.standings) {
-            return false;
+        files_stand();
+        if self.may_count_all(graph, &before.edges) {
+            return self.extend_in_place(alloc, graph, before);
         }
-        self.may_count_all(graph, edges)
+        self.extend(alloc, graph, cone)
     }
 
     /// Whether none of these edges was judged, and nothing that they make is there.

@@ -1,6 +1,6 @@
 //! Loading dyndep files (manual: "Dynamic Dependencies").
 
-ghost use Rattle.std.specs.Prelude.{◌≡◌, ◌<◌, ◌≤◌, false, All, length, IfOk, IfErr, OnOk, OnErr, Ok, Err};
+ghost use Rattle.std.specs.Prelude.{◌≡◌, ◌<◌, ◌≤◌, ℕ, false, All, length, IfOk, IfErr, OnOk, OnErr, Ok, Err};
 ghost use Rattle.model.specs.Records.{Store};
 ghost use Rattle.model.specs.SingleBuild.{Asked};
 ghost use Rattle.model.specs.Calls.{OnlyLooks};
@@ -10,7 +10,8 @@ ghost use Rattle.graph.specs.Alone.{HasChangedBy};
 ghost use Rattle.graph.specs.Back.{Undoes};
 ghost use Rattle.graph.specs.LoadedEdges.{numbers_in};
 ghost use Rattle.graph.specs.Targets.{IsNoConeAgain};
-ghost use Rattle.plan.specs.Staying.{MayGoOnBy, GoesOnAfter};
+ghost use Rattle.plan.specs.Flags.{has};
+ghost use Rattle.plan.specs.Staying.{MayGoOnBy, GoesOnAfter, AreInside};
 ghost use Rattle.work.specs.Cutting.{IsMet};
 ghost use Rattle.work.specs.Standing.{IsToLoad, Loads, RefusesLoad, StopsLoad, IsStopThere, IfRefused, IfFault, HasFewerFiles, OnRefusal, OnFault};
 ghost use Rattle.work.specs.Joined.{stop_of, IsMemory, MayJoin, HasRoomIn, StayKnown, IsUndone, IsLoaded, GoesOnBy, GoesOnOver, IsAskedOver, MayKeep, IsCircleOver, IsUnfitAt, IsUnfitOf, IsCircleOf, WasSaid, cone_then, HasMarksFor, IsConeBehind, UnjoinedBy, UnjoinedOver, WereKnown, MayShrink, KeepsRest, StayKnownFrom, SawBefore, HasLoadedFile, JoinsFrom, IsUnreadAt, StopsAsSaid};
@@ -25,7 +26,7 @@ use dyndep::{Addition, DynFault, ReadError, one_answer, parse};
 use graph::{Before, Cone, ConeFault, ExtendFault, Graph, cones_stay, files_stand, lists_stand};
 use model::SiteFault;
 use paths::PathId;
-use plan::{loads_go_on_by, task_of};
+use plan::{Plan, loads_go_on_by, task_of};
 use records::{Records, log_stays};
 use site::Site;
 use std::alloc::{AllocError, Global};
@@ -66,6 +67,7 @@ impl Work<'_> {
     /// Where it does not, all is as before, but for how the records are kept.
     fn join(&mut self, file: PathId, additions: &[Addition]) -> Result<(), Stop>
         requires may { (asked : Asked) × (store : Store) × MayJoin asked store self.old.graph self.old file }
+        requires inside { AreInside self.old.cone.marks.items self.old.plan.standings.items }
         ensures goes { OnOk result (GoesOnBy file additions.now self.old self.new) }
         ensures room { OnOk result (HasRoomIn self.new.graph self.old self.new) }
         ensures known { OnOk result (StayKnown self.old.graph self.new.graph self.old.records self.new.records) }
@@ -93,6 +95,7 @@ impl Work<'_> {
     /// Where that fails, the cone and the plan are as before, and what else was done can be undone.
     fn join_parts(&mut self, before: &Before) -> Result<(), Stop>
         requires loaded { IsLoaded self.old.graph self.old before.now }
+        requires inside { AreInside self.old.cone.marks.items self.old.plan.standings.items }
         ensures goes { OnOk result (GoesOnOver before.now self.old self.new) }
         ensures room { OnOk result (HasRoomIn self.new.graph self.old self.new) }
         ensures known { OnOk result (StayKnownFrom self.old.graph self.new.graph self.old.records self.new.records) }
@@ -188,6 +191,7 @@ impl Work<'_> {
     /// the load that this undoes.
     fn grow(&mut self, grown: &Option<Cone>, before: &Before) -> Result<(), AllocError>
         requires marks { HasMarksFor self.old.graph (cone_then self.old.cone grown.now) }
+        requires inside { AreInside self.old.cone.marks.items self.old.plan.standings.items }
         requires may { (was : GraphOf) × MayGoOnBy was self.old.graph self.old.plan before.now }
         requires fits { length self.old.looks.seen.items ≤ length self.old.graph.manifest.paths }
         ensures graph { self.new.graph ≡ self.old.graph }
@@ -200,19 +204,37 @@ impl Work<'_> {
         ensures looks { SawBefore self.old.looks self.new.looks }
     {
         self.looks.grow(&self.graph)?;
-        let cone = cone_behind(&self.cone, grown);
-        self.plan.extend_by(self.alloc, &self.graph, cone, before)?;
+        extend_plan(
+            self.alloc,
+            &mut self.plan,
+            &self.graph,
+            &self.cone,
+            grown,
+            before,
+        )?;
         Ok(())
     }
 }
 
-/// The cone behind a load: the one that was made, else the one that was.
-fn cone_behind<'c>(kept: &'c Cone, grown: &'c Option<Cone>) -> &'c Cone
-    ensures { result.now ≡ cone_then kept.now grown.now }
+/// The plan goes on over the cone that was made; else over the one that was, in which just the edges stand that stood in it.
+fn extend_plan(
+    alloc: Global,
+    plan: &mut Plan,
+    graph: &Graph,
+    kept: &Cone,
+    grown: &Option<Cone>,
+    before: &Before,
+) -> Result<(), AllocError>
+    requires marks { HasMarksFor graph.now (cone_then kept.now grown.now) }
+    requires inside { AreInside kept.now.marks.items plan.old.standings.items }
+    requires may { (was : GraphOf) × MayGoOnBy was graph.now plan.old before.now }
+    ensures flags { OnOk result ((p : ℕ) → has plan.new.changed.items p ≡ has plan.old.changed.items p) }
+    ensures planned { OnOk result (GoesOnAfter graph.now (cone_then kept.now grown.now) plan.old plan.new before.now) }
+    ensures err { OnErr result (plan.new ≡ plan.old) }
 {
     match grown {
-        Some(cone) => cone,
-        None => kept,
+        Some(cone) => plan.extend_by(alloc, graph, cone, before),
+        None => plan.extend_inside(alloc, graph, kept, before),
     }
 }
 
