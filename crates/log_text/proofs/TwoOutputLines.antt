@@ -1,5 +1,5 @@
 -- The line of a record of two outputs.
-use Rattle.std.proofs.Common.{◌≡◌, ◌<◌, ℕ, decimal, true, false, List, [], ◌∷◌, ◌++◌, Option, Some, None, Result, IfOk, Ok, Err, refl, sym, ap, ◌∙◌, subst, arith}
+use Rattle.std.proofs.Common.{◌≡◌, ℕ, decimal, false, List, [], ◌∷◌, ◌++◌, Option, Some, None, Result, IfOk, Ok, Err, refl, sym, ap, ◌∙◌, subst, arith}
 use Rattle.std.specs.Str.{IsUtf8, bytes_eq}
 use Rattle.std.proofs.lemmas.Bool.{or_from}
 use Rattle.std.proofs.lemmas.Fmt.{decimal_digit}

@@ -1,5 +1,5 @@
 -- How a plan goes on in place when a load has changed few edges.
-use Rattle.std.specs.Prelude.{◌≡◌, ◌⊎◌, ℕ, ◌==◌, ◌<◌, ◌≤◌, not, Bool, true, false, if◌then◌else◌, List, [], ◌∷◌, ◌++◌, length, slice_index, slice_set, count_by, is_none}
+use Rattle.std.specs.Prelude.{◌≡◌, ◌⊎◌, ℕ, ◌==◌, ◌<◌, ◌≤◌, not, Bool, true, false, if◌then◌else◌, List, [], ◌∷◌, length, slice_index, slice_set, count_by, is_none}
 use Rattle.model.specs.Graph.{has_number, edge_at, Addition}
 use Rattle.plan.specs.Flags.{has}
 use Rattle.graph.specs.declared.back.Before.{Before}

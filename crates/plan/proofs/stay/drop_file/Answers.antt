@@ -1,4 +1,4 @@
-use Rattle.std.proofs.Common.{◌≡◌, ◌∙◌, ◌+◌, ◌++◌, List, ℕ, take, drop, ap, length, subst, sym, arith}
+use Rattle.std.proofs.Common.{◌∙◌, ◌+◌, ◌++◌, List, ℕ, take, drop, ap, subst, sym, arith}
 use Rattle.plan.specs.Staying.{without, AreOnce}
 use Rattle.plan.proofs.stay.drop_file.Goals as goal
 

@@ -1,4 +1,4 @@
-use Rattle.std.proofs.Common.{◌≡◌, ◌∙◌, Option, OnOk, ap, subst, sym, vec_len}
+use Rattle.std.proofs.Common.{◌∙◌, Option, OnOk, ap, subst, sym, vec_len}
 use Rattle.graph.specs.declared.cone.Cone.{Cone}
 use Rattle.plan.specs.Staying.{GoesOnAfter}
 use Rattle.work.specs.Joined.{cone_then}

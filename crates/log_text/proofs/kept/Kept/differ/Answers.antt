@@ -1,4 +1,4 @@
-use Rattle.std.proofs.Common.{◌≡◌, ◌∙◌, sym}
+use Rattle.std.proofs.Common.{◌∙◌, sym}
 use Rattle.log_text.proofs.Notes.{same_some}
 use Rattle.log_text.proofs.Parts.{not_text}
 use Rattle.log_text.proofs.kept.Kept.differ.Goals as goal

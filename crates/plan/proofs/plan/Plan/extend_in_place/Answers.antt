@@ -1,4 +1,4 @@
-use Rattle.std.proofs.Common.{◌≡◌, ◌∙◌, ℕ, List, Bool, true, length, vec_capacity, ap, subst, sym, arith}
+use Rattle.std.proofs.Common.{◌≡◌, ◌∙◌, List, Bool, true, length, vec_capacity, ap, subst, sym, arith}
 use Rattle.graph.specs.declared.back.LoadedEdge.{LoadedEdge}
 use Rattle.graph.specs.Links.{links_of}
 use Rattle.graph.specs.LoadedEdges.{numbers_in}
@@ -14,8 +14,8 @@ take_room-requires c = λ few.
     let copy = c.in_ok-there.there in
     subst (λ (l : List Bool). IsCopyWithRoom l c.paths-count.result copy.items (vec_capacity copy)) c.deref.ensures.value (c.in_ok-there.ensures (omega (arith, few, c.capacity.ensures)))
 
-pub take_room-2-requires : goal.take_room-2-requires
-take_room-2-requires c = λ few.
+pub take_room-requires-2 : goal.take_room-requires-2
+take_room-requires-2 c = λ few.
     let copy = c.in_ok-changed.changed in
     subst (λ (l : List Bool). IsCopyWithRoom l c.paths-count.result copy.items (vec_capacity copy)) c.deref-2.ensures.value (c.in_ok-changed.ensures (omega (arith, few, c.capacity-2.ensures)))
 

@@ -1,4 +1,4 @@
-use Rattle.std.proofs.Common.{◌≡◌, ℕ, List, true, length, sym, ◌∙◌, ap, subst, arith}
+use Rattle.std.proofs.Common.{◌≡◌, ℕ, List, true, sym, ◌∙◌, ap, subst, arith}
 use Rattle.model.specs.Graph.{has_number}
 use Rattle.paths.specs.Told.{texts_at}
 use Rattle.graph.specs.declared.back.LoadedEdge.{LoadedEdge}
