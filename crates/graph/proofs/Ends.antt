@@ -31,6 +31,23 @@ pub err_of : {T E : Type 0} {P : Type 0} (r : Result T E) → is_err r ≡ true 
 err_of (Ok x) error is = absurd (false≢true error)
 err_of (Err e) error is = is
 
+-- an error says nothing of what was done, and no error nothing of what was not
+pub no_ok : {T E : Type 0} {P : Type 0} (r : Result T E) → is_err r ≡ true → OnOk r P
+no_ok (Ok x) error = absurd (false≢true error)
+no_ok (Err e) error = tt
+
+pub no_err : {T E : Type 0} {P : Type 0} (r : Result T E) → is_err r ≡ false → OnErr r P
+no_err (Ok x) no_error = tt
+no_err (Err e) no_error = absurd (true≢false no_error)
+
+pub on_ok : {T E : Type 0} {P : Type 0} (r : Result T E) → P → OnOk r P
+on_ok (Ok x) p = p
+on_ok (Err e) p = tt
+
+pub some_err : {T E : Type 0} {P : Type 0} (r : Result T E) → P → OnErr r P
+some_err (Ok x) p = tt
+some_err (Err e) p = p
+
 pub all_take : (P : ℕ → Type 0) (n : ℕ) (xs : List ℕ) → AllByRecursion P xs → AllByRecursion P (take n xs)
 all_take P zero xs all = tt
 all_take P (suc n) [] all = tt

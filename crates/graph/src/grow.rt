@@ -3,6 +3,7 @@
 ghost use Rattle.std.specs.Prelude.{◌≡◌, ◌<◌, ◌++◌, [], ℕ, List, All, take, slice_set, ◌≤◌, length, IfOk, OnOk, OnErr, nat_eq};
 ghost use Rattle.indexmap.specs.IndexSet.{insert_all};
 ghost use Rattle.graph.specs.Held.{list_at, StandOnce};
+ghost use Rattle.graph.specs.Fronts.{FrontsStay};
 ghost use Rattle.graph.specs.Grown.{HasNumbered, HasGained};
 
 use crate::graph::Graph;
@@ -111,6 +112,7 @@ impl Graph {
         ensures recorded { OnOk result (self.new.recorded ≡ slice_set self.old.recorded edge inputs.now) }
         ensures manifest { self.new.manifest ≡ self.old.manifest }
         ensures makers { self.new.makers ≡ self.old.makers }
+        ensures users { OnOk result (FrontsStay self.old.users self.new.users) }
         ensures err { OnErr result (self.new ≡ self.old) }
     {
         let fresh = &inputs[held..];

@@ -4,7 +4,8 @@ ghost use Rattle.std.specs.Prelude.{◌≡◌, ◌<◌, ◌+◌, ◌++◌, ◌�
 ghost use Rattle.std.proofs.Math.ListN.{replicate};
 ghost use Rattle.paths.specs.Lists.{between, Extends};
 ghost use Rattle.graph.specs.Rooms.{IsMoved, AreLaid};
-ghost use Rattle.graph.specs.Held.{list_at, more_lists, push_at, pushed, pop_at};
+ghost use Rattle.graph.specs.Held.{list_at, more_lists, times, push_at, pushed, pop_at};
+ghost use Rattle.graph.specs.Fronts.{AreCut, HaveEmptyBehind};
 
 use paths::{EdgeId, PathId};
 use std::alloc::{AllocError, Global};
@@ -76,36 +77,34 @@ impl Users {
         Ok(Users { edges, rooms })
     }
 
-    /// The same lists for so many paths, where those behind have none, with places for so many edges more. What lists left when they moved
-    /// is copied as well: each moved into more than twice what it left.
-    pub(crate) fn copied(
-        &self,
-        alloc: Global,
-        paths: usize,
-        more: usize,
-    ) -> Result<Users, AllocError>
-        requires { length self.now ≤ paths }
-        ensures { IfOk result (λ users. users ≡ more_lists self.now paths) }
+    /// No paths, without memory.
+    pub(crate) fn empty(alloc: Global) -> Users
+        ensures { result ≡ [] }
     {
-        let mut users = self.same(alloc, paths, more)?;
-        users.add_paths(paths - self.len())?;
-        Ok(users)
+        Users {
+            edges: Vec::new(alloc),
+            rooms: Vec::new(alloc),
+        }
     }
 
-    /// The same lists, with room for so many paths in all and for so many edges more.
-    fn same(&self, alloc: Global, paths: usize, more: usize) -> Result<Users, AllocError>
-        ensures { IfOk result (λ users. users ≡ self.now) }
+    /// So many paths in all: no edge names those behind. Where memory is refused, nothing is changed.
+    pub(crate) fn lengthen(&mut self, paths: usize) -> Result<(), AllocError>
+        requires { length self.old ≤ paths }
+        ensures ok { OnOk result (self.new ≡ more_lists self.old paths) }
+        ensures err { OnErr result (self.new ≡ self.old) }
     {
-        let mut edges = Vec::with_capacity(alloc, self.edges.len().saturating_add(more))?;
-        edges.extend_from_slice(&self.edges)?;
-        let mut rooms = Vec::with_capacity(alloc, paths)?;
-        rooms.extend_from_slice(&self.rooms)?;
-        Ok(Users { edges, rooms })
+        let known = self.len();
+        let added = self.add_paths(paths - known);
+        if added.is_err() {
+            self.truncate(known);
+        }
+        added
     }
 
-    /// So many more paths, which no edge names.
+    /// So many more paths, which no edge names. Where memory is refused, some of them may be there.
     fn add_paths(&mut self, count: usize) -> Result<(), AllocError>
-        ensures { OnOk result (self.new ≡ self.old ++ replicate count []) }
+        ensures ok { OnOk result (self.new ≡ self.old ++ replicate count []) }
+        ensures err { OnErr result (HaveEmptyBehind self.old self.new) }
     {
         for _done in 0..count {
             self.add_path()?;
@@ -254,10 +253,11 @@ impl Users {
         }
     }
 
-    /// Takes back what was put behind those that name these paths.
+    /// Takes back what was put behind those that name these paths: each list loses as many edges as the path stands among these.
     pub fn pop_all(&mut self, paths: &[PathId])
         requires { All (λ p. p < length self.old) paths.now }
-        ensures { (users : List (List ℕ)) (edge : ℕ) → self.old ≡ pushed users paths.now edge → self.new ≡ users }
+        ensures back { (users : List (List ℕ)) (edge : ℕ) → self.old ≡ pushed users paths.now edge → self.new ≡ users }
+        ensures cut { AreCut (times paths.now) self.old self.new }
     {
         let (_, mut left) = paths.split_at(0);
         while let Some((last, front)) = left.split_last() {

@@ -55,3 +55,12 @@ IsToCompact all in_force = WantsCompaction (length all) (length in_force)
 -- the output with this number was said this of: a record more
 abbrev pub PutsOne : {T : Type 0} → ℕ → Option T → Table T → Table T → Type 0
 PutsOne number said old new = (text : List ℕ) → slice_get old.outputs number ≡ Some text → KeepsAlso IsTableOf (text ∷ [], said) old new
+
+-- the texts with these numbers are not the same
+abbrev pub AreOther : List (List ℕ) → ℕ → ℕ → Type 0
+AreOther texts first second = (a b : List ℕ) → slice_get texts first ≡ Some a → slice_get texts second ≡ Some b → a ≡ b → ⊥
+
+-- the outputs with these two numbers were said this of, where they are not the same: a record more
+abbrev pub PutsTwo : {T : Type 0} → ℕ → ℕ → Option T → Table T → Table T → Type 0
+PutsTwo first second said old new =
+    (a b : List ℕ) → slice_get old.outputs first ≡ Some a → slice_get old.outputs second ≡ Some b → (a ≡ b → ⊥) → KeepsAlso IsTableOf (a ∷ b ∷ [], said) old new

@@ -15,8 +15,9 @@ use crate::done::Done;
 use crate::field::{Field, plain_fields};
 use crate::form::{Records, Version};
 use crate::kept::Kept;
-use crate::one_output::{Last, put_short};
+use crate::one_output::Last;
 use crate::tail::Tail;
+use crate::two_outputs::put_front;
 use model::Record;
 use std::alloc::{AllocError, Global};
 use std::marker::Model;
@@ -93,7 +94,7 @@ impl Records for BuildLog {
         version: Version,
         line: &[u8],
     ) -> Result<bool, AllocError> {
-        let is_put = put_short(&mut self.kept, &mut self.last, alloc, version, line)?;
+        let is_put = put_front(&mut self.kept, &mut self.last, alloc, version, line)?;
         Ok(is_put)
     }
 

@@ -4,7 +4,7 @@ ghost use Rattle.std.specs.Prelude.{◌≡◌, ◌<◌, ◌≤◌, ◌↔◌, �
 ghost use Rattle.std.specs.List.{list_any};
 ghost use Rattle.std.specs.Option.{option_copied, option_map};
 ghost use Rattle.log_text.specs.Kept.{IsTableOf, AreDistinct, AreNumbersOf, told_of, tolds, place_of, place_at, is_place, is_left, tellings, in_force_of, outputs_left, texts_at, if_some};
-ghost use Rattle.log_text.specs.Keeping.{OfTable, KeepsSame, KeepsAlso, PutsOne, at_number, IsToCompact};
+ghost use Rattle.log_text.specs.Keeping.{OfTable, KeepsSame, KeepsAlso, PutsOne, PutsTwo, AreOther, at_number, IsToCompact};
 ghost use Rattle.log_text.specs.Found.{texts_in, tellings_in, AreNamed, PutsFound, PutsLeft, Leaves};
 ghost use Rattle.log_text.specs.Steps.{IsFilled, IsGrown, IsSaid};
 ghost use Rattle.text.specs.Marks.{Lacks};
@@ -110,6 +110,40 @@ impl<T: Drop> Kept<T> {
         self.say_one(alloc, number, said)?;
         self.records = records;
         Ok(())
+    }
+
+    /// Puts a record of the outputs with these two numbers at the end. Where memory is refused, what is kept stands for the same records
+    /// as before.
+    pub(crate) fn put_two(
+        &mut self,
+        alloc: Global,
+        first: usize,
+        second: usize,
+        said: Option<T>,
+    ) -> Result<(), AllocError>
+        ensures ok { OnOk result (PutsTwo first second said self.old self.new) }
+        ensures err { OnErr result (KeepsSame IsTableOf self.old self.new) }
+    {
+        let records = self.records.checked_add(1).ok_or(AllocError)?;
+        let mut numbers = Vec::with_capacity(alloc, 2)?;
+        numbers.push(first)?;
+        numbers.push(second)?;
+        self.say(Items::from_vec(numbers), said)?;
+        self.records = records;
+        Ok(())
+    }
+
+    /// Whether these are the numbers of two texts that are not the same.
+    pub(crate) fn differ(&self, first: usize, second: usize) -> bool
+        ensures { result ≡ true → AreOther self.now.outputs first second }
+    {
+        let Some(one) = self.text(first) else {
+            return false;
+        };
+        let Some(other) = self.text(second) else {
+            return false;
+        };
+        one != other
     }
 
     /// The numbers of these texts; those that have none get one, which stays theirs. What is kept stands for the same
@@ -343,6 +377,7 @@ impl<T: Drop> Kept<T> {
     ) -> Result<Option<(usize, &'a [u8])>, AllocError>
         requires { Lacks 10 bytes.now }
         ensures same { KeepsSame IsTableOf self.old self.new }
+        ensures grown { IsGrown self.old self.new }
         ensures number { IfFound result (λ parts. IsTaken self.new.outputs bytes.now parts.0 parts.1.now) }
     {
         if let Some((number, after)) = self.outputs.follow(last, bytes) {

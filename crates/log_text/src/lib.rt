@@ -21,6 +21,7 @@ mod outputs;
 mod read;
 mod tail;
 mod texts;
+mod two_outputs;
 
 pub use build_log::BuildLog;
 pub use build_record::{begun_line, done_line, made_line};

@@ -19,7 +19,7 @@ use model::Act;
 use std::alloc::{AllocError, Global};
 use text::{Text, cut};
 
-/// The numbers of the outputs of the last begun record and of the last done one. Outputs often come in an order in which they came
+/// The numbers of the last outputs of the last begun record and of the last done one. Outputs often come in an order in which they came
 /// before, so each is guessed by the one in front of it.
 #[derive(Clone, Copy, Debug)]
 pub struct Last {
@@ -38,13 +38,13 @@ impl Last {
 
     /// That of the last record of this kind.
     #[inline(always)]
-    fn of(&self, kind: u8) -> usize {
+    pub(crate) fn of(&self, kind: u8) -> usize {
         if kind == b'b' { self.begun } else { self.done }
     }
 
     /// Notes that of a record of this kind.
     #[inline(always)]
-    fn set(&mut self, kind: u8, number: usize) {
+    pub(crate) fn set(&mut self, kind: u8, number: usize) {
         if kind == b'b' {
             self.begun = number;
         } else {
@@ -120,7 +120,11 @@ fn behind_kind(front: &[u8]) -> Option<(u8, &[u8])>
 }
 
 /// What a record of this kind says of its output, where this stands behind the output.
-fn said_behind(alloc: Global, kind: u8, told: &[u8]) -> Result<Option<Option<Done>>, AllocError>
+pub(crate) fn said_behind(
+    alloc: Global,
+    kind: u8,
+    told: &[u8],
+) -> Result<Option<Option<Done>>, AllocError>
     requires { Lacks 10 told.now }
     ensures { IfFound result (IsSaidBehind kind told.now) }
 {

@@ -24,7 +24,6 @@ use Rattle.paths.specs.Lists.{line_at, line_inputs}
 use Rattle.paths.specs.Told.{text_at, texts_at, edge_of}
 use Rattle.graph.specs.declared.back.Before.{Before}
 use Rattle.graph.specs.declared.cone.Cone.{Cone}
-use Rattle.graph.specs.declared.cone.Mark.{Mark}
 use Rattle.graph.specs.declared.graph.Graph.{Graph}
 use Rattle.graph.specs.Alone.{HasGrownAlone}
 use Rattle.graph.specs.Back.{Undoes, MayBeTakenBack}
@@ -193,6 +192,8 @@ module _ {asked : Asked} {store : Store} {graph : Graph} {state : Work} {file : 
         builddir = ap (λ (b : BuildGraph). b.builddir) so_far.grown.declared;
         lines = so_far.grown.lines;
         others = so_far.others;
+        makers = so_far.grown.makers;
+        users = so_far.grown.users;
       };
       none = λ e there. nothing_of graph.manifest.paths (list_at graph.recorded e) (nothing_in (recorded_by graph (suc e)) (none_recorded e (sym (undoes.edges e) ∙ there)));
     }
@@ -336,13 +337,11 @@ pub file_is : (o : Option ℕ) (n : ℕ) → is_place o n ≡ true → o ≡ Som
 file_is None n is = absurd (false≢true is)
 file_is (Some m) n is = ap (λ (k : ℕ). Some k) (eqb-true m n is)
 
-pub kept_cone : (graph : Graph) (recorded : ℕ → List (List ℕ)) (cone copied : Cone) → copied.order.items ≡ cone.order.items → copied.marks.items ≡ cone.marks.items → copied.targets.items ≡ cone.targets.items
-    → IsConeOf (declared_by graph).edges recorded (texts_at graph.manifest.paths cone.targets.items) cone.order.items cone.marks.items → IsConeOfNumbers graph recorded cone.targets.items copied
-kept_cone graph recorded cone copied order marks targets listed = record {
-  listed = subst (λ (l : List ℕ). IsConeOf (declared_by graph).edges recorded (texts_at graph.manifest.paths cone.targets.items) l copied.marks.items) (sym order)
-      (subst (λ (m : List Mark). IsConeOf (declared_by graph).edges recorded (texts_at graph.manifest.paths cone.targets.items) cone.order.items m) (sym {A = List Mark} marks) listed);
+pub kept_cone : (graph : Graph) (recorded : ℕ → List (List ℕ)) (cone : Cone) → IsConeOf (declared_by graph).edges recorded (texts_at graph.manifest.paths cone.targets.items) cone.order.items cone.marks.items → IsConeOfNumbers graph recorded cone.targets.items cone
+kept_cone graph recorded cone listed = record {
+  listed = listed;
   acyclic = λ i in_cone. no_cycle_by_order (declared_by graph).edges recorded (map suc cone.order.items) listed.ordered i (listed.all i in_cone);
-  numbers = targets;
+  numbers = refl;
 }
 
 -- ---- records that shrink again

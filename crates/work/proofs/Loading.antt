@@ -1,6 +1,6 @@
 -- A build stands before the load of a dyndep file: what the file that was read held, and how the build goes on behind the load, is
 -- refused, or is cut off.
-use Rattle.std.proofs.Common.{◌≡◌, ◌⊎◌, inl, inr, ℕ, zero, suc, ◌<◌, cond, Bool, true, false, IsTrue, List, [], ◌∷◌, ◌++◌, map, length, get_or, bytes_eq, Option, Some, None, is_some, Result, Ok, Err, refl, sym, ◌∙◌, ap, subst, append_assoc, arith}
+use Rattle.std.proofs.Common.{◌≡◌, ◌⊎◌, inl, inr, ℕ, zero, suc, ◌<◌, not, cond, Bool, true, false, IsTrue, List, [], ◌∷◌, ◌++◌, map, length, get_or, bytes_eq, Option, Some, None, is_some, Result, Ok, Err, refl, sym, ◌∙◌, ap, subst, append_assoc, arith}
 use Rattle.std.specs.List.{All}
 use Rattle.std.specs.Option.{option_map}
 use Rattle.std.proofs.lemmas.Bool.{false≢true, false_from_ne_true}
@@ -41,6 +41,7 @@ use Rattle.work.proofs.Points.{IsSpared, points_alike}
 use Rattle.plan.specs.Flags as flags
 use Rattle.paths.specs.Told.{text_at, texts_at}
 use Rattle.graph.specs.declared.cone.Cone.{Cone}
+use Rattle.graph.specs.Cone.{mark_at, is_listed}
 use Rattle.graph.specs.declared.graph.Graph.{Graph}
 use Rattle.graph.specs.Extended.{addition_of}
 use Rattle.graph.specs.Linked.{StandFor, IsConeOf}
@@ -50,6 +51,8 @@ use Rattle.judge.specs.declared.looks.Look.{Look}
 use Rattle.judge.specs.Seen.{look_at, look_of, is_asked, AreKept, AreSeenOf}
 use Rattle.plan.specs.declared.plan.Plan.{Plan}
 use Rattle.plan.specs.Planned.{IsDeclaredTask, IsTaskOf, IsPlanned}
+use Rattle.plan.specs.Standing.{standing_at, is_outside}
+use Rattle.plan.specs.Staying.{AreInside}
 use Rattle.records.specs.declared.logs.Logs.{Logs}
 use Rattle.records.specs.Known.{AreKnown}
 use Rattle.records.specs.Laws.{LogStays}
@@ -68,6 +71,7 @@ use Rattle.work.specs.Joined.{WasHeld, IsUnread, IsUnfitBy, IsCircleBy, IsUnjoin
 use Rattle.work.specs.Loads.{HeldThen, IsRefusedFile, IsSaying, IsUnfitFor}
 use Rattle.work.proofs.Fewer.{fewer_left}
 use Rattle.work.proofs.FileJoins.{none_unloaded, text_front, texts_front, same_graph}
+use Rattle.work.proofs.KnownClean.{listed_suc}
 use Rattle.work.proofs.LoadPoints.{point_now, asked_later, asked_load}
 use Rattle.work.proofs.Telling.{none_of_phony}
 use Rattle.work.proofs.Unedited.{bound_kept}
@@ -135,6 +139,14 @@ module _ (tells : Bool) (course : Course) (edges : List Edge) (phases : List Pha
     listed = subst (λ (b : BuildGraph). IsConeOf b.edges (recorded_inputs course.store b.edges) (texts_at graph.manifest.paths state.cone.targets.items) state.cone.order.items state.cone.marks.items) stands.suits.same
         (subst (λ (ts : List (List ℕ)). IsConeOf edges (recorded_inputs course.store edges) ts state.cone.order.items state.cone.marks.items) (sym {A = List (List ℕ)} stands.on.cone.numbers) stands.on.cone.listed);
   }
+
+  -- just the edges of the cone stand in it
+  pub stand_inside : AreInside state.cone.marks.items state.plan.standings.items
+  stand_inside e = by (is_outside (standing_at state.plan.standings.items e)) refl
+    where
+      by : (b : Bool) → is_outside (standing_at state.plan.standings.items e) ≡ b → is_listed (mark_at state.cone.marks.items e) ≡ not b
+      by true is = stands.on.cone.listed.marked e ∙ false_from_ne_true (has_number state.cone.order.items e) (λ there. false≢true (sym (stands.on.planned.inside e (stands.on.cone.listed.within e there)) ∙ is))
+      by false is = stands.on.cone.listed.marked e ∙ listed_suc state.cone.order.items e (stands.on.cone.listed.all (suc e) (stands.on.planned.within e is))
 
   -- ---- over calls that only look
 

@@ -52,7 +52,7 @@ module _ (graph : Graph) (e : ℕ) (lt : e < length graph.manifest.lines) where
 pub output_within : (graph : Graph) (e k : ℕ) (outputs : List ℕ) (p : ℕ) → outputs ≡ (links_of graph).outputs e → k < length outputs → p ≡ get_or outputs k p → p < length graph.manifest.paths
 output_within graph e k outputs p same lt is =
     let has = subst (λ (l : List ℕ). has_number l p ≡ true) same (listed outputs k p lt is) in
-    let inside = maker_within graph.makers.items p e (graph.making.all p e has) in
+    let inside = maker_within graph.makers p e (graph.making.all p e has) in
     let fits = graph.making.fits in
     omega (arith, inside, fits)
 

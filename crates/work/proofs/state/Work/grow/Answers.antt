@@ -12,20 +12,20 @@ returns-in_err-grow-clause-beside c = record { logs = refl; tick = refl; starts 
 pub returns-in_err-grow-clause-looks : goal.returns-in_err-grow-clause-looks
 returns-in_err-grow-clause-looks c = c.grow.ensures.front
 
-pub returns-in_err-extend_by-clause-beside : goal.returns-in_err-extend_by-clause-beside
-returns-in_err-extend_by-clause-beside c = record { logs = refl; tick = refl; starts = refl; failed = refl }
+pub returns-in_err-extend_plan-clause-beside : goal.returns-in_err-extend_plan-clause-beside
+returns-in_err-extend_plan-clause-beside c = record { logs = refl; tick = refl; starts = refl; failed = refl }
 
-pub returns-in_err-extend_by-clause-plan : goal.returns-in_err-extend_by-clause-plan
-returns-in_err-extend_by-clause-plan c = on_err c.from_residual-in_err-extend_by.result c.in_err-extend_by.ensures.err
+pub returns-in_err-extend_plan-clause-plan : goal.returns-in_err-extend_plan-clause-plan
+returns-in_err-extend_plan-clause-plan c = on_err c.from_residual-in_err-extend_plan.result c.in_err-extend_plan.ensures.err
 
-pub returns-in_err-extend_by-clause-looks : goal.returns-in_err-extend_by-clause-looks
-returns-in_err-extend_by-clause-looks c = c.grow.ensures.front
+pub returns-in_err-extend_plan-clause-looks : goal.returns-in_err-extend_plan-clause-looks
+returns-in_err-extend_plan-clause-looks c = c.grow.ensures.front
 
 pub returns-clause-planned : goal.returns-clause-planned
-returns-clause-planned c = c.in_ok-extend_by.ensures.planned
+returns-clause-planned c = c.in_ok-extend_plan.ensures.planned
 
 pub returns-clause-room : goal.returns-clause-room
-returns-clause-room c = record { fits = c.in_ok-grow.ensures.fits; looks = c.in_ok-grow.ensures.same; changed = c.in_ok-extend_by.ensures.flags; tick = refl; starts = refl; failed = refl }
+returns-clause-room c = record { fits = c.in_ok-grow.ensures.fits; looks = c.in_ok-grow.ensures.same; changed = c.in_ok-extend_plan.ensures.flags; tick = refl; starts = refl; failed = refl }
 
 pub returns-clause-beside : goal.returns-clause-beside
 returns-clause-beside c = record { logs = refl; tick = refl; starts = refl; failed = refl }

@@ -16,17 +16,14 @@ returns-in_err-before-clause-undone c = on_err c.from_residual.result (record {
   known = λ rs ds known. known;
 })
 
-pub join_parts-requires : goal.join_parts-requires
-join_parts-requires c =
-    let may = c.requires.may in
-    record {
-      loaded = (
-        may.0,
-        may.1,
-        c.args.self.now.graph,
-        record { file = c.args.file; additions = map addition_of c.args.additions.now; may = may_over c.extend.new.graph may.2; undoes = c.in_ok-before.ensures.before; has = c.in_ok-before.ensures.loaded; alone = c.in_ok-before.ensures.alone },
-      );
-    }
+pub join_parts-requires-clause-loaded : goal.join_parts-requires-clause-loaded
+join_parts-requires-clause-loaded c =
+    let may = c.requires.may in (
+      may.0,
+      may.1,
+      c.args.self.now.graph,
+      record { file = c.args.file; additions = map addition_of c.args.additions.now; may = may_over c.extend.new.graph may.2; undoes = c.in_ok-before.ensures.before; has = c.in_ok-before.ensures.loaded; alone = c.in_ok-before.ensures.alone },
+    )
 
 pub take_back-requires : goal.take_back-requires
 take_back-requires c = (c.args.self.now.graph, (c.extend.new.graph, may_take_back c.requires.may.2 c.in_ok-before.ensures.before c.in_ok-before.ensures.loaded c.in-Err.ensures.grown))

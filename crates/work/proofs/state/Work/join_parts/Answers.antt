@@ -1,13 +1,14 @@
-use Rattle.std.proofs.Common.{ap, length, refl, sym, ◌∙◌, subst, arith}
+use Rattle.std.proofs.Common.{◌≡◌, ap, length, refl, sym, ◌∙◌, subst, arith, Option}
 use Rattle.std.proofs.lemmas.List.{take_all}
 use Rattle.model.specs.Records.{recorded_inputs}
 use Rattle.graph.specs.Told.{declared_by}
+use Rattle.graph.specs.declared.cone.Cone.{Cone}
 use Rattle.graph.specs.declared.graph.Graph.{Graph}
 use Rattle.graph.specs.LoadedEdges.{numbers_in}
 use Rattle.paths.specs.Told.{text_at}
 use Rattle.records.specs.declared.records.Records.{Records}
 use Rattle.records.specs.Known.{AreKnown}
-use Rattle.work.specs.Joined.{MayShrink, UnjoinedOver, GoesOnWith}
+use Rattle.work.specs.Joined.{cone_then, MayShrink, UnjoinedOver, GoesOnWith}
 use Rattle.work.specs.Recorded.{HasGrownAt}
 use Rattle.work.specs.Standing.{IfRefused}
 use Rattle.work.proofs.FileJoins.{numbers_within, to_join, recorded_now, joined_file, asked_now, asked_same, targets_within, targets_are, circle_by, may_go_on_by, may_keep, seen_fits}
@@ -142,12 +143,17 @@ returns-clause-goes c asked store graph j =
     let joined = c.in_ok-join_inputs.ensures.joined graph j.has.added j.has.paths store.records store.deps j.may.known (to_join j.may j.undoes j.has) in
     let recorded = recorded_now j.may j.undoes j.has c.files_stand.ensures joined in
     let by = c.loads_go_on_by.ensures graph c.args.self.now.graph (text_at graph.manifest.paths j.file) j.additions c.args.self.now.plan c.args.before.now j.may.over j.may.some j.has j.alone in
-    subst (λ (of : Graph). GoesOnWith store graph of c.args.self.now.cone.targets.items c.in_ok-grown.grown c.args.self.now.plan c.grow.new.self.plan (text_at graph.manifest.paths j.file) j.additions) (sym {A = Graph} c.grow.ensures.graph)
+    let targets = c.args.self.now.cone.targets.items in
+    let file = text_at graph.manifest.paths j.file in
+    let made : Option Cone = c.in_ok-grown.grown in
+    let put : c.put_cone.new.cone ≡ cone_then c.args.self.now.cone made = c.put_cone.ensures ∙ ap (λ (kept : Cone). cone_then kept made) c.grow.ensures.cone in
+    subst (λ (cone : Cone). GoesOnWith store graph c.grow.new.self.graph targets cone c.args.self.now.plan c.grow.new.self.plan file j.additions) (sym {A = Cone} put)
+    (subst (λ (of : Graph). GoesOnWith store graph of targets (cone_then c.args.self.now.cone made) c.args.self.now.plan c.grow.new.self.plan file j.additions) (sym {A = Graph} c.grow.ensures.graph)
     (record {
       joined = joined_file j.may j.undoes j.has c.files_stand.ensures joined;
       cone_of = c.in_ok-grown.ensures.cone (recorded_inputs store (declared_by c.join_inputs.new.graph).edges) recorded;
       planned = c.in_ok-grow.ensures.planned graph (may_go_on_by j.may j.undoes j.has c.files_stand.ensures joined by);
-    })
+    }))
 
 pub returns-clause-room : goal.returns-clause-room
 returns-clause-room c =

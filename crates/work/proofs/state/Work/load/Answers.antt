@@ -6,7 +6,7 @@ use Rattle.work.specs.Standing.{RefusesAt, StopsAt, IsStopThere, IfRefused}
 use Rattle.work.specs.Joined.{WasHeld}
 use Rattle.work.specs.Loads.{IsSaying}
 use Rattle.work.proofs.LoadEnds.{load_stop, load_stop_by, stops_undone, refuses_undone}
-use Rattle.work.proofs.Loading.{may_join, unread_cause, unjoined_cause, has_begun, fewer_by}
+use Rattle.work.proofs.Loading.{may_join, stand_inside, unread_cause, unjoined_cause, has_begun, fewer_by}
 use Rattle.work.proofs.Results.{on_err}
 use Rattle.work.proofs.StopCases.{refused_then, passed}
 use Rattle.work.proofs.state.Work.load.Goals as goal
@@ -55,12 +55,16 @@ returns-in_err-additions-clause-halted g c =
 
 -- ---- it was
 
-pub join-joined-requires : goal.join-joined-requires
-join-joined-requires g c =
+pub join-joined-requires-clause-may : goal.join-joined-requires-clause-may
+join-joined-requires-clause-may g c =
     let course = c.requires.at.0 in
     let edges = c.requires.at.1 in
     let phases = c.requires.at.2 in
-    record { may = (asked_with course.asked edges, course.store, may_join g.S.Texts.tells course edges phases c.args.self.now.graph c.args.self.now (g.S.Texts.world c.args.site.now) c.requires.at.3 c.args.file c.requires.at.4) }
+    (asked_with course.asked edges, course.store, may_join g.S.Texts.tells course edges phases c.args.self.now.graph c.args.self.now (g.S.Texts.world c.args.site.now) c.requires.at.3 c.args.file c.requires.at.4)
+
+pub join-joined-requires-clause-inside : goal.join-joined-requires-clause-inside
+join-joined-requires-clause-inside g c =
+    stand_inside g.S.Texts.tells c.requires.at.0 c.requires.at.1 c.requires.at.2 c.args.self.now.graph c.args.self.now (g.S.Texts.world c.args.site.now) c.requires.at.3 c.args.file c.requires.at.4
 
 pub returns-in-Ok-clause-begun : goal.returns-in-Ok-clause-begun
 returns-in-Ok-clause-begun g c course edges phases at =
