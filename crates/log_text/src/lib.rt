@@ -19,6 +19,8 @@ mod number;
 mod one_output;
 mod outputs;
 mod read;
+mod sharing;
+mod stock;
 mod tail;
 mod texts;
 
@@ -39,5 +41,6 @@ pub use laws::{
 pub use line::{end_line, fields, plain_field, push_list, push_number, push_text, without_dot};
 pub use number::number_of;
 pub use outputs::{are_distinct, split_counted, split_outputs};
-pub use read::parse;
+pub use read::{parse, parse_from};
+pub use stock::Stock;
 pub use tail::Tail;

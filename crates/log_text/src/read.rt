@@ -9,6 +9,7 @@ ghost use Rattle.log_text.specs.Keeping.{IsParsed, KeepsLines, PutsLine};
 use crate::field::Field;
 use crate::form::{Records, Version};
 use crate::line::{room_for_fields, take_fields};
+use crate::stock::Stock;
 use crate::tail::{Tail, split_tail, tail_behind, tail_of_header};
 use std::alloc::{AllocError, Global};
 use text::cut;
@@ -20,17 +21,24 @@ use text::cut;
 pub fn parse<L: Records>(alloc: Global, bytes: &[u8]) -> Result<(L, Tail), AllocError>
     ensures { IfOk result (λ read. IsParsed L.forms L.Keeps bytes.now read.0 read.1) }
 {
+    parse_from::<L>(&Stock::new(alloc), bytes)
+}
+
+/// The same, with what may be taken over from a stock of texts, which changes nothing of what is kept.
+pub fn parse_from<L: Records>(stock: &Stock<'_>, bytes: &[u8]) -> Result<(L, Tail), AllocError>
+    ensures { IfOk result (λ read. IsParsed L.forms L.Keeps bytes.now read.0 read.1) }
+{
     L::are_readable();
     let (whole, rest) = split_tail(bytes);
     let Some((first, lines)) = cut(whole, b'\n') else {
-        return Ok((L::new(alloc), tail_of_header::<L>(rest)));
+        return Ok((L::new(stock.alloc), tail_of_header::<L>(rest)));
     };
     let Some(version) = version_of::<L>(first) else {
-        return Ok((L::new(alloc), Tail::Damaged));
+        return Ok((L::new(stock.alloc), Tail::Damaged));
     };
-    let mut log = L::new(alloc);
-    if !put_lines(alloc, version, lines, &mut log)? {
-        return Ok((L::new(alloc), Tail::Damaged));
+    let mut log = L::new(stock.alloc);
+    if !put_lines(stock, version, lines, &mut log)? {
+        return Ok((L::new(stock.alloc), Tail::Damaged));
     }
     Ok((log, tail_behind::<L>(version, rest)))
 }
@@ -51,7 +59,7 @@ fn version_of<L: Records>(first: &[u8]) -> Option<Version>
 
 /// Puts the records of these lines at the end, if each is a record's, and says whether they are.
 fn put_lines<L: Records>(
-    alloc: Global,
+    stock: &Stock<'_>,
     version: Version,
     lines: &[u8],
     log: &mut L,
@@ -61,10 +69,10 @@ fn put_lines<L: Records>(
     ensures none { IfNo result (AreNoLinesOf (L.forms version) lines.now) }
 {
     L::are_readable();
-    let mut fields = room_for_fields(alloc)?;
+    let mut fields = room_for_fields(stock.alloc)?;
     let mut rest = lines;
     'lines: while let Some((line, after)) = cut(rest, b'\n') {
-        if !put_line(alloc, version, line, &mut fields, log)? {
+        if !put_line(stock, version, line, &mut fields, log)? {
             return Ok(false);
         }
         rest = after;
@@ -75,7 +83,7 @@ fn put_lines<L: Records>(
 /// Puts the record of a line, which is handed in without its line feed, at the end, if it is one's. What the list of
 /// fields holds before and after is nothing that counts: it lends its room.
 fn put_line<'a, L: Records>(
-    alloc: Global,
+    stock: &Stock<'_>,
     version: Version,
     line: &'a [u8],
     fields: &mut Vec<Field<'a>>,
@@ -85,11 +93,11 @@ fn put_line<'a, L: Records>(
     ensures put { IfYes result (PutsLine (L.forms version) L.Keeps line.now log.old log.new) }
     ensures none { IfNo result (IsNoLineOf (L.forms version) line.now) }
 {
-    if log.put_plain(alloc, version, line)? {
+    if log.put_plain(stock, version, line)? {
         return Ok(true);
     }
-    if !take_fields(alloc, line, fields)? {
+    if !take_fields(stock.alloc, line, fields)? {
         return Ok(false);
     }
-    log.put_fields(alloc, version, fields.as_slice())
+    log.put_fields(stock, version, fields.as_slice())
 }

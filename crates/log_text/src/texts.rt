@@ -768,7 +768,7 @@ fn spread(sum: u64) -> u64 {
 }
 
 /// What stands behind the field of a plain text and its tab, where they stand in front.
-fn behind_text<'a>(text: &str, bytes: &'a [u8]) -> Option<&'a [u8]>
+pub(crate) fn behind_text<'a>(text: &str, bytes: &'a [u8]) -> Option<&'a [u8]>
     requires { IsPlain text.now }
     ensures found { IfSome result (λ after. bytes.now ≡ field_and_tab text.now ++ after.now) }
     ensures utf8 { IsUtf8 text.now }

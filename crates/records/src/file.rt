@@ -10,7 +10,7 @@ ghost use Rattle.records.specs.Held.{text_in, WasReadSo, ArePlaces, AreMadeBehin
 ghost use Rattle.records.specs.Carried.{CarriesOn, CarriesLine, ChangesSo, PutsSo, TellsAlso};
 
 use graph::Graph;
-use log_text::{Records, Tail, front_of_lines, line_grows_log, one_reading};
+use log_text::{Records, Stock, Tail, front_of_lines, line_grows_log, one_reading};
 use model::SiteFault;
 use paths::PathId;
 use site::Site;
@@ -46,9 +46,9 @@ impl<L> Model for LogFile<L> {
 }
 
 impl<L: Records> LogFile<L> {
-    /// Reads the log. It only looks; a text that is torn, damaged or of version 1 is no fault.
+    /// Reads the log, with what may be taken over from the stock. It only looks; a text that is torn, damaged or of version 1 is no fault.
     pub(crate) fn read<S: Site>(
-        alloc: Global,
+        stock: &Stock<'_>,
         site: &mut S,
         path: String,
     ) -> Result<LogFile<L>, SiteFault>
@@ -59,7 +59,7 @@ impl<L: Records> LogFile<L> {
         ensures read { IfOk result (WasReadSo L.forms L.Keeps L.compaction S.tells (S.world site.old) (S.world site.new)) }
     {
         let content = site.read(path.as_str())?;
-        let (log, state) = log_of::<L>(alloc, &content)?;
+        let (log, state) = log_of::<L>(stock, &content)?;
         Ok(LogFile { path, log, state })
     }
 
@@ -187,11 +187,11 @@ impl<L: Records> LogFile<L> {
 }
 
 /// What the content of the file tells, and what may be done with it. One that is absent is as one that is empty.
-fn log_of<L: Records>(alloc: Global, content: &Option<Bytes>) -> Result<(L, State), AllocError>
+fn log_of<L: Records>(stock: &Stock<'_>, content: &Option<Bytes>) -> Result<(L, State), AllocError>
     ensures { IfOk result (λ log. IsJudged L.forms L.Keeps L.compaction content.now log.0 log.1) }
 {
     let text = bytes_in(content);
-    let (log, tail) = log_text::parse::<L>(alloc, text)?;
+    let (log, tail) = log_text::parse_from::<L>(stock, text)?;
     let state = state_of::<L>(text, &log, tail);
     Ok((log, state))
 }

@@ -1,7 +1,7 @@
 use Rattle.std.proofs.Common.{[], sym, ◌∙◌, subst, refl, List, ℕ}
 use Rattle.log_text.specs.Text.{IsRead}
 use Rattle.log_text.proofs.Tails.{damaged_lines, log_lines, log_first, log_of_lines, some_mark}
-use Rattle.log_text.proofs.read.parse.Goals as goal
+use Rattle.log_text.proofs.read.parse_from.Goals as goal
 
 pub returns-in_default-version_of : goal.returns-in_default-version_of
 returns-in_default-version_of g c =
