@@ -101,7 +101,8 @@ impl Records for DepsLog {
             return Ok(false);
         }
         let outputs = [Field::plain(output)];
-        self.kept.put(stock.alloc, &outputs, Some(Deps { start, paths }))?;
+        self.kept
+            .put(stock.alloc, &outputs, Some(Deps { start, paths }))?;
         Ok(true)
     }
 
