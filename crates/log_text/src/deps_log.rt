@@ -198,7 +198,7 @@ impl DepsLog {
     }
 
     /// The path with this number. It takes no memory.
-    pub fn path(&self, number: usize) -> Option<&str>
+    pub fn path(&self, number: u32) -> Option<&str>
         ensures { option_map (λ path. path.now) result ≡ slice_get self.now.outputs number }
     {
         self.kept.text(number)

@@ -25,28 +25,28 @@ use text::{SharedText, Text, cut};
 /// before, so each is guessed by the one in front of it.
 #[derive(Clone, Copy, Debug)]
 pub struct Last {
-    pub begun: usize,
-    pub done: usize,
+    pub begun: u32,
+    pub done: u32,
 }
 
 impl Last {
     /// Where there was no record.
     pub(crate) fn new() -> Last {
         Last {
-            begun: usize::MAX,
-            done: usize::MAX,
+            begun: u32::MAX,
+            done: u32::MAX,
         }
     }
 
     /// That of the last record of this kind.
     #[inline(always)]
-    fn of(&self, kind: u8) -> usize {
+    fn of(&self, kind: u8) -> u32 {
         if kind == b'b' { self.begun } else { self.done }
     }
 
     /// Notes that of a record of this kind.
     #[inline(always)]
-    fn set(&mut self, kind: u8, number: usize) {
+    fn set(&mut self, kind: u8, number: u32) {
         if kind == b'b' {
             self.begun = number;
         } else {
@@ -73,7 +73,7 @@ pub(crate) fn put_short(
     let Some((kind, named)) = head_of(version, line) else {
         return Ok(false);
     };
-    let Some((number, told)) = kept.take_behind(stock.alloc, last.of(kind), named)? else {
+    let Some((number, told)) = kept.take_behind(stock.alloc, last.of(kind) as usize, named)? else {
         return Ok(false);
     };
     let guess = act_at(stock, kept, kind, number);
@@ -86,7 +86,7 @@ pub(crate) fn put_short(
 }
 
 /// What makes the output with this number now, as far as the stock knows it. It is asked for a done record alone.
-fn act_at<'a>(stock: &Stock<'a>, kept: &Kept<Done>, kind: u8, number: usize) -> Option<&'a Act> {
+fn act_at<'a>(stock: &Stock<'a>, kept: &Kept<Done>, kind: u8, number: u32) -> Option<&'a Act> {
     if kind != b'd' {
         return None;
     }

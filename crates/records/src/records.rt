@@ -129,7 +129,7 @@ impl Records {
     }
 
     /// The text of a path that a deps record names by this number. It takes no memory.
-    pub fn deps_path(&self, number: usize) -> Option<&str>
+    pub fn deps_path(&self, number: u32) -> Option<&str>
         ensures { option_map (λ path. path.now) result ≡ slice_get self.now.logs.deps_log.log.outputs number }
     {
         self.logs.deps_log.log().path(number)
