@@ -18,6 +18,7 @@ mod line;
 mod number;
 mod one_output;
 mod outputs;
+mod pieces;
 mod read;
 mod sharing;
 mod stock;
@@ -41,6 +42,7 @@ pub use laws::{
 pub use line::{end_line, fields, plain_field, push_list, push_number, push_text, without_dot};
 pub use number::number_of;
 pub use outputs::{are_distinct, split_counted, split_outputs};
+pub use pieces::Pieces;
 pub use read::{parse, parse_from};
 pub use stock::Stock;
 pub use tail::Tail;

@@ -6,6 +6,7 @@ mod items;
 mod marks;
 mod path;
 mod shared;
+mod takes;
 mod text;
 
 pub use bytes::Bytes;
@@ -13,6 +14,7 @@ pub use items::Items;
 pub use marks::cut;
 pub use path::Path;
 pub use shared::SharedText;
+pub use takes::Takes;
 pub use text::Text;
 
 #[cfg(test)]
