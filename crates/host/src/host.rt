@@ -24,7 +24,7 @@ use std::io::{ErrorKind, Write};
 use std::time::{SystemTime, UNIX_EPOCH};
 use std::{fmt, io};
 use terminal::{Look, Names, Terminal};
-use text::Bytes;
+use text::{Bytes, Takes};
 
 /// What is told where the clock did not go on.
 const STANDS: &str =
@@ -410,6 +410,11 @@ impl<'a, W: Write> Texts for Host<'a, W> {
     fn read(&mut self, path: &str) -> Result<Option<Bytes>, SiteFault> {
         let found = self.disk.read(path);
         self.noted(path, found)
+    }
+
+    fn read_into<T: Takes>(&mut self, path: &str, taker: &mut T) -> Result<(), SiteFault> {
+        let handed = self.disk.read_into(path, taker);
+        self.noted(path, handed)
     }
 
     fn failures(&self) -> u64 {

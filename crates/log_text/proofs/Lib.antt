@@ -15,6 +15,7 @@ pub mod InForce
 pub mod Compacting
 pub mod Decided
 pub mod EachRead
+pub mod Amid
 pub mod BuildRecordOf
 mod Plain
 mod OneOutputLines

@@ -40,6 +40,14 @@ PutsLine {R} form Keeps line old new = (r : R) × (line ≡ line_text (form.fiel
 abbrev pub KeepsLines : {R L : Type 0} → Form R → Keeping R L → List ℕ → L → Type 0
 KeepsLines {R} form Keeps lines log = (all : List R) × (lines ≡ lines_text form all) × HaveLines form all × Keeps all log
 
+-- it stands for the same records as before, and these behind them
+abbrev pub KeepsMore : {R L : Type 0} → Keeping R L → List R → L → L → Type 0
+KeepsMore {R} Keeps more old new = (records : List R) → Keeps records old → Keeps (records ++ more) new
+
+-- the lines are those of records, which were put at the end
+abbrev pub PutsLines : {R L : Type 0} → Form R → Keeping R L → List ℕ → L → L → Type 0
+PutsLines {R} form Keeps lines old new = (all : List R) × (lines ≡ lines_text form all) × HaveLines form all × KeepsMore Keeps all old new
+
 -- what is kept stands for the records of the bytes, which end so
 abbrev pub IsParsed : {R L : Type 0} → (Version → Form R) → Keeping R L → List ℕ → L → Tail → Type 0
 IsParsed {R} forms Keeps bytes log tail = (records : List R) × IsRead forms bytes records tail × Keeps records log

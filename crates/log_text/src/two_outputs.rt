@@ -13,15 +13,16 @@ use crate::done::Done;
 use crate::form::Version;
 use crate::kept::Kept;
 use crate::line::without_dot;
-use crate::one_output::{Last, put_short, said_behind};
-use std::alloc::{AllocError, Global};
+use crate::one_output::{Last, act_at, put_short, said_behind};
+use crate::stock::Stock;
+use std::alloc::AllocError;
 
 /// Puts the record of a line, which is handed in without its line feed, at the end where it names one output or two, and says whether
 /// it did. Where it did not, or memory is refused, what is kept stands for some records, and where it did not, for the same as before.
 pub(crate) fn put_front(
     kept: &mut Kept<Done>,
     last: &mut Last,
-    alloc: Global,
+    stock: &Stock<'_>,
     version: Version,
     line: &[u8],
 ) -> Result<bool, AllocError>
@@ -30,17 +31,17 @@ pub(crate) fn put_front(
     ensures none { IfNo result (KeepsSame Keeps kept.old kept.new) }
     ensures table { StaysTable kept.old kept.new }
 {
-    if put_short(kept, last, alloc, version, line)? {
+    if put_short(kept, last, stock, version, line)? {
         return Ok(true);
     }
-    put_pair(kept, last, alloc, version, line)
+    put_pair(kept, last, stock, version, line)
 }
 
 /// The same where it names two.
 fn put_pair(
     kept: &mut Kept<Done>,
     last: &mut Last,
-    alloc: Global,
+    stock: &Stock<'_>,
     version: Version,
     line: &[u8],
 ) -> Result<bool, AllocError>
@@ -52,19 +53,20 @@ fn put_pair(
     let Some((kind, named)) = pair_of(version, line) else {
         return Ok(false);
     };
-    let Some((first, rest)) = kept.take_behind(alloc, last.of(kind), named)? else {
+    let Some((first, rest)) = kept.take_behind(stock.alloc, last.of(kind) as usize, named)? else {
         return Ok(false);
     };
-    let Some((second, told)) = kept.take_behind(alloc, first, rest)? else {
+    let Some((second, told)) = kept.take_behind(stock.alloc, first as usize, rest)? else {
         return Ok(false);
     };
-    let Some(said) = said_behind(alloc, kind, told)? else {
+    let guess = act_at(stock, kept, kind, second);
+    let Some(said) = said_behind(stock.alloc, kind, told, guess)? else {
         return Ok(false);
     };
     if !kept.differ(first, second) {
         return Ok(false);
     }
-    kept.put_two(alloc, first, second, said)?;
+    kept.put_two(stock.alloc, first, second, said)?;
     last.set(kind, second);
     Ok(true)
 }

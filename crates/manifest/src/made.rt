@@ -16,7 +16,7 @@ use lexer::{ReadFault, canonical, is_settled};
 use model::{Act, Deps};
 use paths::{Command, Line, PathId, Paths};
 use std::alloc::{AllocError, Global};
-use text::{Items, Text};
+use text::{Items, SharedText, Text};
 
 /// What an edge with a command does. The dyndep file is put into the table.
 pub fn command_of(alloc: Global, table: &mut Paths, values: Values) -> Result<Command, ReadError>
@@ -25,17 +25,16 @@ pub fn command_of(alloc: Global, table: &mut Paths, values: Values) -> Result<Co
     ensures dyndep { IfOk result (λ command. stop_of command.dyndep ≤ length table.new) }
     ensures memory { IfErr result (λ error. error ≡ ReadError.Memory) }
 {
-    let depfile = path_or_none(alloc, values.depfile)?;
-    let response_path = path_or_none(alloc, values.rspfile)?;
+    let act = act_of(
+        alloc,
+        values.command,
+        values.depfile,
+        values.rspfile,
+        values.rspfile_content,
+    )?;
     let dyndep = file_or_none(alloc, table, &values.dyndep)?;
     let deps = deps_of(&values.deps);
     let restat = !values.restat.is_empty();
-    let act = Act {
-        command: values.command,
-        depfile,
-        response_path,
-        response_content: values.rspfile_content,
-    };
     Ok(Command {
         act,
         description: values.description,
@@ -43,6 +42,32 @@ pub fn command_of(alloc: Global, table: &mut Paths, values: Values) -> Result<Co
         restat,
         pool: some_text(values.pool),
         dyndep,
+    })
+}
+
+/// The act of these values. Its command and what its response file holds are kept so that others may share them.
+fn act_of(
+    alloc: Global,
+    command: Text,
+    depfile: Text,
+    rspfile: Text,
+    content: Text,
+) -> Result<Act, ReadError>
+    ensures command { IfOk result (λ act. act.command ≡ command) }
+    ensures depfile { IfOk result (λ act. IsPathOrNone depfile act.depfile) }
+    ensures response_path { IfOk result (λ act. IsPathOrNone rspfile act.response_path) }
+    ensures content { IfOk result (λ act. act.response_content ≡ content) }
+    ensures memory { IfErr result (λ error. error ≡ ReadError.Memory) }
+{
+    let depfile = path_or_none(alloc, depfile)?;
+    let response_path = path_or_none(alloc, rspfile)?;
+    let command = SharedText::from_text(alloc, command)?;
+    let response_content = SharedText::from_text(alloc, content)?;
+    Ok(Act {
+        command,
+        depfile,
+        response_path,
+        response_content,
     })
 }
 

@@ -7,7 +7,7 @@ use log_text::{BuildLog, Deps, Done, Records, Tail, done_line, number_of};
 use model::{Act, Record};
 use std::alloc::{AllocError, Global};
 use tables::push_word;
-use text::{Items, Path, Text};
+use text::{Items, Path, SharedText, Text};
 
 /// What the text of a log tells: how it ends, how many records there are and are in force, and what is left where it is
 /// compacted.
@@ -214,10 +214,10 @@ fn outputs(alloc: Global, output: &str) -> Result<Items<Path>, AllocError>
 
 fn act(alloc: Global, command: &str) -> Result<Act, AllocError> {
     Ok(Act {
-        command: Text::from_str(alloc, command)?,
+        command: SharedText::from_str(alloc, command)?,
         depfile: Text::new(alloc),
         response_path: Text::new(alloc),
-        response_content: Text::new(alloc),
+        response_content: SharedText::new(),
     })
 }
 

@@ -6,7 +6,7 @@ use model::Event;
 use site::SiteFault;
 use std::alloc::Global;
 use std::io::{self, Write};
-use text::{Bytes, Text};
+use text::Bytes;
 
 /// Prints a line for each event. The line of an end has the command of its job's start.
 pub fn print_events<W: Write>(alloc: Global, writer: &mut W, events: &[Event]) -> io::Result<()> {
@@ -14,8 +14,8 @@ pub fn print_events<W: Write>(alloc: Global, writer: &mut W, events: &[Event]) -
     for event in events {
         match event {
             Event::Start { job, act, .. } => {
-                commands.insert(*job, &act.command)?;
-                let command = &act.command;
+                let command = act.command.as_str();
+                commands.insert(*job, command)?;
                 writeln!(writer, "start {command}")?;
             }
             Event::Finish { job, ok } => {

@@ -1,4 +1,4 @@
-use crate::{Bytes, Items, Path, Text, cut};
+use crate::{Bytes, Items, Path, SharedText, Text, cut};
 use std::test::Fail;
 
 #[test]
@@ -42,5 +42,24 @@ fn bytes_and_items(rt: HostRuntime) -> Result<(), Fail> {
     items.push(9)?;
     assert_eq!(rt; items.len(), 2);
     assert_eq!(rt; items.into_vec().as_slice(), [7, 9].as_slice());
+    Ok(())
+}
+
+#[test]
+fn shared_texts(rt: HostRuntime) -> Result<(), Fail> {
+    let alloc = rt.alloc();
+    let text = SharedText::from_str(alloc, "cat b a")?;
+    let copy = text.clone()?;
+    assert!(rt; text == copy);
+    assert_eq!(rt; copy.as_str(), "cat b a");
+    assert!(rt; text != SharedText::new());
+    Ok(())
+}
+
+#[test]
+fn empty_shared_texts(rt: HostRuntime) -> Result<(), Fail> {
+    let alloc = rt.alloc();
+    assert_eq!(rt; SharedText::new().as_str(), "");
+    assert!(rt; SharedText::from_text(alloc, Text::new(alloc))? == SharedText::new());
     Ok(())
 }

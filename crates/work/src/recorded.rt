@@ -179,20 +179,20 @@ impl Numbers {
         graph: &mut Graph,
         records: &Records,
         inputs: &mut PathSet,
-        path: usize,
+        path: u32,
     ) -> Result<(), AllocError>
         ensures grown { HasOnlyMorePaths graph.old graph.new }
         ensures numbered { StayNumbered graph.old graph.new records.now self.old self.new }
         ensures inputs { OnOk result (AddsText graph.old graph.new records.now self.old inputs.old inputs.new path) }
     {
-        if let Some(number) = number_at(&self.known, path) {
+        if let Some(number) = number_at(&self.known, path as usize) {
             inputs.insert(number)?;
             return Ok(());
         }
         let Some(text) = records.deps_path(path) else {
             return Ok(());
         };
-        let number = self.number_of(graph, path, text)?;
+        let number = self.number_of(graph, path as usize, text)?;
         inputs.insert(number)?;
         Ok(())
     }

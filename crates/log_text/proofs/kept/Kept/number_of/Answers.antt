@@ -1,7 +1,7 @@
 use Rattle.std.proofs.Common.{◌≡◌, ◌∷◌, [], ◌++◌, List, ℕ, Some, sym, ap, ◌∙◌, subst, slice_get, Option, None}
 use Rattle.log_text.specs.Kept.{IsTableOf}
 use Rattle.log_text.proofs.KeptRecords.{grown_same, as_table}
-use Rattle.log_text.proofs.kept.Kept.number.Goals as goal
+use Rattle.log_text.proofs.kept.Kept.number_of.Goals as goal
 
 pub returns-in-Some-clause-number : goal.returns-in-Some-clause-number
 returns-in-Some-clause-number g c = subst (λ v. slice_get v.outputs c.in-Some.number ≡ Some c.args.output.now) c.self.view_is c.in-Some.ensures.some
