@@ -70,7 +70,7 @@ take_but xs e = let long : length (xs ++ e ∷ []) - 1 ≡ length xs = shorter (
     front [] = refl
     front (y ∷ ys) = ap (λ (l : List ℕ). y ∷ l) (front ys)
 
-pop_push : (users : List (List ℕ)) (p e : ℕ) → p < length users → set (push_at users p e) p (take (length (list_at (push_at users p e) p) - 1) (list_at (push_at users p e) p)) ≡ users
+pub pop_push : (users : List (List ℕ)) (p e : ℕ) → p < length users → set (push_at users p e) p (take (length (list_at (push_at users p e) p) - 1) (list_at (push_at users p e) p)) ≡ users
 pop_push users p e lt =
     ap (λ (l : List ℕ). set (push_at users p e) p (take (length l - 1) l)) (push_same users p e lt)
     ∙ (ap (set (push_at users p e) p) (take_but (list_at users p) e) ∙ set_back users p (list_at users p ++ e ∷ []))

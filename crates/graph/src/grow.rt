@@ -11,8 +11,7 @@ use crate::path_set::PathSet;
 use paths::{EdgeId, PathId};
 use std::alloc::{AllocError, Global};
 
-/// For each input that is recorded, or that a dyndep file says, so many places are reserved for who names it: lists that grow leave
-/// room behind.
+/// For each input that a dyndep file says so many places are reserved for who names it: lists that grow leave room behind.
 pub(crate) const USERS_ROOM: usize = 3;
 
 impl Graph {
@@ -30,12 +29,36 @@ impl Graph {
         added
     }
 
-    /// Room for so many more recorded inputs of edges.
+    /// The same, where so many edges are to name the path as a recorded input: unless memory is refused, there is room for them in one place.
+    pub fn add_named(
+        &mut self,
+        alloc: Global,
+        path: &str,
+        named: usize,
+    ) -> Result<PathId, AllocError>
+        ensures added { IfOk result (HasNumbered self.old self.new path.now) }
+        ensures err { OnErr result (self.new ≡ self.old) }
+    {
+        let number = self.add_path(alloc, path)?;
+        self.make_room(number, named);
+        Ok(number)
+    }
+
+    /// Makes room for so many more edges that name the path, unless memory is refused.
+    fn make_room(&mut self, path: PathId, named: usize)
+        ensures { self.new ≡ self.old }
+    {
+        if named > 1 {
+            self.users.widen(path, named - 1);
+        }
+    }
+
+    /// Room for so many more recorded inputs of edges, where it is known of each path how many edges are to name it (`add_named`).
     pub fn reserve_inputs(&mut self, inputs: usize) -> Result<(), AllocError>
         ensures { self.new ≡ self.old }
     {
         self.recorded.reserve(inputs)?;
-        self.users.reserve(inputs.saturating_mul(USERS_ROOM))
+        self.users.reserve(inputs)
     }
 
     /// No paths, in a room that the graph lends until `add_set`.

@@ -34,7 +34,7 @@ impl Room {
 }
 
 /// The edges that name each path, which contracts see as one list for each path. A path takes 24 bytes, and 4 to 16 for
-/// each edge that its list had when it was longest: a list without room moves to the end, into twice the room.
+/// each edge that its list had when it was longest: a list without room moves to the end, into twice the room, unless `widen` made some.
 #[derive(Drop)]
 pub struct Users {
     edges: Vec<EdgeId>,
@@ -179,7 +179,7 @@ impl Users {
         let place = path.index();
         let room = self.rooms[place];
         if room.stop > room.start {
-            return self.push_moved(path, edge);
+            return self.push_moved(path, edge, room.stop - room.start);
         }
         let start = self.edges.len();
         self.edges.push(edge)?;
@@ -192,9 +192,9 @@ impl Users {
         Ok(())
     }
 
-    /// Moves the list of a path to the end, into twice the room, and puts an edge behind it.
+    /// Moves the list of a path to the end, and puts an edge behind it, with room for so many more.
     #[inline(never)]
-    fn push_moved(&mut self, path: PathId, edge: EdgeId) -> Result<(), AllocError>
+    fn push_moved(&mut self, path: PathId, edge: EdgeId, more: usize) -> Result<(), AllocError>
         requires { path < length self.old }
         ensures ok { OnOk result (self.new ≡ push_at self.old path edge) }
         ensures err { OnErr result (self.new ≡ self.old) }
@@ -202,13 +202,27 @@ impl Users {
         let place = path.index();
         let room = self.rooms[place];
         let start = self.edges.len();
-        let stop = append_moved(&mut self.edges, room.start, room.stop, edge)?;
+        let stop = append_moved(&mut self.edges, room.start, room.stop, edge, more)?;
         self.rooms[place] = Room {
             start,
             stop,
             end: self.edges.len(),
         };
         Ok(())
+    }
+
+    /// Makes room in one place for so many more edges, and one, behind those that name the path: its list moves to the end once, and not
+    /// each time that it is full. Where memory is refused, it has the room that it had.
+    pub(crate) fn widen(&mut self, path: PathId, more: usize)
+        ensures { self.new ≡ self.old }
+    {
+        if path.index() >= self.len() {
+            return;
+        }
+        match self.push_moved(path, EdgeId::at_below(0), more) {
+            Ok(()) => self.pop(path),
+            Err(_) => {}
+        }
     }
 
     /// Puts an edge behind those that name each of these paths. Where memory is refused, nothing is changed.
@@ -325,13 +339,14 @@ fn lay_room(rooms: &mut Vec<Room>, end: usize, places: usize) -> Result<usize, A
     Ok(next)
 }
 
-/// Copies what stands between two places to the end, puts an edge behind it, and makes as many places again. Gives the
-/// place behind the edge.
+/// Copies what stands between two places to the end, puts an edge behind it, and makes so many places more. Gives the place behind the
+/// edge.
 fn append_moved(
     edges: &mut Vec<EdgeId>,
     start: usize,
     stop: usize,
     edge: EdgeId,
+    more: usize,
 ) -> Result<usize, AllocError>
     requires order { start ≤ stop }
     requires within { stop ≤ length edges.old.items }
@@ -340,7 +355,7 @@ fn append_moved(
 {
     let end = edges.len();
     let count = stop - start;
-    edges.resize((end + count + 1).saturating_add(count), edge)?;
+    edges.resize((end + count + 1).saturating_add(more), edge)?;
     copy_behind(edges.as_mut_slice(), start, stop, end);
     Ok(end + count + 1)
 }
