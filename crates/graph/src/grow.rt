@@ -11,9 +11,6 @@ use crate::path_set::PathSet;
 use paths::{EdgeId, PathId};
 use std::alloc::{AllocError, Global};
 
-/// For each input that a dyndep file says so many places are reserved for who names it: lists that grow leave room behind.
-pub(crate) const USERS_ROOM: usize = 3;
-
 impl Graph {
     /// The number of a path, which gets one where it has none. No build line names more than before: the path gets a
     /// number past those that one does.

@@ -1,6 +1,6 @@
 //! What is kept of the records of a log: outputs by number, and for each the record in force.
 
-ghost use Rattle.std.specs.Prelude.{◌≡◌, ◌<◌, ◌≤◌, ◌↔◌, ◌-◌, [], ◌∷◌, ◌++◌, Option, Some, IsTrue, IfOk, OnOk, OnErr, length, take, slice_get};
+ghost use Rattle.std.specs.Prelude.{◌≡◌, ◌<◌, ◌≤◌, ◌↔◌, ◌-◌, [], ◌∷◌, ◌++◌, true, Option, Some, IsTrue, IfOk, OnOk, OnErr, length, take, slice_get};
 ghost use Rattle.std.specs.List.{list_any};
 ghost use Rattle.std.specs.Option.{option_copied, option_map};
 ghost use Rattle.log_text.specs.Kept.{IsTableOf, AreDistinct, AreNumbersOf, told_of, tolds, place_of, place_at, is_place, is_left, tellings, in_force_of, outputs_left, texts_at, if_some};

@@ -1,4 +1,4 @@
-use Rattle.std.proofs.Common.{◌∷◌, [], ◌++◌, List, ℕ, Some, slice_get, ap, ◌∙◌, subst, map}
+use Rattle.std.proofs.Common.{◌∷◌, [], ◌++◌, List, ℕ, slice_get, ap, ◌∙◌, subst, map}
 use Rattle.text.specs.Marks.{Lacks}
 use Rattle.log_text.specs.Line.{field_and_tab}
 use Rattle.log_text.specs.BuildLog.{saying}

@@ -1,4 +1,3 @@
-use Rattle.std.proofs.Common.{◌≡◌, ◌↔◌, List, ℕ}
 use Rattle.site.specs.Files.{text_in}
 use Rattle.records.proofs.file.log_of.Goals as goal
 

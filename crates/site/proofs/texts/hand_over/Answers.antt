@@ -1,4 +1,4 @@
-use Rattle.std.proofs.Common.{◌++◌, [], Some, None, List, ℕ, Option, sym, ap, ◌∙◌, subst, append-nil}
+use Rattle.std.proofs.Common.{◌++◌, List, ℕ, Option, sym, ap, ◌∙◌, subst, append-nil}
 use Rattle.site.specs.Files.{text_in}
 use Rattle.site.proofs.texts.hand_over.Goals as goal
 

@@ -1,4 +1,4 @@
-use Rattle.std.proofs.Common.{◌≡◌, ◌∷◌, ◌++◌, [], List, ℕ, refl, sym, ap, ◌∙◌, subst, append_assoc, append-nil}
+use Rattle.std.proofs.Common.{◌≡◌, ◌∷◌, ◌++◌, [], List, ℕ, refl, sym, ◌∙◌, subst, append_assoc, append-nil}
 use Rattle.log_text.specs.Text.{EndsLine}
 use Rattle.log_text.specs.declared.pieces.Stage.TheVariants.{First, Lines, Broken}
 use Rattle.log_text.specs.Pieces.{BeginNoLog, IsKeptLog, StandsAt, HasRead}
