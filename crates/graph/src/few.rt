@@ -35,7 +35,7 @@ impl Few {
     pub fn len(&self) -> usize
         ensures { result ≡ length self.now }
     {
-        self.paths.len()
+        self.as_slice().len()
     }
 
     /// The paths, borrowed.
