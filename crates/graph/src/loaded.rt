@@ -16,6 +16,7 @@ ghost use Rattle.graph.specs.Statements.{gain_of, HasMore, AreNumbersIn, AreGain
 
 use crate::choice::Choice;
 use crate::fault::{ExtendFault, GraphFault};
+use crate::few::Few;
 use crate::makers::{claim_free, free, makers_of};
 use crate::users::Users;
 use dyndep::Addition;
@@ -27,8 +28,8 @@ use text::{Items, Path};
 /// What a statement adds, in numbers.
 #[derive(Drop)]
 pub struct Gain {
-    pub outputs: Items<PathId>,
-    pub inputs: Items<PathId>,
+    pub outputs: Few,
+    pub inputs: Few,
 }
 
 /// What a graph keeps beside its manifest: which edge makes each path, and for each path the edges that name it.
@@ -102,11 +103,11 @@ fn gains_of(
     Ok(gains)
 }
 
-fn numbers_of(alloc: Global, paths: &mut Paths, texts: &[Path]) -> Result<Items<PathId>, AllocError>
+fn numbers_of(alloc: Global, paths: &mut Paths, texts: &[Path]) -> Result<Few, AllocError>
     ensures more { HasMore paths.old paths.new }
     ensures numbers { IfOk result (λ numbers. AreNumbersIn paths.new texts.now numbers) }
 {
-    let mut numbers = Items::from_vec(Vec::with_capacity(alloc, texts.len())?);
+    let mut numbers = Few::new(alloc);
     for text in texts {
         numbers.push(paths.add(alloc, text.as_str())?)?;
     }

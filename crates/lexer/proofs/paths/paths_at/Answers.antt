@@ -9,7 +9,7 @@ use Rattle.lexer.proofs.Reading.{breaks_next, breaks_many}
 use Rattle.lexer.proofs.paths.paths_at.Goals as goal
 
 pub paths-init : goal.paths-init
-paths-init c = (c.skip_blanks-at.result, c.skip_blanks-at.ensures.blanks, c.skip_blanks-at.ensures.behind, behind_none _, rw (c.from_vec-paths.ensures, c.in_ok-with_capacity.ensures.items) refl)
+paths-init c = (c.skip_blanks-at.result, c.skip_blanks-at.ensures.blanks, c.skip_blanks-at.ensures.behind, behind_none _, rw c.in_ok-paths.ensures refl)
 
 pub paths-preserved : goal.paths-preserved
 paths-preserved c =
