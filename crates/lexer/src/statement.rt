@@ -21,11 +21,11 @@ impl<'a> Default for Piece<'a> {
 
 /// The pieces of a value, which contracts see as a list. Most values have one, for which no memory is asked.
 #[derive(Debug, Drop)]
-pub struct Pieces<'a> {
+pub struct FewPieces<'a> {
     pieces: SmallVec<Piece<'a>, 1>,
 }
 
-impl<'a> Model for Pieces<'a> {
+impl<'a> Model for FewPieces<'a> {
     ghost use Rattle.std.specs.Prelude.{List};
     ghost use Rattle.lexer.specs.declared.statement.Piece.{Piece};
 
@@ -34,14 +34,14 @@ impl<'a> Model for Pieces<'a> {
     ghost view = { λ pieces. pieces.pieces.items };
 }
 
-impl<'a> Pieces<'a> {
+impl<'a> FewPieces<'a> {
     ghost use Rattle.std.specs.Prelude.{◌≡◌, ◌++◌, ◌∷◌, [], OnOk, OnErr};
 
     /// None, which takes no memory.
-    pub fn new(alloc: Global) -> Pieces<'a>
+    pub fn new(alloc: Global) -> FewPieces<'a>
         ensures { result ≡ [] }
     {
-        Pieces {
+        FewPieces {
             pieces: SmallVec::new(alloc),
         }
     }
@@ -65,7 +65,7 @@ impl<'a> Pieces<'a> {
 /// A value or a path as it stands, in pieces that borrow from the text.
 #[derive(Debug, Drop)]
 pub struct Value<'a> {
-    pub pieces: Pieces<'a>,
+    pub pieces: FewPieces<'a>,
 }
 
 /// The paths and the rule of a `build` line.

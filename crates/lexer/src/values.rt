@@ -10,7 +10,7 @@ ghost use Rattle.lexer.specs.Values.{Pieces};
 use crate::characters::Class;
 use crate::cursor::Cursor;
 use crate::escapes::escape_at;
-use crate::statement::{Piece, Pieces, Value};
+use crate::statement::{FewPieces, Piece, Value};
 use crate::stop::Stop;
 use crate::tokens::ends;
 use std::alloc::Global;
@@ -27,7 +27,7 @@ pub fn pieces_at<'a>(
     ensures shorter { ends class cursor.entry.rest.now ≡ false → IfOk result (λ found. length found.1.rest.now < length cursor.entry.rest.now) }
     ensures fault { IfErr result (Breaks (Pieces class) cursor.entry) }
 {
-    let mut pieces = Pieces::new(alloc);
+    let mut pieces = FewPieces::new(alloc);
     let mut at = cursor;
     'pieces: while !ends(at.rest, class) {
         let (found, after) = piece_at(at, class)?;
