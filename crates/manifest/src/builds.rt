@@ -22,10 +22,13 @@ use scopes::{Block, ExpandFault, Rule, Scopes, expand};
 use std::alloc::{AllocError, Global};
 use std::mem;
 use std::rc::Rc;
-use text::Text;
+use text::{SharedText, Text};
 
 /// The most build statements.
 const MOST_EDGES: usize = 4_000_000;
+
+/// How many statements are looked at for the name of a rule that stands there already.
+const NEAR: usize = 4;
 
 /// The most different paths on build lines.
 const MOST_PATHS: usize = 4_000_000;
@@ -82,7 +85,7 @@ impl Declared {
         ensures rule { FindsRuleIn self.now (place_of place.now) build.now.rule.now (rule_read result) }
         ensures block { IfOk result (λ read. Always self.now.scopes (λ past. IsReadFrom lines.now past (block_in read))) }
     {
-        let rule_name = Text::from_str(alloc, build.rule)?;
+        let rule_name = self.rule_name(alloc, build.rule)?;
         let file = place.file.clone()?;
         let rule = self.rule(alloc, place, build.rule)?;
         let BlockRead { block, stop } = read_block(alloc, &self.scopes, lines)?;
@@ -95,6 +98,21 @@ impl Declared {
             block,
         };
         Ok(BuildRead { edge, stop })
+    }
+
+    /// The name of a rule. It stands once for statements with it that are near one another.
+    fn rule_name(&self, alloc: Global, name: &str) -> Result<SharedText, AllocError>
+        ensures { IfOk result (λ own. own ≡ name.now) }
+    {
+        let edges = self.edges.as_slice();
+        let near = edges.len().saturating_sub(NEAR);
+        for edge in edges.get(near..).unwrap_or(edges) {
+            if edge.rule_name.as_str() == name {
+                let same = edge.rule_name.clone()?;
+                return Ok(same);
+            }
+        }
+        SharedText::from_str(alloc, name)
     }
 
     /// The rule of this name at this place; none for `phony`.

@@ -5,7 +5,7 @@ use paths::{Line, Lines, Paths};
 use scopes::{Block, Rule, Scopes};
 use std::alloc::{AllocError, Global};
 use std::rc::Rc;
-use text::{Path, Text};
+use text::{Path, SharedText, Text};
 
 /// A build statement. Its rule is expanded when all build files are read.
 #[derive(Drop)]
@@ -15,7 +15,7 @@ pub struct ReadEdge {
     pub line: usize,
     /// The number of the scope in which it stands.
     pub scope: usize,
-    pub rule_name: Text,
+    pub rule_name: SharedText,
     /// None for `phony`.
     pub rule: Option<Rc<Rule>>,
     pub block: Block,
