@@ -156,7 +156,7 @@ impl ReadEdge {
             UseFault::Memory => Err(ReadError::Memory),
             UseFault::TooLarge => Err(self.place().too_large(alloc)),
             UseFault::Circle => {
-                let kind = FaultKind::Circle(self.rule_name.clone()?);
+                let kind = FaultKind::Circle(Text::from_str(alloc, self.rule_name.as_str())?);
                 Err(self.place().fault(alloc, kind))
             }
         }

@@ -42,7 +42,9 @@ impl Declared {
             pools,
             defaults,
             paths,
+            room,
         } = self;
+        drop(room);
         let Named {
             table: mut paths,
             lines,
