@@ -68,7 +68,8 @@ impl Fronts {
         if self.fronts.len() >= MOST {
             self.fronts.clear();
         }
-        self.fronts.push(Front::from_str(alloc, front)?)
+        self.fronts.push(Front::from_str(alloc, front)?)?;
+        Ok(())
     }
 
     /// What the text and another command begin with, where that is long.
@@ -88,7 +89,8 @@ impl Fronts {
         if self.others.len() >= MOST {
             self.others.clear();
         }
-        self.others.push(command)
+        self.others.push(command)?;
+        Ok(())
     }
 }
 

@@ -14,13 +14,13 @@ pub fn print_events<W: Write>(alloc: Global, writer: &mut W, events: &[Event]) -
     for event in events {
         match event {
             Event::Start { job, act, .. } => {
-                let parts = act.command.parts();
-                commands.insert(*job, parts)?;
-                let (front, rest) = parts;
+                commands.insert(*job, &act.command)?;
+                let (front, rest) = act.command.parts();
                 writeln!(writer, "start {front}{rest}")?;
             }
             Event::Finish { job, ok } => {
-                if let Some((front, rest)) = commands.get(job) {
+                if let Some(command) = commands.get(job) {
+                    let (front, rest) = command.parts();
                     let word = if *ok { "end" } else { "fail" };
                     writeln!(writer, "{word} {front}{rest}")?;
                 }

@@ -75,7 +75,9 @@ fn texts_with_fronts(rt: HostRuntime) -> Result<(), Fail> {
     assert!(rt; text.is("cat b a"));
     assert!(rt; !text.is("cat b aa"));
     assert_eq!(rt; text.to_text(alloc)?.as_str(), "cat b a");
-    assert_eq!(rt; text.parts(), ("cat b", " a"));
+    let (front, rest) = text.parts();
+    assert_eq!(rt; front, "cat b");
+    assert_eq!(rt; rest, " a");
     Ok(())
 }
 
