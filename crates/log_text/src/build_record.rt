@@ -11,7 +11,7 @@ ghost use Rattle.log_text.specs.BuildLog.{AreSaid, Appends, done_record};
 use crate::done::Done;
 use crate::field::Field;
 use crate::form::Version;
-use crate::line::{end_line, push_list, push_number, push_text};
+use crate::line::{end_line, push_list, push_number, push_shared, push_text};
 use crate::number::number_of;
 use crate::outputs::{are_distinct, split_outputs};
 use crate::sharing::{command_in, content_in, share};
@@ -159,8 +159,8 @@ fn push_act(line: &mut Vec<u8>, act: &Act) -> Result<(), AllocError>
     ensures fields { OnOk result (line.new.items ≡ line.old.items ++ fields_text (act_fields act.now)) }
     ensures utf8 { OnOk result (AreTexts (act_fields act.now)) }
 {
-    push_text(line, act.command.as_str())?;
+    push_shared(line, &act.command)?;
     push_text(line, act.depfile.as_str())?;
     push_text(line, act.response_path.as_str())?;
-    push_text(line, act.response_content.as_str())
+    push_shared(line, &act.response_content)
 }

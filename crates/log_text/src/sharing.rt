@@ -9,7 +9,7 @@ use crate::field::is_plain_text;
 use crate::texts::behind_text;
 use model::Act;
 use std::alloc::{AllocError, Global};
-use text::{SharedText, Text};
+use text::{SharedText, Text, behind};
 
 /// The command of an act.
 pub(crate) fn command_in(act: Option<&Act>) -> Option<&SharedText> {
@@ -44,7 +44,7 @@ fn fitting<'g>(text: &str, guess: Option<&'g SharedText>) -> Option<&'g SharedTe
     ensures { IfSome result (λ same. same.now ≡ text.now) }
 {
     let guess = guess?;
-    if guess.as_str() == text {
+    if guess.is(text) {
         return Some(guess);
     }
     None
@@ -63,7 +63,7 @@ pub(crate) fn guess_in<'a>(
     let Some(guess) = guess else {
         return Ok(None);
     };
-    let Some(after) = behind_plain(guess.as_str(), bytes) else {
+    let Some(after) = behind_plain(guess, bytes) else {
         return Ok(None);
     };
     let shared = guess.clone()?;
@@ -71,14 +71,16 @@ pub(crate) fn guess_in<'a>(
 }
 
 /// What stands behind the field of a text and its tab, where they stand in front and no byte of the text is written as two.
-fn behind_plain<'a>(text: &str, bytes: &'a [u8]) -> Option<&'a [u8]>
+fn behind_plain<'a>(text: &SharedText, bytes: &'a [u8]) -> Option<&'a [u8]>
     requires { Lacks 10 bytes.now }
     ensures text { IfSome result (λ after. IsTextIn bytes.now text.now after.now) }
     ensures line_feed { IfSome result (λ after. Lacks 10 after.now) }
 {
-    if !is_plain_text(text) {
+    let (front, rest) = text.parts();
+    if !is_plain_text(front) || !is_plain_text(rest) {
         return None;
     }
-    let after = behind_text(text, bytes)?;
+    let told = behind(front.as_bytes(), bytes)?;
+    let after = behind_text(rest, told)?;
     Some(after)
 }

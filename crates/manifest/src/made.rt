@@ -10,6 +10,7 @@ ghost use Rattle.manifest.specs.InNumbers.{IsLonger, HasNumbers, without_own};
 ghost use Rattle.manifest.specs.PathReading.{text_found};
 
 use crate::fault::ReadError;
+use crate::fronts::Fronts;
 use crate::values::Values;
 use indexmap::IndexSet;
 use lexer::{ReadFault, canonical, is_settled};
@@ -19,7 +20,12 @@ use std::alloc::{AllocError, Global};
 use text::{Items, SharedText, Text};
 
 /// What an edge with a command does. The dyndep file is put into the table.
-pub fn command_of(alloc: Global, table: &mut Paths, values: Values) -> Result<Command, ReadError>
+pub fn command_of(
+    alloc: Global,
+    table: &mut Paths,
+    fronts: &mut Fronts,
+    values: Values,
+) -> Result<Command, ReadError>
     ensures grows { OnOk result (IsLonger table.old table.new) }
     ensures command { IfOk result (λ command. IsCommandOf table.new values command) }
     ensures dyndep { IfOk result (λ command. stop_of command.dyndep ≤ length table.new) }
@@ -27,6 +33,7 @@ pub fn command_of(alloc: Global, table: &mut Paths, values: Values) -> Result<Co
 {
     let act = act_of(
         alloc,
+        fronts,
         values.command,
         values.depfile,
         values.rspfile,
@@ -45,9 +52,11 @@ pub fn command_of(alloc: Global, table: &mut Paths, values: Values) -> Result<Co
     })
 }
 
-/// The act of these values. Its command and what its response file holds are kept so that others may share them.
+/// The act of these values. Its command and what its response file holds are kept so that others may share them, and the command
+/// together with those before it that begin as it does.
 fn act_of(
     alloc: Global,
+    fronts: &mut Fronts,
     command: Text,
     depfile: Text,
     rspfile: Text,
@@ -61,7 +70,7 @@ fn act_of(
 {
     let depfile = path_or_none(alloc, depfile)?;
     let response_path = path_or_none(alloc, rspfile)?;
-    let command = SharedText::from_text(alloc, command)?;
+    let command = fronts.share(alloc, command)?;
     let response_content = SharedText::from_text(alloc, content)?;
     Ok(Act {
         command,

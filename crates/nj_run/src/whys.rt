@@ -7,6 +7,7 @@ use model::Reason;
 use std::alloc::{AllocError, Global};
 use std::io;
 use std::io::Write;
+use text::SharedText;
 
 /// Tells of each command that is due, in one line, why it is; where none is, that there is nothing to do. Where a dyndep file is yet to be
 /// loaded, the last line says so. The status is 0.
@@ -107,7 +108,7 @@ fn tell_acts<W: Write>(alloc: Global, acts: &Acts, out: &mut W) -> io::Result<()
     let new = &acts.new;
     if old.command != new.command {
         let what = "its command";
-        return tell_texts(alloc, what, old.command.as_str(), new.command.as_str(), out);
+        return tell_shared(alloc, what, &old.command, &new.command, out);
     }
     if old.depfile != new.depfile {
         let what = "its depfile";
@@ -119,8 +120,21 @@ fn tell_acts<W: Write>(alloc: Global, acts: &Acts, out: &mut W) -> io::Result<()
         return tell_texts(alloc, what, old, new.response_path.as_str(), out);
     }
     let what = "what its response file holds";
-    let old = old.response_content.as_str();
-    tell_texts(alloc, what, old, new.response_content.as_str(), out)
+    let old = &old.response_content;
+    tell_shared(alloc, what, old, &new.response_content, out)
+}
+
+/// The same of texts that others hold, too.
+fn tell_shared<W: Write>(
+    alloc: Global,
+    what: &str,
+    first: &SharedText,
+    second: &SharedText,
+    out: &mut W,
+) -> io::Result<()> {
+    let first = first.to_text(alloc)?;
+    let second = second.to_text(alloc)?;
+    tell_texts(alloc, what, first.as_str(), second.as_str(), out)
 }
 
 /// Tells which words of the old text became which of the new one.

@@ -132,7 +132,8 @@ fn push_done(alloc: Global, done: Option<&Done>, answer: &mut String) -> Result<
         return push_word(answer, "nothing");
     };
     push_word(answer, format!(in alloc; "{}", done.start)?.as_str())?;
-    push_word(answer, done.act.command.as_str())
+    let command = done.act.command.to_text(alloc)?;
+    push_word(answer, command.as_str())
 }
 
 fn push_deps(

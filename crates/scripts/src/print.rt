@@ -14,14 +14,15 @@ pub fn print_events<W: Write>(alloc: Global, writer: &mut W, events: &[Event]) -
     for event in events {
         match event {
             Event::Start { job, act, .. } => {
-                let command = act.command.as_str();
-                commands.insert(*job, command)?;
-                writeln!(writer, "start {command}")?;
+                commands.insert(*job, &act.command)?;
+                let (front, rest) = act.command.parts();
+                writeln!(writer, "start {front}{rest}")?;
             }
             Event::Finish { job, ok } => {
                 if let Some(command) = commands.get(job) {
+                    let (front, rest) = command.parts();
                     let word = if *ok { "end" } else { "fail" };
-                    writeln!(writer, "{word} {command}")?;
+                    writeln!(writer, "{word} {front}{rest}")?;
                 }
             }
         }

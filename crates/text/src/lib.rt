@@ -11,9 +11,9 @@ mod text;
 
 pub use bytes::Bytes;
 pub use items::Items;
-pub use marks::cut;
+pub use marks::{behind, cut};
 pub use path::Path;
-pub use shared::SharedText;
+pub use shared::{Front, SharedText};
 pub use takes::Takes;
 pub use text::Text;
 

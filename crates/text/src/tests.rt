@@ -1,4 +1,4 @@
-use crate::{Bytes, Items, Path, SharedText, Text, cut};
+use crate::{Bytes, Front, Items, Path, SharedText, Text, behind, cut};
 use std::test::Fail;
 
 #[test]
@@ -51,7 +51,7 @@ fn shared_texts(rt: HostRuntime) -> Result<(), Fail> {
     let text = SharedText::from_str(alloc, "cat b a")?;
     let copy = text.clone()?;
     assert!(rt; text == copy);
-    assert_eq!(rt; copy.as_str(), "cat b a");
+    assert!(rt; copy.is("cat b a"));
     assert!(rt; text != SharedText::new());
     Ok(())
 }
@@ -59,7 +59,31 @@ fn shared_texts(rt: HostRuntime) -> Result<(), Fail> {
 #[test]
 fn empty_shared_texts(rt: HostRuntime) -> Result<(), Fail> {
     let alloc = rt.alloc();
-    assert_eq!(rt; SharedText::new().as_str(), "");
+    assert!(rt; SharedText::new().is(""));
     assert!(rt; SharedText::from_text(alloc, Text::new(alloc))? == SharedText::new());
+    Ok(())
+}
+
+#[test]
+fn texts_with_fronts(rt: HostRuntime) -> Result<(), Fail> {
+    let alloc = rt.alloc();
+    let front = Front::from_str(alloc, "cat b")?;
+    let text = SharedText::with_front(alloc, &front, " a")?;
+    assert!(rt; text == SharedText::from_str(alloc, "cat b a")?);
+    assert!(rt; SharedText::from_str(alloc, "cat b a")? == text);
+    assert!(rt; text != SharedText::from_str(alloc, "cat b")?);
+    assert!(rt; text.is("cat b a"));
+    assert!(rt; !text.is("cat b aa"));
+    assert_eq!(rt; text.to_text(alloc)?.as_str(), "cat b a");
+    let (front, rest) = text.parts();
+    assert_eq!(rt; front, "cat b");
+    assert_eq!(rt; rest, " a");
+    Ok(())
+}
+
+#[test]
+fn behind_bytes(rt: HostRuntime) -> Result<(), Fail> {
+    assert_eq!(rt; behind(b"a", b"abc"), Some(b"bc".as_slice()));
+    assert_eq!(rt; behind(b"b", b"abc"), None);
     Ok(())
 }

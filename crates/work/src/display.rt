@@ -179,12 +179,8 @@ impl<'a> Display<'a> {
         requires { edge < length graph.now.manifest.lines }
         ensures { IfOk result (λ line. line.items ≡ shown_line self.now counts.now (edge_in graph.now edge)) }
     {
-        line(
-            self.alloc,
-            self.pattern,
-            counts,
-            said(self.verbose, graph, edge),
-        )
+        let text = said(self.alloc, self.verbose, graph, edge)?;
+        line(self.alloc, self.pattern, counts, text.as_str())
     }
 
     /// What is shown of a command that has ended.

@@ -95,7 +95,7 @@ impl Work<'_> {
         log_stays();
         let act = act(&self.graph, edge);
         remove_old_depfile(site, act)?;
-        write_response(site, act)?;
+        write_response(self.alloc, site, act)?;
         let stamp = site.tick(self.tick.as_str())?;
         note_stamp(&mut self.starts, edge, stamp);
         let known = site.events().len();
