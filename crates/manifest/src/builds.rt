@@ -107,7 +107,7 @@ impl Declared {
         let edges = self.edges.as_slice();
         let near = edges.len().saturating_sub(NEAR);
         for edge in edges.get(near..).unwrap_or(edges) {
-            if edge.rule_name.as_str() == name {
+            if edge.rule_name.is(name) {
                 let same = edge.rule_name.clone()?;
                 return Ok(same);
             }

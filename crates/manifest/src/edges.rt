@@ -158,7 +158,7 @@ impl ReadEdge {
             UseFault::Memory => Err(ReadError::Memory),
             UseFault::TooLarge => Err(self.place().too_large(alloc)),
             UseFault::Circle => {
-                let kind = FaultKind::Circle(Text::from_str(alloc, self.rule_name.as_str())?);
+                let kind = FaultKind::Circle(self.rule_name.to_text(alloc)?);
                 Err(self.place().fault(alloc, kind))
             }
         }
