@@ -25,3 +25,4 @@ pub mod Sayings
 pub mod KeptDeps
 pub mod Writing
 pub mod DepsRecordOf
+pub mod TwoOutputLines
