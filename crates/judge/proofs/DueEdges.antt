@@ -52,12 +52,10 @@ module _ (edges : List Edge) (store : Store) (before : List Step) (files : List 
     ]),
   )
 
-  module _ (k : ℕ) (within : k < length order) (due : List Bool) (so_far : AreDue edges store before files (take k order) due) where
-    abbrev edge : ℕ
-    edge = get_or order k 0
-
-    known : (p : List ℕ) (m : ℕ) → has (needs edges (recorded_inputs store edges) (suc edge)) p ≡ true → maker edges p ≡ Some (suc m) → (due_at due m ≡ true) ↔ IsDue edges store before files (suc m)
-    known p m need made = ((λ is. ((so_far m).0 is).1), (λ is. (so_far m).1 (listed, is)))
+  -- of the makers of what the edge at a place needs it is known, where it is of each edge before it
+  module _ (k : ℕ) (within : k < length order) (due : List Bool) (so_far : (q : ℕ) → has_number (take k order) q ≡ true → (due_at due q ≡ true) ↔ IsDue edges store before files (suc q)) where
+    known : (p : List ℕ) (m : ℕ) → has (needs edges (recorded_inputs store edges) (suc (get_or order k 0))) p ≡ true → maker edges p ≡ Some (suc m) → (due_at due m ≡ true) ↔ IsDue edges store before files (suc m)
+    known p m need made = so_far m listed
       where
         found : (q : ℕ) × (suc q ≡ suc m) × (has_number (take k order) q ≡ true)
         found = suc_has (take k order) (suc m) (first_at edges (recorded_inputs store edges) [] order first k within p (suc m) need made)
@@ -65,10 +63,17 @@ module _ (edges : List Edge) (store : Store) (before : List Step) (files : List 
         listed : has_number (take k order) m ≡ true
         listed = let same : found.0 ≡ m = omega (arith, found.1) in subst (λ (q : ℕ). has_number (take k order) q ≡ true) same found.2
 
+    pub makers_known_by : AreMakersKnown edges store before files due (suc (get_or order k 0))
+    makers_known_by =
+        let reading = reads (get_or order k 0) (at_has order k 0 within) in
+        record { makers = known; read = reading.paths ++ recorded_inputs store edges (suc (get_or order k 0)); counted = counts (suc (get_or order k 0)) reading }
+
+  module _ (k : ℕ) (within : k < length order) (due : List Bool) (so_far : AreDue edges store before files (take k order) due) where
+    abbrev edge : ℕ
+    edge = get_or order k 0
+
     pub makers_known : AreMakersKnown edges store before files due (suc edge)
-    makers_known =
-        let reading = reads edge (at_has order k 0 within) in
-        record { makers = known; read = reading.paths ++ recorded_inputs store edges (suc edge); counted = counts (suc edge) reading }
+    makers_known = makers_known_by k within due (λ q listed. ((λ is. ((so_far q).0 is).1), (λ is. (so_far q).1 (listed, is))))
 
     -- ---- one edge more
 

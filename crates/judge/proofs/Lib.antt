@@ -21,4 +21,7 @@ pub mod KeptAnswers
 pub mod LoadedAnswers
 pub mod FoundDues
 pub mod Lacking
+pub mod RuledAliases
+pub mod RuledDues
+pub mod AskedAny
 pub mod Finding

@@ -11,4 +11,5 @@ pub mod Stores
 pub mod Quiet
 pub mod UnderWay
 pub mod Dues
+pub mod Ruled
 pub mod Lacks
