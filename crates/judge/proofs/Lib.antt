@@ -22,6 +22,9 @@ pub mod LoadedAnswers
 pub mod FoundDues
 pub mod Lacking
 pub mod RuledAliases
+pub mod RuledStays
+pub mod RuledMore
+pub mod AfterMakers
 pub mod RuledDues
 pub mod AskedAny
 pub mod Finding

@@ -23,7 +23,7 @@ use Rattle.judge.specs.Looking.{HasLooked}
 use Rattle.judge.specs.Quiet.{IfQuiet}
 use Rattle.judge.specs.UnderWay.{IsUnderWay, judged_due}
 use Rattle.judge.specs.Dues.{due_at, reads_due, AreMakersKnown, AreDue, IsFoundClean, AreFoundClean}
-use Rattle.judge.specs.Ruled.{IsRuled, AreRuled, AreDepfilesFound}
+use Rattle.judge.specs.Ruled.{IsRuledFound, AreRuledFound}
 use Rattle.judge.proofs.Answered.{reason_found}
 use Rattle.judge.proofs.AliasDues.{alias_due}
 use Rattle.judge.proofs.CommandDues.{due_by_flags}
@@ -38,8 +38,7 @@ use Rattle.judge.proofs.RuledAliases.{alias_ruled}
 -- ---- what a call found
 
 module _ (follow : Follow) (stay : Stay) (tells : Bool) (graph : Graph) (stands : StandFor (declared_by graph).edges graph.manifest.paths (links_of graph)) (records : Records) (cone : Cone) (plan : Plan) (old new : World) (first last : Looks)
-    (looked : HasLooked tells graph old new first last) (depfiles : ℕ → Bool) (due : List Bool) (are : AreRuled graph records plan last.seen.items depfiles cone.order.items due)
-    (there : AreDepfilesFound tells graph plan old new depfiles cone.order.items due)
+    (looked : HasLooked tells graph old new first last) (due : List Bool) (are : AreRuledFound tells graph records plan old new last.seen.items due cone.order.items)
   where
     abbrev edges : List Edge
     edges = (declared_by graph).edges
@@ -64,33 +63,33 @@ module _ (follow : Follow) (stay : Stay) (tells : Bool) (graph : Graph) (stands 
         decided : (q : ℕ) → has_number order q ≡ true → AreMakersKnown edges store before files due (suc q) → (due_at due q ≡ true) ↔ IsDue edges store before files (suc q)
         decided q listed known = by_judged (judged_due graph plan q) refl
           where
-            rule : IsRuled graph records plan last.seen.items due (depfiles q) q
-            rule = are.ruled q listed
+            found : IsRuledFound tells graph records plan old new last.seen.items due q
+            found = are.each q listed
 
             by_judged : (was : Option Bool) → judged_due graph plan q ≡ was → (due_at due q ≡ true) ↔ IsDue edges store before files (suc q)
             by_judged (Some was) is =
-                subst (λ (b : Bool). (b ≡ true) ↔ IsDue edges store before files (suc q)) (sym (rule.judged was is))
+                subst (λ (b : Bool). (b ≡ true) ↔ IsDue edges store before files (suc q)) (sym (found.ruled.judged was is))
                 (due_by_standing edges before steps (suc q) store files was (judged_as graph stands plan before q (way.stands q listed) was is))
             by_judged None is = elim (cases_Bool ((links_of graph).phony q)) [
               | inl alias ↦
                   let phony = sym (stands.phony_is q) ∙ alias in
                   let fresh = false_from_ne_true (has_number (out_of_date_in before) (suc q)) (λ out. false≢true (sym (steps.judged (suc q) (steps.out_of_date (suc q) out)) ∙ phony)) in
                   let same =
-                  alias_ruled graph set new.history files last.seen.items (looked.seen told set kept seen) alike.paths due q (due_at due q) (rule.alias is alias)
+                  alias_ruled graph set new.history files last.seen.items (looked.seen told set kept seen) alike.paths due q (due_at due q) (found.ruled.alias is alias)
                   (outputs_known graph stands store targets before set has_all q fresh) (regular_known graph stands store targets before set has_all q) in
                   let says = alias_due edges graph.manifest.paths (links_of graph) files stands store before steps due q phony known in
                   ((λ so. says.0 (sym same ∙ so)), (λ is_due. same ∙ says.1 is_due))
               | inr plain ↦
                   let command = sym (stands.phony_is q) ∙ plain in
                   let unjudged = unjudged_as graph stands plan before q (way.stands q listed) steps is command in
-                  let ruled = rule.command is plain in
+                  let ruled = found.ruled.command is plain in
                   elim (cases_Bool (reads_due (links_of graph) due q)) [
                     | inl flagged ↦ ((λ so. due_by_flags graph stands store before steps files due q (way.known.in_use (suc q)) command unjudged known flagged), (λ is_due. ruled.reads flagged))
                     | inr none ↦
                         let answer = ruled.found none in
-                        let found = there q listed (record { unjudged = is; command = plain; unread = none }) in
+                        let there = found.there (record { unjudged = is; command = plain; unread = none }) in
                         due_found follow stay tells graph stands records due q plain none old new first answer.reason (due_at due q) (sym answer.is)
-                        (reason_found tells graph stands records [] q (depfiles q) answer.reason old new first last looked found answer.seen) store targets before way.known way.orderly unjudged keeps told set kept seen has_all files alike known
+                        (reason_found tells graph stands records [] q found.depfile answer.reason old new first last looked there answer.seen) store targets before way.known way.orderly unjudged keeps told set kept seen has_all files alike known
                   ]
             ]
 
@@ -99,13 +98,13 @@ module _ (follow : Follow) (stay : Stay) (tells : Bool) (graph : Graph) (stands 
         front zero low q listed = absurd (false≢true listed)
         front (suc k) low q listed =
             let more : suc k ≡ k + 1 = omega arith in
-            let within : k < length order = omega arith in
+            let within : k < length order = omega (arith, low) in
             let longer = ap (λ (n : ℕ). take n order) more ∙ take_more order k 0 within in
             elim (has_number-cases (take k order) (get_or order k 0 ∷ []) q (subst (λ (l : List ℕ). has_number l q ≡ true) longer listed)) [
-              | inl early ↦ front k (omega arith) q early
+              | inl early ↦ front k (omega (arith, low)) q early
               | inr here ↦
                   subst (λ (n : ℕ). (due_at due n ≡ true) ↔ IsDue edges store before files (suc n)) (has_number-is (get_or order k 0) q here)
-                  (decided (get_or order k 0) (at_has order k 0 within) (makers_known_by edges store before files order makers_first k within due (front k (omega arith))))
+                  (decided (get_or order k 0) (at_has order k 0 within) (makers_known_by edges store before files order makers_first k within due (front k (omega (arith, low)))))
             ]
 
         each : (q : ℕ) → has_number order q ≡ true → (due_at due q ≡ true) ↔ IsDue edges store before files (suc q)
@@ -118,12 +117,13 @@ module _ (follow : Follow) (stay : Stay) (tells : Bool) (graph : Graph) (stands 
         by_judged : (was : Option Bool) → judged_due graph plan e ≡ was → IsFoundClean tells graph records old new first e
         by_judged (Some was) is = absurd (awaits_none graph plan e was awaits is)
         by_judged None is =
-            let ruled = (are.ruled e listed).command is awaits.0 in
+            let found = are.each e listed in
+            let ruled = found.ruled.command is awaits.0 in
             elim (cases_Bool (reads_due (links_of graph) due e)) [
               | inl flagged ↦ absurd (false≢true (sym not_due ∙ ruled.reads flagged))
               | inr none ↦
                   let answer = ruled.found none in
-                  let found = there e listed (record { unjudged = is; command = awaits.0; unread = none }) in
+                  let there = found.there (record { unjudged = is; command = awaits.0; unread = none }) in
                   clean_found follow stay tells graph stands records due e awaits.0 none old new first answer.reason (due_at due e) (sym answer.is)
-                  (reason_found tells graph stands records [] e (depfiles e) answer.reason old new first last looked found answer.seen) looked.looks not_due
+                  (reason_found tells graph stands records [] e found.depfile answer.reason old new first last looked there answer.seen) looked.looks not_due
             ]

@@ -10,7 +10,7 @@ use Rattle.model.specs.Calls.{OnlyLooks}
 use Rattle.model.specs.Graph.{has, has_number, maker}
 use Rattle.model.specs.Reading.{needs}
 use Rattle.model.specs.Records.{Store, recorded_inputs}
-use Rattle.model.specs.Schedule.{Step, judged_in}
+use Rattle.model.specs.Schedule.{Step}
 use Rattle.model.specs.OutOfDate.{IsDue, ListsCounted}
 use Rattle.theory.specs.Order.{IsOrderly}
 use Rattle.paths.specs.Told.{text_at}
@@ -26,7 +26,7 @@ use Rattle.judge.specs.declared.looks.Looks.{Looks}
 use Rattle.judge.specs.Judged.{IsReasonFound}
 use Rattle.judge.specs.Stores.{IsStoreOf}
 use Rattle.judge.specs.Quiet.{StillFinds, OfSteps, IfQuietAt}
-use Rattle.judge.specs.UnderWay.{IsUnjudged, IsUnderWay}
+use Rattle.judge.specs.UnderWay.{IsUnderWay}
 
 -- ---- by the numbers
 
@@ -124,27 +124,10 @@ abbrev pub OfBuild : Graph → Records → (Store → List (List ℕ) → List S
 OfBuild graph records P =
     OfSteps (λ store targets before. IsStoreOf graph records store → IsOrderly (declared_by graph).edges before → P store targets before)
 
--- after such steps this is whether the edge is due
-abbrev pub IsDueAt : {S : Type 0} → Bool → (S → World) → S → S → Graph → Store → List (List ℕ) → List Step → Looks → List Bool → ℕ → Bool → Type 0
-IsDueAt tells world old new graph store targets before seen due e is =
-    IfQuietAt tells world old new graph store targets before seen (λ files. IsDueEdge graph store before due e files is)
-
--- whether the command, which was not judged, is due
-abbrev pub FindsDueCommand : {S E : Type 0} → Bool → (S → World) → S → S → Graph → Records → Looks → List Bool → ℕ → Result Bool E → Type 0
-FindsDueCommand tells world old new graph records seen due e result =
-    IfOk result (λ is. OfBuild graph records (λ store targets before.
-    has_number (judged_in before) (suc e) ≡ false → IsDueAt tells world old new graph store targets before seen due e is))
-
 -- where it is not, no reason was found
 abbrev pub FindsCleanCommand : {S E : Type 0} → Bool → (S → World) → S → S → Graph → Records → Looks → ℕ → Result Bool E → Type 0
 FindsCleanCommand tells world old new graph records seen e result =
     IfOk result (λ is. is ≡ false → IsFoundClean tells graph records (world old) (world new) seen e)
-
--- whether the edge, which was not judged, is due
-abbrev pub FindsDue : {S E : Type 0} → Bool → (S → World) → S → S → Graph → Records → Looks → List Bool → ℕ → Result Bool E → Type 0
-FindsDue tells world old new graph records seen due e result =
-    IfOk result (λ is. OfBuild graph records (λ store targets before.
-    IsUnjudged graph before e → IsDueAt tells world old new graph store targets before seen due e is))
 
 -- where it has a command and is not, no reason was found
 abbrev pub FindsClean : {S E : Type 0} → Bool → (S → World) → S → S → Graph → Records → Looks → ℕ → Result Bool E → Type 0

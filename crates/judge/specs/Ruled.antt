@@ -1,13 +1,16 @@
 -- Flags of edges, each of which is what the rule says: by the flags of the makers and by what was seen.
-use Rattle.std.specs.Prelude.{◌≡◌, ◌==◌, ℕ, Bool, true, false, List, length, Some, None}
+use Rattle.std.specs.Prelude.{◌≡◌, ◌==◌, ◌<◌, ℕ, Bool, true, false, IfOk, List, take, length, get_or, Some, None, Result, Vec}
 use Rattle.std.specs.Option.{is_none}
+use Rattle.std.specs.declared.alloc.Global.{Global}
 use Rattle.model.specs.World.{World}
 use Rattle.model.specs.Graph.{has_number}
+use Rattle.graph.specs.declared.cone.Cone.{Cone}
 use Rattle.graph.specs.declared.graph.Graph.{Graph}
-use Rattle.graph.specs.Links.{Links, links_of}
+use Rattle.graph.specs.Links.{Links, links_of, needs_at}
 use Rattle.plan.specs.declared.plan.Plan.{Plan}
 use Rattle.records.specs.declared.records.Records.{Records}
 use Rattle.judge.specs.declared.looks.Look.{Look}
+use Rattle.judge.specs.declared.looks.Looks.{Looks}
 use Rattle.judge.specs.Seen.{look_at, is_asked}
 use Rattle.judge.specs.Facts.{seen_stamp}
 use Rattle.judge.specs.Answers.{IsAnswerSeen, IsDepfileFound}
@@ -69,12 +72,7 @@ pub record IsRuled (graph : Graph) (records : Records) (plan : Plan) (seen : Lis
   pub alias : judged_due graph plan e ≡ None → (links_of graph).phony e ≡ true → IsAliasRuled (links_of graph) seen due e (due_at due e)
   pub command : judged_due graph plan e ≡ None → (links_of graph).phony e ≡ false → IsCommandRuled graph records seen due depfile e (due_at due e)
 
--- so it is of each of the listed edges, and no other has a flag
-pub record AreRuled (graph : Graph) (records : Records) (plan : Plan) (seen : List Look) (depfiles : ℕ → Bool) (listed : List ℕ) (due : List Bool) : Type 0 where
-  pub flagged : AreListed listed due
-  pub ruled : (e : ℕ) → has_number listed e ≡ true → IsRuled graph records plan seen due (depfiles e) e
-
--- ---- depfiles
+-- ---- what a call found
 
 -- the command of the edge was not judged, and reads nothing that a due edge makes
 pub record IsFoundAnew (graph : Graph) (plan : Plan) (due : List Bool) (e : ℕ) : Type 0 where
@@ -82,7 +80,53 @@ pub record IsFoundAnew (graph : Graph) (plan : Plan) (due : List Bool) (e : ℕ)
   pub command : (links_of graph).phony e ≡ false
   pub unread : reads_due (links_of graph) due e ≡ false
 
--- of each such command of the listed edges its depfile was found so, between these worlds
-abbrev pub AreDepfilesFound : Bool → Graph → Plan → World → World → (ℕ → Bool) → List ℕ → List Bool → Type 0
-AreDepfilesFound tells graph plan old new depfiles listed due =
-    (e : ℕ) → has_number listed e ≡ true → IsFoundAnew graph plan due e → IsDepfileFound tells graph e (depfiles e) old new
+-- this is what the rule says of a command, whose depfile was found so between these worlds where the rule asks for it
+pub record IsCommandFound (tells : Bool) (graph : Graph) (records : Records) (old new : World) (seen : List Look) (due : List Bool) (e : ℕ) (is : Bool) : Type 0 where
+  pub depfile : Bool
+  pub ruled : IsCommandRuled graph records seen due depfile e is
+  pub there : reads_due (links_of graph) due e ≡ false → IsDepfileFound tells graph e depfile old new
+
+-- and this of an edge that was not judged
+pub record IsEdgeFound (tells : Bool) (graph : Graph) (records : Records) (old new : World) (seen : List Look) (due : List Bool) (e : ℕ) (is : Bool) : Type 0 where
+  pub alias : (links_of graph).phony e ≡ true → IsAliasRuled (links_of graph) seen due e is
+  pub command : (links_of graph).phony e ≡ false → IsCommandFound tells graph records old new seen due e is
+
+-- the flag of the edge is what was judged of it or what the rule says, by its depfile as it was found between these worlds
+pub record IsRuledFound (tells : Bool) (graph : Graph) (records : Records) (plan : Plan) (old new : World) (seen : List Look) (due : List Bool) (e : ℕ) : Type 0 where
+  pub depfile : Bool
+  pub ruled : IsRuled graph records plan seen due depfile e
+  pub there : IsFoundAnew graph plan due e → IsDepfileFound tells graph e depfile old new
+
+-- so it is of each of the listed edges
+abbrev pub EachRuledFound : Bool → Graph → Records → Plan → World → World → List Look → List Bool → List ℕ → Type 0
+EachRuledFound tells graph records plan old new seen due listed = (e : ℕ) → has_number listed e ≡ true → IsRuledFound tells graph records plan old new seen due e
+
+-- and no other has a flag
+pub record AreRuledFound (tells : Bool) (graph : Graph) (records : Records) (plan : Plan) (old new : World) (seen : List Look) (due : List Bool) (listed : List ℕ) : Type 0 where
+  pub flagged : AreListed listed due
+  pub each : EachRuledFound tells graph records plan old new seen due listed
+
+-- ---- the order in which edges are gone through
+
+-- each edge stands once, and after the edges that make what it needs
+pub record ComeAfterMakers (links : Links) (order : List ℕ) : Type 0 where
+  pub once : (k : ℕ) → k < length order → has_number (take k order) (get_or order k 0) ≡ false
+  pub makers : (k p m : ℕ) → k < length order → has_number (needs_at links (get_or order k 0)) p ≡ true → links.maker p ≡ Some m → has_number (take k order) m ≡ true
+
+-- ---- What calls say that are given a site: `world` tells the world of the site, which the call found as `old` and left as `new`.
+
+-- the answer is what the rule says of the command
+abbrev pub FindsCommandRuled : {S E : Type 0} → Bool → (S → World) → S → S → Graph → Records → Looks → List Bool → ℕ → Result Bool E → Type 0
+FindsCommandRuled tells world old new graph records after due e result =
+    IfOk result (λ is. IsCommandFound tells graph records (world old) (world new) after.seen.items due e is)
+
+-- and of an edge that was not judged
+abbrev pub FindsEdgeRuled : {S E : Type 0} → Bool → (S → World) → S → S → Graph → Records → Looks → List Bool → ℕ → Result Bool E → Type 0
+FindsEdgeRuled tells world old new graph records after due e result =
+    IfOk result (λ is. IsEdgeFound tells graph records (world old) (world new) after.seen.items due e is)
+
+-- each flag that is answered is, where the order of the cone is one of makers first
+abbrev pub FindsRuled : {S E : Type 0} → Bool → (S → World) → S → S → Graph → Records → Cone → Plan → Looks → Result (Vec Bool Global) E → Type 0
+FindsRuled tells world old new graph records cone plan after result =
+    IfOk result (λ due. ComeAfterMakers (links_of graph) cone.order.items
+    → AreRuledFound tells graph records plan (world old) (world new) after.seen.items due.items cone.order.items)

@@ -5,7 +5,8 @@ ghost use Rattle.model.specs.Calls.{HasCause};
 ghost use Rattle.judge.specs.Answers.{KnowsRight};
 ghost use Rattle.judge.specs.Looking.{HasLookedAt};
 ghost use Rattle.judge.specs.UnderWay.{was_due, judged_due};
-ghost use Rattle.judge.specs.Dues.{AreListed, FindsDue, FindsClean, FindsDueEdges, FindsRest};
+ghost use Rattle.judge.specs.Dues.{AreListed, FindsClean, FindsDueEdges, FindsRest};
+ghost use Rattle.judge.specs.Ruled.{FindsEdgeRuled, FindsRuled};
 ghost use Rattle.judge.specs.Summed.{AreSums};
 
 use crate::laws::looks_follow;
@@ -39,6 +40,7 @@ impl Looks {
         ensures known { KnowsRight graph.now records.now self.new }
         ensures fits { IfOk result (λ due. length due.items ≡ length graph.now.manifest.lines) }
         ensures listed { IfOk result (λ due. AreListed cone.now.order.items due.items) }
+        ensures ruled { FindsRuled S.tells S.world site.old site.new graph.now records.now cone.now plan.now self.new result }
         ensures due { FindsDueEdges S.tells S.world site.old site.new graph.now records.now cone.now plan.now self.old result }
         ensures clean { FindsRest S.tells S.world site.old site.new graph.now records.now cone.now plan.now self.old result }
     {
@@ -78,7 +80,7 @@ impl Looks {
         ensures cause { HasCause (S.world site.old) (S.world site.new) result }
         ensures summed { AreSums graph.now [] self.new.seen.items self.new.sums }
         ensures known { KnowsRight graph.now records.now self.new }
-        ensures due { FindsDue S.tells S.world site.old site.new graph.now records.now self.old due.now edge result }
+        ensures ruled { FindsEdgeRuled S.tells S.world site.old site.new graph.now records.now self.new due.now edge result }
         ensures clean { FindsClean S.tells S.world site.old site.new graph.now records.now self.old edge result }
     {
         lists_stand(graph);
