@@ -54,12 +54,20 @@ pub record IsDueAsked (links : Links) (seen : List Look) (due : List Bool) (p : 
 abbrev pub NoneAsked : (ℕ → Type 0) → (ℕ → Bool) → List ℕ → Type 0
 NoneAsked Asked test paths = (p : ℕ) → has_number paths p ≡ true → (Asked p) × (test p ≡ false)
 
+-- whether one of these paths is absent
+abbrev pub IsAnyAbsentAsked : List Look → List ℕ → Bool → Type 0
+IsAnyAbsentAsked seen paths is = IsAnyAsked (WasAsked seen) (is_absent_seen seen) paths is
+
+-- whether one of them is made by a due edge, or is an absent source
+abbrev pub IsAnyDueAsked : Links → List Look → List Bool → List ℕ → Bool → Type 0
+IsAnyDueAsked links seen due paths is = IsAnyAsked (WasSourceAsked links seen) (is_due_seen links seen due) paths is
+
 -- ---- edges
 
 -- this is what the rule says of a phony edge
 pub record IsAliasRuled (links : Links) (seen : List Look) (due : List Bool) (e : ℕ) (is : Bool) : Type 0 where
-  pub of_nothing : (length (links.inputs e) == 0) ≡ true → IsAnyAsked (WasAsked seen) (is_absent_seen seen) (links.outputs e) is
-  pub of_inputs : (length (links.inputs e) == 0) ≡ false → IsAnyAsked (WasSourceAsked links seen) (is_due_seen links seen due) (links.regular e) is
+  pub of_nothing : (length (links.inputs e) == 0) ≡ true → IsAnyAbsentAsked seen (links.outputs e) is
+  pub of_inputs : (length (links.inputs e) == 0) ≡ false → IsAnyDueAsked links seen due (links.regular e) is
 
 -- and this of a command, whose depfile is there, or is not
 pub record IsCommandRuled (graph : Graph) (records : Records) (seen : List Look) (due : List Bool) (depfile : Bool) (e : ℕ) (is : Bool) : Type 0 where

@@ -5,7 +5,7 @@ ghost use Rattle.model.specs.Calls.{HasCause};
 ghost use Rattle.graph.specs.Links.{links_of};
 ghost use Rattle.judge.specs.Looking.{HasLookedAt};
 ghost use Rattle.judge.specs.Dues.{FindsAbsent};
-ghost use Rattle.judge.specs.Ruled.{is_absent_seen, is_due_seen, WasAsked, WasSourceAsked, IsAbsentAsked, IsDueAsked, IsAnyAsked, IsAliasRuled};
+ghost use Rattle.judge.specs.Ruled.{IsAbsentAsked, IsDueAsked, IsAnyAbsentAsked, IsAnyDueAsked, IsAliasRuled};
 
 use crate::laws::looks_follow;
 use crate::looks::Looks;
@@ -55,7 +55,7 @@ impl Looks {
         ensures looked { HasLookedAt S.tells S.world site.old site.new graph.now self.old self.new }
         ensures cause { HasCause (S.world site.old) (S.world site.new) result }
         ensures sums { self.new.sums ≡ self.old.sums }
-        ensures has { IfOk result (IsAnyAsked (WasAsked self.new.seen.items) (is_absent_seen self.new.seen.items) paths.now) }
+        ensures has { IfOk result (IsAnyAbsentAsked self.new.seen.items paths.now) }
     {
         looks_follow();
         for path in paths {
@@ -101,7 +101,7 @@ impl Looks {
         ensures looked { HasLookedAt S.tells S.world site.old site.new graph.now self.old self.new }
         ensures cause { HasCause (S.world site.old) (S.world site.new) result }
         ensures sums { self.new.sums ≡ self.old.sums }
-        ensures has { IfOk result (IsAnyAsked (WasSourceAsked (links_of graph.now) self.new.seen.items) (is_due_seen (links_of graph.now) self.new.seen.items due.now) paths.now) }
+        ensures has { IfOk result (IsAnyDueAsked (links_of graph.now) self.new.seen.items due.now paths.now) }
     {
         looks_follow();
         for path in paths {
