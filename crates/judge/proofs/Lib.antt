@@ -24,6 +24,8 @@ pub mod Lacking
 pub mod RuledAliases
 pub mod RuledStays
 pub mod RuledMore
+pub mod RuledAgain
+pub mod NotedPlaces
 pub mod AfterMakers
 pub mod RuledDues
 pub mod AskedAny

@@ -12,4 +12,5 @@ pub mod Quiet
 pub mod UnderWay
 pub mod Dues
 pub mod Ruled
+pub mod KeptDues
 pub mod Lacks

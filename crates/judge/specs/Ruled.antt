@@ -1,5 +1,5 @@
 -- Flags of edges, each of which is what the rule says: by the flags of the makers and by what was seen.
-use Rattle.std.specs.Prelude.{◌≡◌, ◌==◌, ◌<◌, ℕ, Bool, true, false, IfOk, List, take, length, get_or, Some, None, Result, Vec}
+use Rattle.std.specs.Prelude.{◌≡◌, ◌==◌, ◌<◌, ℕ, Bool, true, false, IfOk, OnOk, List, take, length, get_or, Some, None, Result, Vec}
 use Rattle.std.specs.Option.{is_none}
 use Rattle.std.specs.declared.alloc.Global.{Global}
 use Rattle.model.specs.World.{World}
@@ -138,3 +138,18 @@ abbrev pub FindsRuled : {S E : Type 0} → Bool → (S → World) → S → S �
 FindsRuled tells world old new graph records cone plan after result =
     IfOk result (λ due. ComeAfterMakers (links_of graph) cone.order.items
     → AreRuledFound tells graph records plan (world old) (world new) after.seen.items due.items cone.order.items)
+
+-- the answer is the flag of the edge: as it was judged, or what the rule says
+pub record IsFlagFound (tells : Bool) (graph : Graph) (records : Records) (plan : Plan) (old new : World) (seen : List Look) (due : List Bool) (e : ℕ) (is : Bool) : Type 0 where
+  pub judged : (was : Bool) → judged_due graph plan e ≡ Some was → is ≡ was
+  pub unjudged : judged_due graph plan e ≡ None → IsEdgeFound tells graph records old new seen due e is
+
+-- so it is by the flags that are kept
+abbrev pub FindsFlag : {S E : Type 0} → Bool → (S → World) → S → S → Graph → Records → Plan → Looks → ℕ → Result Bool E → Type 0
+FindsFlag tells world old new graph records plan after e result =
+    IfOk result (λ is. IsFlagFound tells graph records plan (world old) (world new) after.seen.items after.sums.answers.dues.flags.items e is)
+
+-- and so is each flag that is kept
+abbrev pub FindsRuledAgain : {S E : Type 0} → Bool → (S → World) → S → S → Graph → Records → Cone → Plan → Looks → Result (Unit {0}) E → Type 0
+FindsRuledAgain tells world old new graph records cone plan after result =
+    OnOk result (AreRuledFound tells graph records plan (world old) (world new) after.seen.items after.sums.answers.dues.flags.items cone.order.items)

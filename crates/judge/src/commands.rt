@@ -43,6 +43,7 @@ impl Looks {
         ensures cause { HasCause (S.world site.old) (S.world site.new) result }
         ensures summed { AreSums graph.now [] self.new.seen.items self.new.sums }
         ensures known { KnowsRight graph.now records.now self.new }
+        ensures dues { self.new.sums.answers.dues ≡ self.old.sums.answers.dues }
         ensures ruled { FindsCommandRuled S.tells S.world site.old site.new graph.now records.now self.new due.now edge result }
         ensures clean { FindsCleanCommand S.tells S.world site.old site.new graph.now records.now self.old edge result }
     {

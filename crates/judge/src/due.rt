@@ -62,7 +62,7 @@ impl Looks {
     }
 
     /// Whether the edge, which was not judged, is due, where it is known which edges before it are.
-    fn is_due<S: Site>(
+    pub(crate) fn is_due<S: Site>(
         &mut self,
         site: &mut S,
         graph: &Graph,
@@ -80,6 +80,7 @@ impl Looks {
         ensures cause { HasCause (S.world site.old) (S.world site.new) result }
         ensures summed { AreSums graph.now [] self.new.seen.items self.new.sums }
         ensures known { KnowsRight graph.now records.now self.new }
+        ensures dues { self.new.sums.answers.dues ≡ self.old.sums.answers.dues }
         ensures ruled { FindsEdgeRuled S.tells S.world site.old site.new graph.now records.now self.new due.now edge result }
         ensures clean { FindsClean S.tells S.world site.old site.new graph.now records.now self.old edge result }
     {
@@ -101,7 +102,7 @@ fn edges_to_keep(graph: &Graph, plan: &Plan) -> usize {
 }
 
 /// Whether the edge was judged out of date; nothing of a phony edge, and where it was not judged.
-fn judged_due(graph: &Graph, plan: &Plan, edge: EdgeId) -> Option<bool>
+pub(crate) fn judged_due(graph: &Graph, plan: &Plan, edge: EdgeId) -> Option<bool>
     requires within { edge < length graph.now.manifest.lines }
     requires plan { vec_len plan.now.standings ≡ length graph.now.manifest.lines }
     ensures { result ≡ judged_due graph.now plan.now edge }

@@ -29,7 +29,7 @@ loop-edge-init g c =
           (record { alloc = c.clear.new.self.alloc; by_edge = c.clear.new.self.by_edge; passing = c.clear.new.self.passing; answers = c.make_room.new.self });
       unrefused = unrefused_none (g.S.Texts.world c.args.site.now) c.requires.running;
       summed = c.clear.ensures.summed c.args.graph.now [] c.args.self.now.seen.items;
-      known = λ e answer is. c.requires.known e answer (ap (λ (a : Answers). answer_at a e) (sym {A = Answers} c.clear.ensures.answers) ∙ (sym (c.make_room.ensures e) ∙ is));
+      known = λ e answer is. c.requires.known e answer (ap (λ (a : Answers). answer_at a e) (sym {A = Answers} c.clear.ensures.answers) ∙ (sym (c.make_room.ensures.same e) ∙ is));
       fits = search rules;
       listed = subst (λ (l : List Bool). AreListed c.args.cone.now.order.items l) (sym none) (none_listed c.args.cone.now.order.items c.edges.result);
       ruled = λ after e listed. absurd (false≢true listed);

@@ -1,6 +1,7 @@
-use Rattle.std.proofs.Common.{◌≡◌, [], true, false, refl, sym, ◌∙◌, is_some, rules}
+use Rattle.std.proofs.Common.{◌≡◌, [], true, false, refl, sym, ◌∙◌, ap, is_some, rules}
 use Rattle.std.proofs.lemmas.Bool.{false≢true}
 use Rattle.graph.specs.Links.{links_of}
+use Rattle.judge.specs.declared.answers.Answers.{Answers}
 use Rattle.judge.specs.declared.sums.Sums.{Sums}
 use Rattle.judge.specs.Dues.{reads_due}
 use Rattle.judge.proofs.Answered.{answers_with, depfile_then, known_kept, reason_found}
@@ -89,7 +90,7 @@ returns-clause-summed g c = c.reason_by.ensures.summed
 pub returns-clause-known : goal.returns-clause-known
 returns-clause-known g c =
     let is : c.is_some-stale.result ≡ is_some c.in_ok-found.found = search rules in
-    answers_with c.args.graph.now c.args.records.now c.reason_by.new.self.seen.items c.args.edge (record { depfile = c.in_ok-depfile.depfile; due = c.is_some-stale.result }) c.reason_by.new.self.sums.answers c.note.new.self c.note.ensures
+    answers_with c.args.graph.now c.args.records.now c.reason_by.new.self.seen.items c.args.edge (record { depfile = c.in_ok-depfile.depfile; due = c.is_some-stale.result }) c.reason_by.new.self.sums.answers c.note.new.self c.note.ensures.with_it
     (record { reason = c.in_ok-found.found; is = sym is; seen = c.in_ok-found.ensures.reason })
     (known_kept c.args.graph.now c.args.records.now c.args.self.now c.reason_by.new.self c.reason_by.ensures.looked.stays c.reason_by.ensures.answers c.requires.known)
 
@@ -124,3 +125,11 @@ returns-clause-clean g c =
     let there = depfile_then c.looks_follow.ensures.follow c.looks_follow.ensures.stay tells graph c.args.edge c.in_ok-depfile.depfile a h d c.args.self.now c.depfile_of.ensures.looks c.reason_by.ensures.looked.looks c.in_ok-depfile.ensures.there in
     clean_found c.looks_follow.ensures.follow c.looks_follow.ensures.stay tells graph c.lists_stand.ensures c.args.records.now c.args.due.now c.args.edge c.requires.command none a d c.args.self.now c.in_ok-found.found c.is_some-stale.result is
     (reason_found tells graph c.lists_stand.ensures c.args.records.now [] c.args.edge c.in_ok-depfile.depfile c.in_ok-found.found a d c.args.self.now c.reason_by.new.self looked there c.in_ok-found.ensures.reason) looked.looks
+
+-- ---- the flags that are kept
+
+pub returns-in_err-found-clause-dues : goal.returns-in_err-found-clause-dues
+returns-in_err-found-clause-dues g c = ap (λ (a : Answers). a.dues) c.reason_by.ensures.answers
+
+pub returns-clause-dues : goal.returns-clause-dues
+returns-clause-dues g c = c.note.ensures.dues ∙ ap (λ (a : Answers). a.dues) c.reason_by.ensures.answers

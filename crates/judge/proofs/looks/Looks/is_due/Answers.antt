@@ -31,3 +31,6 @@ returns-clause-clean g c = if_ok_then c.is_command_due.result c.is_command_due.e
 pub returns-then-is_phony-clause-known : goal.returns-then-is_phony-clause-known
 returns-then-is_phony-clause-known g c =
     known_kept c.args.graph.now c.args.records.now c.args.self.now c.is_alias_due.new.self c.is_alias_due.ensures.looked.stays (ap (λ (s : Sums). s.answers) c.is_alias_due.ensures.sums) c.requires.known
+
+pub returns-then-is_phony-clause-dues : goal.returns-then-is_phony-clause-dues
+returns-then-is_phony-clause-dues g c = ap (λ (s : Sums). s.answers.dues) c.is_alias_due.ensures.sums

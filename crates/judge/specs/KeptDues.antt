@@ -1,0 +1,113 @@
+-- Flags of due edges that are kept, and the places in the order of a cone at which they are to be found again.
+use Rattle.std.specs.Prelude.{◌≡◌, ◌≢◌, ◌⊎◌, ◌<◌, ◌≤◌, ℕ, suc, Bool, true, false, List, length, vec_len, get_or}
+use Rattle.model.specs.declared.graph.Deps.TheVariants.{Unset}
+use Rattle.model.specs.Graph.{has_number, edge_at}
+use Rattle.graph.specs.declared.cone.Cone.{Cone}
+use Rattle.graph.specs.declared.graph.Graph.{Graph}
+use Rattle.graph.specs.Cone.{mark_at, is_listed}
+use Rattle.graph.specs.Links.{links_of, users_at}
+use Rattle.graph.specs.Places.{place_in}
+use Rattle.graph.specs.Told.{declared_by}
+use Rattle.plan.specs.declared.plan.Plan.{Plan}
+use Rattle.plan.specs.Flags.{has}
+use Rattle.records.specs.declared.records.Records.{Records}
+use Rattle.judge.specs.declared.dues.Dues.{Dues}
+use Rattle.judge.specs.declared.looks.Look.{Look}
+use Rattle.judge.specs.Dues.{due_at, AreListed}
+use Rattle.judge.specs.Ruled.{IsRuled, IsFoundAnew, ComeAfterMakers}
+
+-- ---- edges and places
+
+-- the marks of the cone say which edges are listed
+abbrev pub AreMarksOf : Cone → Type 0
+AreMarksOf cone = (e : ℕ) → is_listed (mark_at cone.marks.items e) ≡ has_number cone.order.items e
+
+-- where the edge stands in the order of the cone
+abbrev pub place_of : Cone → ℕ → ℕ
+place_of cone e = place_in cone.places.items e
+
+-- which edge stands at this place
+abbrev pub edge_of_place : Cone → ℕ → ℕ
+edge_of_place cone k = get_or cone.order.items k 0
+
+-- one of these edges is listed, and stands at this place
+pub record StandsAmong (cone : Cone) (edges : List ℕ) (k : ℕ) : Type 0 where
+  pub edge : ℕ
+  pub given : has_number edges edge ≡ true
+  pub listed : has_number cone.order.items edge ≡ true
+  pub place : place_of cone edge ≡ k
+
+-- a listed edge that needs one of these paths stands there
+pub record StandsAmongUsers (graph : Graph) (cone : Cone) (paths : List ℕ) (k : ℕ) : Type 0 where
+  pub path : ℕ
+  pub given : has_number paths path ≡ true
+  pub user : StandsAmong cone (users_at graph path) k
+
+-- ---- places that are noted
+
+-- the places of those of these edges that are listed are noted beside those that were, and nothing else is changed
+pub record NotesEdges (cone : Cone) (edges : List ℕ) (old new : Dues) : Type 0 where
+  pub known : new.known ≡ old.known
+  pub flags : new.flags.items ≡ old.flags.items
+  pub fits : length new.todo ≡ length old.todo
+  pub more : (k : ℕ) → has old.todo k ≡ true → has new.todo k ≡ true
+  pub all : (e : ℕ) → has_number edges e ≡ true → has_number cone.order.items e ≡ true → has new.todo (place_of cone e) ≡ true
+  pub only : (k : ℕ) → has new.todo k ≡ true → (has old.todo k ≡ true) ⊎ StandsAmong cone edges k
+
+-- and so are those of the edges that need one of these paths
+pub record NotesUsers (graph : Graph) (cone : Cone) (paths : List ℕ) (old new : Dues) : Type 0 where
+  pub known : new.known ≡ old.known
+  pub flags : new.flags.items ≡ old.flags.items
+  pub fits : length new.todo ≡ length old.todo
+  pub more : (k : ℕ) → has old.todo k ≡ true → has new.todo k ≡ true
+  pub all : (p e : ℕ) → has_number paths p ≡ true → has_number (users_at graph p) e ≡ true → has_number cone.order.items e ≡ true → has new.todo (place_of cone e) ≡ true
+  pub only : (k : ℕ) → has new.todo k ≡ true → (has old.todo k ≡ true) ⊎ StandsAmongUsers graph cone paths k
+
+-- ---- one edge that was found again
+
+-- each listed edge that needs what the edge makes is noted
+abbrev pub HasNotedUsers : Graph → Cone → ℕ → List Bool → Type 0
+HasNotedUsers graph cone e todo =
+    (p q : ℕ) → has_number ((links_of graph).outputs e) p ≡ true → has_number (users_at graph p) q ≡ true → has_number cone.order.items q ≡ true → has todo (place_of cone q) ≡ true
+
+-- The flag of the edge is this. It is noted no more, and where its flag has changed, the edges are that need what it makes.
+pub record NotesFound (graph : Graph) (cone : Cone) (e : ℕ) (is : Bool) (old new : Dues) : Type 0 where
+  pub known : new.known ≡ old.known
+  pub fits : length new.flags.items ≡ length old.flags.items
+  pub room : length new.todo ≡ length old.todo
+  pub flag : due_at new.flags.items e ≡ is
+  pub others : (q : ℕ) → (q ≡ e → ⊥) → due_at new.flags.items q ≡ due_at old.flags.items q
+  pub more : (k : ℕ) → (k ≡ place_of cone e → ⊥) → has old.todo k ≡ true → has new.todo k ≡ true
+  pub users : (due_at new.flags.items e ≡ due_at old.flags.items e) ⊎ HasNotedUsers graph cone e new.todo
+  pub only : (k : ℕ) → has new.todo k ≡ true → ((has old.todo k ≡ true) × ((k ≡ place_of cone e) → ⊥)) ⊎ StandsAmongUsers graph cone ((links_of graph).outputs e) k
+
+-- ---- what is kept
+
+-- the site is not asked for the depfile of the edge
+abbrev pub AsksForNone : Graph → ℕ → Type 0
+AsksForNone graph e = (edge_at (declared_by graph).edges (suc e)).act.depfile ≢ [] → (edge_at (declared_by graph).edges (suc e)).deps ≡ Unset → ⊥
+
+-- the flag of the edge is what was judged of it or what the rule says, with some depfile
+pub record IsRuledStill (graph : Graph) (records : Records) (plan : Plan) (seen : List Look) (due : List Bool) (e : ℕ) : Type 0 where
+  pub depfile : Bool
+  pub ruled : IsRuled graph records plan seen due depfile e
+
+-- The cone is one of makers first, of which the marks tell, and there is room for its places.
+pub record IsRoomFor (graph : Graph) (cone : Cone) (dues : Dues) : Type 0 where
+  pub fits : length dues.flags.items ≡ length graph.manifest.lines
+  pub sized : vec_len cone.marks ≡ length graph.manifest.lines
+  pub room : length cone.order.items ≤ length dues.todo
+  pub within : (k : ℕ) → has dues.todo k ≡ true → k < length cone.order.items
+  pub marks : AreMarksOf cone
+  pub ordered : ComeAfterMakers (links_of graph) cone.order.items
+
+-- each flag is right but for those that are noted, and no edge outside of the cone has one
+pub record AreRuledBut (graph : Graph) (records : Records) (cone : Cone) (plan : Plan) (seen : List Look) (dues : Dues) : Type 0 where
+  pub room : IsRoomFor graph cone dues
+  pub flagged : AreListed cone.order.items dues.flags.items
+  pub each : (k : ℕ) → k < length cone.order.items → has dues.todo k ≡ false → IsRuledStill graph records plan seen dues.flags.items (edge_of_place cone k)
+
+-- of no edge that is not noted a depfile is asked for, as far as its flag is what was found of its command
+abbrev pub AskForNone : Graph → Cone → Plan → Dues → Type 0
+AskForNone graph cone plan dues =
+    (k : ℕ) → k < length cone.order.items → has dues.todo k ≡ false → IsFoundAnew graph plan dues.flags.items (edge_of_place cone k) → AsksForNone graph (edge_of_place cone k)
