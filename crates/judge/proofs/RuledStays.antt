@@ -62,7 +62,7 @@ module _ (seen new : List Look) (stays : StaysKnown seen new) (graph : Graph) (d
 abbrev pub KeepsMakers : Graph → List Bool → List Bool → ℕ → Type 0
 KeepsMakers graph due new e = (p m : ℕ) → has_number (needs_at (links_of graph) e) p ≡ true → (links_of graph).maker p ≡ Some m → due_at new m ≡ due_at due m
 
-any_where : (f g : ℕ → Bool) (xs : List ℕ) → ((x : ℕ) → has_number xs x ≡ true → f x ≡ g x) → list_any f xs ≡ list_any g xs
+pub any_where : (f g : ℕ → Bool) (xs : List ℕ) → ((x : ℕ) → has_number xs x ≡ true → f x ≡ g x) → list_any f xs ≡ list_any g xs
 any_where f g [] same = refl
 any_where f g (x ∷ xs) same =
     ap (λ (b : Bool). b || list_any f xs) (same x (has_here x xs))
