@@ -232,9 +232,8 @@ module _ (old new : Records) (same : TellSame old new) where
     told = subst (ArePlaces tolds deps_in_force ds paths) same.deps_places is.told;
   }
 
-  pub answers_told : (graph : Graph) (seen : List Look) (answers : Answers) → AreAnswers graph old seen answers → AreAnswers graph new seen answers
-  answers_told graph seen answers right e answer is =
-      let was = right e answer is in
+  pub answer_told : (graph : Graph) (seen : List Look) (e : ℕ) (answer : Answer) → IsAnswerSeen graph old seen e answer → IsAnswerSeen graph new seen e answer
+  answer_told graph seen e answer was =
       let by = was.seen in
       record {
         reason = was.reason;
@@ -251,3 +250,6 @@ module _ (old new : Records) (same : TellSame old new) where
           stale = by.stale;
         };
       }
+
+  pub answers_told : (graph : Graph) (seen : List Look) (answers : Answers) → AreAnswers graph old seen answers → AreAnswers graph new seen answers
+  answers_told graph seen answers right e answer is = answer_told graph seen e answer (right e answer is)

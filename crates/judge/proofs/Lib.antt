@@ -26,6 +26,7 @@ pub mod RuledStays
 pub mod RuledMore
 pub mod RuledAgain
 pub mod NotedPlaces
+pub mod KeptFlags
 pub mod AfterMakers
 pub mod RuledDues
 pub mod AskedAny

@@ -362,6 +362,10 @@ module _ (edges : List ℕ) (old new : Graph) (grown : HasGrownBy edges old new)
           };
         }
 
+  -- a load brings no line
+  pub count_same : length new.manifest.lines ≡ length old.manifest.lines
+  count_same = sym both.after.fits ∙ (grown.grown.as_many ∙ both.before.fits)
+
   -- ---- the rule of one edge
 
   later_back : (m : ℕ) (n : Option ℕ) → later_number n ≡ Some (suc m) → n ≡ Some m

@@ -22,6 +22,7 @@ use Rattle.judge.specs.Ruled.{IsFlagFound, IsRuledFound, AreRuledFound, ComeAfte
 use Rattle.judge.specs.KeptDues.{place_of, edge_of_place, NotesFound, IsRoomFor, AreRuledBut, AskForNone}
 use Rattle.judge.proofs.AfterMakers.{none_next}
 use Rattle.judge.proofs.FilesStay.{Follow, Stay}
+use Rattle.judge.proofs.Lacking.{listed_within}
 use Rattle.judge.proofs.NotedPlaces.{needs_user, user_needs}
 use Rattle.judge.proofs.NumbersAsTexts.{same_or_other, has_here, at_has}
 use Rattle.judge.proofs.RuledMore.{found_first, found_flags, flag_second, flag_with}
@@ -113,6 +114,10 @@ module _ (links : Links) (cone : Cone) (after : ComeAfterMakers links cone.order
       let found = at_of order (place_of cone q) e there in
       let same : place_of cone e ≡ found.0 = ap (place_of cone) (sym {A = ℕ} found.3) ∙ place_is found.0 found.2 in
       omega (arith, found.1, same)
+
+-- a listed edge is one of the graph
+pub room_within : (graph : Graph) (cone : Cone) (dues : Dues) → IsRoomFor graph cone dues → (e : ℕ) → has_number cone.order.items e ≡ true → e < length graph.manifest.lines
+room_within graph cone dues room e listed = let low = listed_within cone.marks.items e (room.marks e ∙ listed) in omega (arith, low, room.sized, cone.marks.ok.0)
 
 -- ---- while flags are found again
 

@@ -1,11 +1,11 @@
 -- Flags of due edges that are kept, and the places in the order of a cone at which they are to be found again.
-use Rattle.std.specs.Prelude.{◌≡◌, ◌≢◌, ◌⊎◌, ◌<◌, ◌≤◌, ℕ, suc, Bool, true, false, List, length, vec_len, get_or}
+use Rattle.std.specs.Prelude.{◌≡◌, ◌≢◌, ◌⊎◌, ◌<◌, ◌≤◌, ℕ, suc, Bool, true, false, List, [], ◌∷◌, length, vec_len, get_or, None}
 use Rattle.model.specs.declared.graph.Deps.TheVariants.{Unset}
 use Rattle.model.specs.Graph.{has_number, edge_at}
 use Rattle.graph.specs.declared.cone.Cone.{Cone}
 use Rattle.graph.specs.declared.graph.Graph.{Graph}
 use Rattle.graph.specs.Cone.{mark_at, is_listed}
-use Rattle.graph.specs.Links.{links_of, users_at}
+use Rattle.graph.specs.Links.{links_of, needs_at, users_at}
 use Rattle.graph.specs.Places.{place_in}
 use Rattle.graph.specs.Told.{declared_by}
 use Rattle.plan.specs.declared.plan.Plan.{Plan}
@@ -13,6 +13,9 @@ use Rattle.plan.specs.Flags.{has}
 use Rattle.records.specs.declared.records.Records.{Records}
 use Rattle.judge.specs.declared.dues.Dues.{Dues}
 use Rattle.judge.specs.declared.looks.Look.{Look}
+use Rattle.judge.specs.Answers.{HasGrownBy, StandBoth, AreKnownStill, TellSame}
+use Rattle.judge.specs.Seen.{StaysKnown}
+use Rattle.judge.specs.UnderWay.{judged_due}
 use Rattle.judge.specs.Dues.{due_at, AreListed}
 use Rattle.judge.specs.Ruled.{IsRuled, IsFoundAnew, ComeAfterMakers}
 
@@ -111,3 +114,33 @@ pub record AreRuledBut (graph : Graph) (records : Records) (cone : Cone) (plan :
 abbrev pub AskForNone : Graph → Cone → Plan → Dues → Type 0
 AskForNone graph cone plan dues =
     (k : ℕ) → k < length cone.order.items → has dues.todo k ≡ false → IsFoundAnew graph plan dues.flags.items (edge_of_place cone k) → AsksForNone graph (edge_of_place cone k)
+
+-- ---- a law
+
+-- the plan tells of each edge what it told, but of this one
+abbrev pub TellsSameBut : Graph → Plan → Plan → ℕ → Type 0
+TellsSameBut graph plan next e = (q : ℕ) → (q ≡ e → ⊥) → judged_due graph next q ≡ judged_due graph plan q
+
+-- After a load the cone is one of makers first still. Its edges are noted, and those that need what no edge made and one makes now, and the
+-- plan tells of the others what it told.
+pub record NotesLoaded (edges : List ℕ) (old new : Graph) (cone : Cone) (plan next : Plan) (was is : Dues) : Type 0 where
+  pub ordered : ComeAfterMakers (links_of new) cone.order.items
+  pub flags : is.flags.items ≡ was.flags.items
+  pub fits : length is.todo ≡ length was.todo
+  pub within : (k : ℕ) → has is.todo k ≡ true → k < length cone.order.items
+  pub more : (k : ℕ) → has was.todo k ≡ true → has is.todo k ≡ true
+  pub changed : (k : ℕ) → k < length cone.order.items → has_number edges (edge_of_place cone k) ≡ true → has is.todo k ≡ true
+  pub gained : (k p : ℕ) → k < length cone.order.items → has is.todo k ≡ false → has_number (needs_at (links_of old) (edge_of_place cone k)) p ≡ true → (links_of old).maker p ≡ None → (links_of new).maker p ≡ None
+  pub told : (e : ℕ) → has_number edges e ≡ false → judged_due new next e ≡ judged_due old plan e
+
+-- Flags stay right where what was seen stays, where the records tell the same and where the plan does, where an edge that is judged is noted,
+-- and after a load, where what it changes is.
+pub record DuesFollow : Type 0 where
+  pub stay : (graph : Graph) (records : Records) (cone : Cone) (plan : Plan) (old new : List Look) → StaysKnown old new → (dues : Dues) → AreRuledBut graph records cone plan old dues → AreRuledBut graph records cone plan new dues
+  pub told : (graph : Graph) (old new : Records) → TellSame old new → (cone : Cone) (plan : Plan) (seen : List Look) (dues : Dues) → AreRuledBut graph old cone plan seen dues → AreRuledBut graph new cone plan seen dues
+  pub planned : (graph : Graph) (records : Records) (cone : Cone) (plan next : Plan) → ((e : ℕ) → judged_due graph next e ≡ judged_due graph plan e) → (seen : List Look) (dues : Dues) → AreRuledBut graph records cone plan seen dues
+      → AreRuledBut graph records cone next seen dues
+  pub judged : (graph : Graph) (records : Records) (cone : Cone) (plan next : Plan) (e : ℕ) → TellsSameBut graph plan next e → has_number cone.order.items e ≡ true → (seen : List Look) (old new : Dues) → NotesEdges cone (e ∷ []) old new
+      → AreRuledBut graph records cone plan seen old → AreRuledBut graph records cone next seen new
+  pub loaded : (edges : List ℕ) (old new : Graph) → HasGrownBy edges old new → StandBoth old new → (was is : Records) → AreKnownStill old new was is → (cone : Cone) (plan next : Plan) (before after : Dues)
+      → NotesLoaded edges old new cone plan next before after → (seen : List Look) → AreRuledBut old was cone plan seen before → AreRuledBut new is cone next seen after

@@ -27,7 +27,7 @@ pub use answers::{Answer, Answers};
 pub use dues::Dues;
 pub use input_facts::Inputs;
 pub use lack::{Found, Lack};
-pub use laws::{answers_follow, looks_follow, sums_follow};
+pub use laws::{answers_follow, dues_follow, looks_follow, sums_follow};
 pub use looks::{Look, Looks};
 pub use model::Reason;
 pub use output_facts::{OutputFacts, Outputs};

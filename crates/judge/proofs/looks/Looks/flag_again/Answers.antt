@@ -1,4 +1,4 @@
-use Rattle.std.proofs.Common.{◌≡◌, Some, None, refl, sym, ◌∙◌}
+use Rattle.std.proofs.Common.{◌≡◌, Some, sym, ◌∙◌}
 use Rattle.theory.proofs.Lists.{same_some, some_none}
 use Rattle.judge.specs.UnderWay.{judged_due}
 use Rattle.judge.proofs.LooksStay.{looked_none}
