@@ -3,7 +3,8 @@
 ghost use Rattle.std.specs.Prelude.{◌≡◌, ◌∷◌, [], ◌<◌, ◌≤◌, ℕ, true, false, length, vec_len, IfOk};
 ghost use Rattle.model.specs.Graph.{has_number};
 ghost use Rattle.graph.specs.Links.{links_of};
-ghost use Rattle.judge.specs.KeptDues.{AreMarksOf, NotesEdges, NotesUsers, NotesFound};
+ghost use Rattle.judge.specs.Dues.{due_at};
+ghost use Rattle.judge.specs.KeptDues.{AreMarksOf, NotesEdges, NotesUsers, NotesFound, place_of};
 
 use graph::{Cone, Graph, lists_stand};
 use paths::EdgeId;
@@ -44,7 +45,7 @@ impl Dues {
         ensures { NotesEdges cone.now (edge ∷ []) self.old self.new }
     {
         if cone.has(edge) {
-            self.todo.insert(cone.places[edge.index()]);
+            self.todo.insert(place_in(cone, edge));
         }
     }
 
@@ -85,11 +86,27 @@ impl Dues {
         requires room { length cone.now.order.items ≤ length self.old.todo }
         ensures { NotesFound graph.now cone.now edge is self.old self.new }
     {
-        self.todo.remove(cone.places[edge.index()]);
-        let index = edge.index();
-        if self.flags[index] != is {
-            self.flags[index] = is;
-            self.note_users(graph, cone, edge);
+        self.todo.remove(place_in(cone, edge));
+        if self.has_flag(edge, is) {
+            return;
         }
+        self.flags[edge.index()] = is;
+        self.note_users(graph, cone, edge);
     }
+
+    /// Whether the flag of the edge is this.
+    fn has_flag(&self, edge: EdgeId, is: bool) -> bool
+        requires { edge < length self.now.flags.items }
+        ensures { result ≡ true → due_at self.now.flags.items edge ≡ is }
+    {
+        self.flags[edge.index()] == is
+    }
+}
+
+/// Where the edge stands in the order of the cone, if it is there.
+fn place_in(cone: &Cone, edge: EdgeId) -> usize
+    requires { edge < vec_len cone.now.marks }
+    ensures { result ≡ place_of cone.now edge }
+{
+    cone.places[edge.index()]
 }

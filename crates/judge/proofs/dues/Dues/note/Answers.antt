@@ -10,15 +10,17 @@ insert-requires c =
     let cone = c.args.cone.now in
     let mark : is_listed (mark_at cone.marks.items c.args.edge) ≡ true = search rules in
     let stands = cone.placed c.args.edge (sym (c.requires.marks c.args.edge) ∙ mark) in
-    omega (arith, stands.0, c.requires.room)
+    omega (arith, stands.0, c.requires.room, c.place_in.ensures)
 
 pub returns-then-has : goal.returns-then-has
 returns-then-has c =
     let cone = c.args.cone.now in
+    let old = c.args.self.now in
     let mark : is_listed (mark_at cone.marks.items c.args.edge) ≡ true = search rules in
     let listed : has_number cone.order.items c.args.edge ≡ true = sym (c.requires.marks c.args.edge) ∙ mark in
     let stands = cone.placed c.args.edge listed in
-    notes_one cone c.args.edge listed c.args.self.now (record { known = c.args.self.now.known; flags = c.args.self.now.flags; todo = c.insert.new.self }) (omega (arith, stands.0, c.requires.room)) refl refl c.insert.ensures
+    notes_one cone c.args.edge listed old (record { known = old.known; flags = old.flags; todo = c.insert.new.self }) (omega (arith, stands.0, c.requires.room)) refl refl
+    (c.insert.ensures ∙ ap (λ (n : ℕ). set old.todo n true) c.place_in.ensures)
 
 pub returns-else-has : goal.returns-else-has
 returns-else-has c =

@@ -1,16 +1,89 @@
-use Rattle.std.proofs.Common.{◌≡◌, ◌<◌, ℕ, [], length, sym, ◌∙◌, subst, arith}
+use Rattle.std.proofs.Common.{◌≡◌, ◌<◌, ◌≤◌, ℕ, [], true, length, sym, ◌∙◌, ap, subst, arith}
 use Rattle.std.proofs.lemmas.List.{get_or_default}
+use Rattle.model.specs.Graph.{has_number}
 use Rattle.theory.proofs.SiteCalls.{unrefused_none, unrefused_call, unrefused_then}
 use Rattle.judge.specs.declared.answers.Answers.{Answers}
 use Rattle.judge.specs.declared.dues.Dues.{Dues}
 use Rattle.judge.specs.declared.sums.Sums.{Sums}
 use Rattle.judge.specs.Answers.{AreAnswers}
-use Rattle.judge.specs.KeptDues.{edge_of_place, NotesFound}
+use Rattle.judge.specs.KeptDues.{edge_of_place, NotesFound, AreRuledBut}
 use Rattle.judge.specs.Ruled.{IsFlagFound}
 use Rattle.judge.proofs.FilesStay.{looked_then}
+use Rattle.judge.proofs.KeptFlags.{dues_stay}
 use Rattle.judge.proofs.LooksStay.{looked_cleared}
-use Rattle.judge.proofs.RuledAgain.{IsAgainAt, again_start, again_kept, again_end, again_more, again_less}
+use Rattle.judge.proofs.NumbersAsTexts.{at_has}
+use Rattle.judge.proofs.RuledAgain.{IsAgainAt, room_within, again_start, again_kept, again_end, again_more, again_less}
 use Rattle.judge.proofs.looks.Looks.due_again.Goals as goal
+
+-- ---- the edge of the lowest place
+
+pub index-edge-requires : goal.index-edge-requires
+index-edge-requires g c = let low = c.loop-place.invariant.again.room.within c.in-Some.place c.in-Some.ensures.is in omega (arith, low, c.args.cone.now.order.ok.0)
+
+pub flag_again-requires-clause-within : goal.flag_again-requires-clause-within
+flag_again-requires-clause-within g c =
+    let cone = c.args.cone.now in
+    let k = c.in-Some.place in
+    let room = c.loop-place.invariant.again.room in
+    let low : k < length cone.order.items = room.within k c.in-Some.ensures.is in
+    let at : c.index-edge.result.now ≡ edge_of_place cone k = c.index-edge.ensures ∙ get_or_default cone.order.items k c.index-edge.result.now 0 low in
+    room_within c.args.graph.now cone c.loop-place.self.sums.answers.dues room c.index-edge.result.now (subst (λ (n : ℕ). has_number cone.order.items n ≡ true) (sym {A = ℕ} at) (at_has cone.order.items k 0 low))
+
+pub flag_again-requires-clause-due : goal.flag_again-requires-clause-due
+flag_again-requires-clause-due g c = c.loop-place.invariant.again.room.fits
+
+pub found-requires-clause-listed : goal.found-requires-clause-listed
+found-requires-clause-listed g c =
+    let cone = c.args.cone.now in
+    let k = c.in-Some.place in
+    let low : k < length cone.order.items = c.loop-place.invariant.again.room.within k c.in-Some.ensures.is in
+    let at : c.index-edge.result.now ≡ edge_of_place cone k = c.index-edge.ensures ∙ get_or_default cone.order.items k c.index-edge.result.now 0 low in
+    subst (λ (n : ℕ). has_number cone.order.items n ≡ true) (sym {A = ℕ} at) (at_has cone.order.items k 0 low)
+
+pub found-requires-clause-within : goal.found-requires-clause-within
+found-requires-clause-within g c =
+    let cone = c.args.cone.now in
+    let k = c.in-Some.place in
+    let room = c.loop-place.invariant.again.room in
+    let low : k < length cone.order.items = room.within k c.in-Some.ensures.is in
+    let at : c.index-edge.result.now ≡ edge_of_place cone k = c.index-edge.ensures ∙ get_or_default cone.order.items k c.index-edge.result.now 0 low in
+    room_within c.args.graph.now cone c.loop-place.self.sums.answers.dues room c.index-edge.result.now (subst (λ (n : ℕ). has_number cone.order.items n ≡ true) (sym {A = ℕ} at) (at_has cone.order.items k 0 low))
+
+pub found-requires-clause-fits : goal.found-requires-clause-fits
+found-requires-clause-fits g c = ap (λ (dues : Dues). length dues.flags.items) c.flag_again.ensures.dues ∙ c.loop-place.invariant.again.room.fits
+
+pub found-requires-clause-sized : goal.found-requires-clause-sized
+found-requires-clause-sized g c = c.loop-place.invariant.again.room.sized
+
+pub found-requires-clause-marks : goal.found-requires-clause-marks
+found-requires-clause-marks g c = c.loop-place.invariant.again.room.marks
+
+pub found-requires-clause-room : goal.found-requires-clause-room
+found-requires-clause-room g c = subst (λ (dues : Dues). length c.args.cone.now.order.items ≤ length dues.todo) (sym {A = Dues} c.flag_again.ensures.dues) c.loop-place.invariant.again.room.room
+
+-- ---- the site failed
+
+pub returns-in_err-is-clause-looked : goal.returns-in_err-is-clause-looked
+returns-in_err-is-clause-looked g c =
+    looked_then c.looks_follow.ensures.follow g.S.Texts.tells c.args.graph.now (g.S.Texts.world c.args.site.now) (g.S.Texts.world c.loop-place.site) (g.S.Texts.world c.flag_again.new.site) c.args.self.now c.loop-place.self c.flag_again.new.self
+    c.loop-place.invariant.looked c.flag_again.ensures.looked
+
+pub returns-in_err-is-clause-known : goal.returns-in_err-is-clause-known
+returns-in_err-is-clause-known g c = c.flag_again.ensures.known
+
+pub returns-in_err-is-clause-kept : goal.returns-in_err-is-clause-kept
+returns-in_err-is-clause-kept g c =
+    let graph = c.args.graph.now in
+    let records = c.args.records.now in
+    let cone = c.args.cone.now in
+    let plan = c.args.plan.now in
+    let one = c.loop-place.self in
+    let two = c.flag_again.new.self in
+    subst (λ (dues : Dues). AreRuledBut graph records cone plan two.seen.items dues) (sym {A = Dues} c.flag_again.ensures.dues)
+    (dues_stay graph records cone plan one.seen.items two.seen.items c.flag_again.ensures.looked.stays one.sums.answers.dues
+    (again_kept g.S.Texts.tells graph records cone plan (g.S.Texts.world c.args.site.now) (g.S.Texts.world c.loop-place.site) one.seen.items one.sums.answers.dues c.loop-place.invariant.again))
+
+-- ---- one more after another
 
 pub loop-place-init : goal.loop-place-init
 loop-place-init g c =
@@ -82,3 +155,6 @@ returns-clause-kept g c =
 pub returns-clause-ruled : goal.returns-clause-ruled
 returns-clause-ruled g c =
     again_end g.S.Texts.tells c.args.graph.now c.args.records.now c.args.cone.now c.args.plan.now (g.S.Texts.world c.args.site.now) (g.S.Texts.world c.loop-place.site) c.loop-place.self.seen.items c.loop-place.self.sums.answers.dues c.loop-place.invariant.again c.in_default.ensures
+
+pub returns-clause-known : goal.returns-clause-known
+returns-clause-known g c = c.loop-place.invariant.known
