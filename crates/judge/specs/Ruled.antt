@@ -150,6 +150,6 @@ FindsFlag tells world old new graph records plan after e result =
     IfOk result (λ is. IsFlagFound tells graph records plan (world old) (world new) after.seen.items after.sums.answers.dues.flags.items e is)
 
 -- and so is each flag that is kept
-abbrev pub FindsRuledAgain : {S E : Type 0} → Bool → (S → World) → S → S → Graph → Records → Cone → Plan → Looks → Result (Unit {0}) E → Type 0
-FindsRuledAgain tells world old new graph records cone plan after result =
+abbrev pub FindsAgain : {S E : Type 0} → Bool → (S → World) → S → S → Graph → Records → Cone → Plan → Looks → Result (Unit {0}) E → Type 0
+FindsAgain tells world old new graph records cone plan after result =
     OnOk result (AreRuledFound tells graph records plan (world old) (world new) after.seen.items after.sums.answers.dues.flags.items cone.order.items)

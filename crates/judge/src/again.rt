@@ -6,7 +6,7 @@ ghost use Rattle.plan.specs.Flags.{AreNone};
 ghost use Rattle.judge.specs.Answers.{KnowsRight};
 ghost use Rattle.judge.specs.KeptDues.{AreRuledBut, AskForNone};
 ghost use Rattle.judge.specs.Looking.{HasLookedAt};
-ghost use Rattle.judge.specs.Ruled.{FindsFlag, FindsRuledAgain};
+ghost use Rattle.judge.specs.Ruled.{FindsFlag, FindsAgain};
 ghost use Rattle.judge.specs.Summed.{AreSums};
 
 use crate::due::judged_due;
@@ -42,7 +42,7 @@ impl Looks {
         ensures known { KnowsRight graph.now records.now self.new }
         ensures kept { AreRuledBut graph.now records.now cone.now plan.now self.new.seen.items self.new.sums.answers.dues }
         ensures none { OnOk result (AreNone self.new.sums.answers.dues.todo) }
-        ensures ruled { FindsRuledAgain S.tells S.world site.old site.new graph.now records.now cone.now plan.now self.new result }
+        ensures ruled { FindsAgain S.tells S.world site.old site.new graph.now records.now cone.now plan.now self.new result }
     {
         looks_follow();
         lists_stand(graph);
