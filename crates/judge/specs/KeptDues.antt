@@ -9,10 +9,11 @@ use Rattle.graph.specs.Links.{links_of, needs_at, users_at}
 use Rattle.graph.specs.Places.{place_in}
 use Rattle.graph.specs.Told.{declared_by}
 use Rattle.plan.specs.declared.plan.Plan.{Plan}
-use Rattle.plan.specs.Flags.{has}
+use Rattle.plan.specs.Flags.{has, AreNone}
 use Rattle.records.specs.declared.records.Records.{Records}
 use Rattle.judge.specs.declared.dues.Dues.{Dues}
 use Rattle.judge.specs.declared.looks.Look.{Look}
+use Rattle.judge.specs.declared.looks.Looks.{Looks}
 use Rattle.judge.specs.Answers.{HasGrownBy, StandBoth, AreKnownStill, TellSame}
 use Rattle.judge.specs.Seen.{StaysKnown}
 use Rattle.judge.specs.UnderWay.{judged_due}
@@ -114,6 +115,31 @@ pub record AreRuledBut (graph : Graph) (records : Records) (cone : Cone) (plan :
 abbrev pub AskForNone : Graph → Cone → Plan → Dues → Type 0
 AskForNone graph cone plan dues =
     (k : ℕ) → k < length cone.order.items → has dues.todo k ≡ false → IsFoundAnew graph plan dues.flags.items (edge_of_place cone k) → AsksForNone graph (edge_of_place cone k)
+
+-- the site is asked for the depfile of no edge of the cone
+abbrev pub AsksNowhere : Graph → Cone → Type 0
+AsksNowhere graph cone = (k : ℕ) → k < length cone.order.items → AsksForNone graph (edge_of_place cone k)
+
+-- flags that are kept are right but for those that are noted, and no depfile is asked for
+pub record AreKeptRight (graph : Graph) (records : Records) (cone : Cone) (plan : Plan) (seen : List Look) (dues : Dues) : Type 0 where
+  pub but : AreRuledBut graph records cone plan seen dues
+  pub asks : AsksNowhere graph cone
+
+-- so it is of what looks keep, if they keep any
+abbrev pub KeepsDues : Graph → Records → Cone → Plan → Looks → Type 0
+KeepsDues graph records cone plan looks = looks.sums.answers.dues.known ≡ true → AreKeptRight graph records cone plan looks.seen.items looks.sums.answers.dues
+
+-- the cone is one of makers first, and its marks say which edges are listed
+pub record HasMakersFirst (graph : Graph) (cone : Cone) : Type 0 where
+  pub sized : vec_len cone.marks ≡ length graph.manifest.lines
+  pub marks : AreMarksOf cone
+  pub ordered : ComeAfterMakers (links_of graph) cone.order.items
+
+-- just these flags are kept, and none of them is to be found again; or none is kept
+pub record BeginsWith (places : ℕ) (due : List Bool) (new : Dues) : Type 0 where
+  pub flags : new.known ≡ true → new.flags.items ≡ due
+  pub room : new.known ≡ true → places ≤ length new.todo
+  pub none : new.known ≡ true → AreNone new.todo
 
 -- ---- a law
 

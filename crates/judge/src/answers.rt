@@ -97,16 +97,19 @@ impl Answers {
         }
     }
 
-    /// Forgets all: what was found of a command may be of a path that another one has made since then. It takes one step.
+    /// Forgets all, flags too: what was found of a command may be of a path that another one has made since then. It takes two steps.
     pub fn forget_all(&mut self)
-        ensures { KnowsNone self.new }
+        ensures none { KnowsNone self.new }
+        ensures dues { self.new.dues.known ≡ false }
     {
         self.known.clear();
+        self.dues.forget();
     }
 
     /// Forgets what was found of the edges whose dyndep file was loaded: they may read and make more.
     pub fn forget(&mut self, edges: &[LoadedEdge])
-        ensures { KnowsOthers (numbers_in edges.now) self.old self.new }
+        ensures others { KnowsOthers (numbers_in edges.now) self.old self.new }
+        ensures dues { self.new.dues ≡ self.old.dues }
     {
         for loaded in edges {
             self.forget_one(loaded.edge);
@@ -115,7 +118,8 @@ impl Answers {
 
     /// Forgets what was found of the edge.
     fn forget_one(&mut self, edge: EdgeId)
-        ensures { KnowsOthers (edge ∷ []) self.old self.new }
+        ensures others { KnowsOthers (edge ∷ []) self.old self.new }
+        ensures dues { self.new.dues ≡ self.old.dues }
     {
         let place = edge.index();
         if place < self.known.len() {

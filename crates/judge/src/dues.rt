@@ -4,7 +4,7 @@ ghost use Rattle.std.specs.Prelude.{◌≡◌, ◌∷◌, [], ◌<◌, ◌≤◌
 ghost use Rattle.model.specs.Graph.{has_number};
 ghost use Rattle.graph.specs.Links.{links_of};
 ghost use Rattle.judge.specs.Dues.{due_at};
-ghost use Rattle.judge.specs.KeptDues.{AreMarksOf, NotesEdges, NotesUsers, NotesFound, place_of};
+ghost use Rattle.judge.specs.KeptDues.{AreMarksOf, BeginsWith, NotesEdges, NotesUsers, NotesFound, place_of};
 
 use graph::{Cone, Graph, lists_stand};
 use paths::EdgeId;
@@ -35,6 +35,27 @@ impl Dues {
             flags: Vec::new(alloc),
             todo,
         })
+    }
+
+    /// These flags are kept from now on, of a cone of so many edges. Where memory is refused, none is.
+    pub(crate) fn begin(&mut self, alloc: Global, places: usize, due: &[bool])
+        ensures { BeginsWith places due.now self.new }
+    {
+        self.known = false;
+        if let Ok(todo) = Lowest::new(alloc, places) {
+            if let Ok(flags) = due.to_vec(alloc) {
+                self.known = true;
+                self.flags = flags;
+                self.todo = todo;
+            }
+        }
+    }
+
+    /// Nothing is known any more.
+    pub fn forget(&mut self)
+        ensures { self.new.known ≡ false }
+    {
+        self.known = false;
     }
 
     /// It is to be found again whether the edge is due, if it is in the cone.

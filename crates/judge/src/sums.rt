@@ -70,6 +70,7 @@ impl Sums {
     pub fn forget_made(&mut self)
         ensures lasting { LeavesLasting self.old self.new }
         ensures answers { KnowsNone self.new.answers }
+        ensures dues { self.new.answers.dues.known ≡ false }
     {
         let room = self.by_edge.capacity();
         while let Some(edge) = self.passing.pop() {
