@@ -21,4 +21,13 @@ pub mod KeptAnswers
 pub mod LoadedAnswers
 pub mod FoundDues
 pub mod Lacking
+pub mod RuledAliases
+pub mod RuledStays
+pub mod RuledMore
+pub mod RuledAgain
+pub mod NotedPlaces
+pub mod KeptFlags
+pub mod AfterMakers
+pub mod RuledDues
+pub mod AskedAny
 pub mod Finding

@@ -5,19 +5,63 @@ ghost use Rattle.model.specs.Calls.{HasCause};
 ghost use Rattle.judge.specs.Answers.{KnowsRight};
 ghost use Rattle.judge.specs.Looking.{HasLookedAt};
 ghost use Rattle.judge.specs.UnderWay.{was_due, judged_due};
-ghost use Rattle.judge.specs.Dues.{AreListed, FindsDue, FindsClean, FindsDueEdges, FindsRest};
+ghost use Rattle.judge.specs.Dues.{AreListed, FindsClean, FindsDueEdges, FindsRest};
+ghost use Rattle.judge.specs.KeptDues.{AsksForNone, AsksNowhere, HasMakersFirst, KeepsDues};
+ghost use Rattle.judge.specs.Ruled.{FindsEdgeRuled, FindsRuled};
 ghost use Rattle.judge.specs.Summed.{AreSums};
 
 use crate::laws::looks_follow;
 use crate::looks::Looks;
-use graph::{Cone, Graph, lists_stand};
-use model::SiteFault;
-use paths::EdgeId;
+use graph::{Cone, Graph, lists_stand, numbers_stand};
+use model::{Deps, SiteFault};
+use paths::{Action, EdgeId};
 use plan::{Plan, Standing};
 use records::Records;
 use site::Site;
 
 impl Looks {
+    /// For each edge, whether it is in the cone and due. Where flags are kept, it is found again where something has changed, and else
+    /// anew of all; then flags are kept from now on where dyndep files are still to be loaded and no edge of the cone asks for a depfile.
+    pub(crate) fn flags<S: Site>(
+        &mut self,
+        site: &mut S,
+        graph: &Graph,
+        cone: &Cone,
+        plan: &Plan,
+        records: &Records,
+    ) -> Result<Vec<bool>, SiteFault>
+        requires running { (S.world site.old).stopped ≡ false }
+        requires fits { length self.old.seen.items ≡ length graph.now.manifest.paths }
+        requires order { All (λ e. e < length graph.now.manifest.lines) cone.now.order.items }
+        requires plan { vec_len plan.now.standings ≡ length graph.now.manifest.lines }
+        requires known { KnowsRight graph.now records.now self.old }
+        requires placed { HasMakersFirst graph.now cone.now }
+        requires kept { KeepsDues graph.now records.now cone.now plan.now self.old }
+        ensures looked { HasLookedAt S.tells S.world site.old site.new graph.now self.old self.new }
+        ensures cause { HasCause (S.world site.old) (S.world site.new) result }
+        ensures known { KnowsRight graph.now records.now self.new }
+        ensures kept { KeepsDues graph.now records.now cone.now plan.now self.new }
+        ensures fits { IfOk result (λ due. length due.items ≡ length graph.now.manifest.lines) }
+        ensures listed { IfOk result (λ due. AreListed cone.now.order.items due.items) }
+        ensures due { FindsDueEdges S.tells S.world site.old site.new graph.now records.now cone.now plan.now self.old result }
+        ensures clean { FindsRest S.tells S.world site.old site.new graph.now records.now cone.now plan.now self.old result }
+    {
+        looks_follow();
+        lists_stand(graph);
+        if self.sums.answers.dues.known {
+            self.due_again(site, graph, cone, plan, records)?;
+            let due = self.sums.answers.dues.flags.as_slice();
+            let copied = due.to_vec(self.sums.alloc())?;
+            return Ok(copied);
+        }
+        let due = self.due_edges(site, graph, cone, plan, records)?;
+        if edges_to_keep(graph, plan) > 0 && !asks_somewhere(graph, cone) {
+            let alloc = self.sums.alloc();
+            self.sums.answers.dues.begin(alloc, cone.order.len(), &due);
+        }
+        Ok(due)
+    }
+
     /// For each edge, whether it is in the cone and due: commands by how they were judged, and where they were not by their records
     /// and files, aliases by the paths that they name, and both by the edges that make what they read. What is found of commands is kept
     /// where dyndep files are still to be loaded.
@@ -39,6 +83,7 @@ impl Looks {
         ensures known { KnowsRight graph.now records.now self.new }
         ensures fits { IfOk result (λ due. length due.items ≡ length graph.now.manifest.lines) }
         ensures listed { IfOk result (λ due. AreListed cone.now.order.items due.items) }
+        ensures ruled { FindsRuled S.tells S.world site.old site.new graph.now records.now cone.now plan.now self.new result }
         ensures due { FindsDueEdges S.tells S.world site.old site.new graph.now records.now cone.now plan.now self.old result }
         ensures clean { FindsRest S.tells S.world site.old site.new graph.now records.now cone.now plan.now self.old result }
     {
@@ -60,7 +105,7 @@ impl Looks {
     }
 
     /// Whether the edge, which was not judged, is due, where it is known which edges before it are.
-    fn is_due<S: Site>(
+    pub(crate) fn is_due<S: Site>(
         &mut self,
         site: &mut S,
         graph: &Graph,
@@ -78,7 +123,8 @@ impl Looks {
         ensures cause { HasCause (S.world site.old) (S.world site.new) result }
         ensures summed { AreSums graph.now [] self.new.seen.items self.new.sums }
         ensures known { KnowsRight graph.now records.now self.new }
-        ensures due { FindsDue S.tells S.world site.old site.new graph.now records.now self.old due.now edge result }
+        ensures dues { self.new.sums.answers.dues ≡ self.old.sums.answers.dues }
+        ensures ruled { FindsEdgeRuled S.tells S.world site.old site.new graph.now records.now self.new due.now edge result }
         ensures clean { FindsClean S.tells S.world site.old site.new graph.now records.now self.old edge result }
     {
         lists_stand(graph);
@@ -86,6 +132,33 @@ impl Looks {
             return self.is_alias_due(site, graph, due, edge);
         }
         self.is_command_due(site, graph, records, due, edge)
+    }
+}
+
+/// Whether the site is asked for the depfile of one of the edges of the cone, which its command is to leave.
+fn asks_somewhere(graph: &Graph, cone: &Cone) -> bool
+    requires { All (λ e. e < length graph.now.manifest.lines) cone.now.order.items }
+    ensures { result ≡ false → AsksNowhere graph.now cone.now }
+{
+    for edge in cone.order.as_slice() {
+        if asks_for_depfile(graph, *edge) {
+            return true;
+        }
+    }
+    false
+}
+
+/// Whether it is for that of this edge (manual: "Depfile").
+fn asks_for_depfile(graph: &Graph, edge: EdgeId) -> bool
+    requires { edge < length graph.now.manifest.lines }
+    ensures { result ≡ false → AsksForNone graph.now edge }
+{
+    numbers_stand(graph);
+    match graph.manifest.action(edge) {
+        Action::Alias => false,
+        Action::Command(command) => {
+            command.deps == Deps::Unset && !command.act.depfile.as_str().is_empty()
+        }
     }
 }
 
@@ -99,7 +172,7 @@ fn edges_to_keep(graph: &Graph, plan: &Plan) -> usize {
 }
 
 /// Whether the edge was judged out of date; nothing of a phony edge, and where it was not judged.
-fn judged_due(graph: &Graph, plan: &Plan, edge: EdgeId) -> Option<bool>
+pub(crate) fn judged_due(graph: &Graph, plan: &Plan, edge: EdgeId) -> Option<bool>
     requires within { edge < length graph.now.manifest.lines }
     requires plan { vec_len plan.now.standings ≡ length graph.now.manifest.lines }
     ensures { result ≡ judged_due graph.now plan.now edge }

@@ -3,6 +3,7 @@
 ghost use Rattle.std.specs.Prelude.{◌≡◌, ◌<◌, true, false, length, vec_len, All, IfOk, IfSome};
 ghost use Rattle.model.specs.Calls.{HasCause};
 ghost use Rattle.judge.specs.Answers.{KnowsRight};
+ghost use Rattle.judge.specs.KeptDues.{HasMakersFirst, KeepsDues};
 ghost use Rattle.judge.specs.Looking.{HasLookedAt};
 ghost use Rattle.judge.specs.Dues.{due_at};
 ghost use Rattle.judge.specs.Lacks.{lack_in, IsLackOf, IsSourceOf, IsSourceFor, IsSourceAt, IsAskedLack, NamesDue};
@@ -46,8 +47,9 @@ impl Looks {
     /// and it takes time for its regular and recorded inputs alone; any other command that was not judged is judged by `reason`,
     /// which walks what it reads through phony edges: the sums of before are forgotten, and these are as if nothing was made anew. Where
     /// dyndep files are still to be loaded what is found of commands is kept, as far as there is memory for it, and the next call finds
-    /// it again of none but those of which it was forgotten; their depfiles it asks for again. Memory is taken for one flag for each
-    /// edge of the graph, and for what `reason` takes.
+    /// it again of none but those of which it was forgotten; their depfiles it asks for again. Where no edge of the cone asks for a
+    /// depfile, flags are kept as well, and the next call finds again those alone of which that is noted. Memory is taken for two flags
+    /// for each edge of the graph, for what is noted, and for what `reason` takes.
     pub fn sources<S: Site>(
         &mut self,
         site: &mut S,
@@ -62,9 +64,12 @@ impl Looks {
         requires targets { All (λ p. p < length graph.now.manifest.paths) cone.now.targets.items }
         requires plan { vec_len plan.now.standings ≡ length graph.now.manifest.lines }
         requires known { KnowsRight graph.now records.now self.old }
+        requires placed { HasMakersFirst graph.now cone.now }
+        requires kept { KeepsDues graph.now records.now cone.now plan.now self.old }
         ensures looked { HasLookedAt S.tells S.world site.old site.new graph.now self.old self.new }
         ensures cause { HasCause (S.world site.old) (S.world site.new) result }
         ensures known { KnowsRight graph.now records.now self.new }
+        ensures kept { KeepsDues graph.now records.now cone.now plan.now self.new }
         ensures found { FindsLack S.tells S.world site.old site.new graph.now records.now cone.now plan.now self.old result }
         ensures due { FindsFlags S.tells S.world site.old site.new graph.now records.now cone.now plan.now self.old result }
         ensures within { IfOk result (λ found. IfSome (lack_in found) (IsLackOf graph.now)) }
@@ -79,7 +84,7 @@ impl Looks {
                 needed_by: None,
             })),
             None => {
-                let due = self.due_edges(site, graph, cone, plan, records)?;
+                let due = self.flags(site, graph, cone, plan, records)?;
                 match self.lack_of_due(site, graph, &due)? {
                     Some(lack) => Ok(Found::Missing(lack)),
                     None => Ok(Found::Present(due)),

@@ -12,19 +12,19 @@ use Rattle.judge.proofs.looks.Looks.sources.Goals as goal
 
 pub returns-in_err-due-in-None-clause-looked : goal.returns-in_err-due-in-None-clause-looked
 returns-in_err-due-in-None-clause-looked g c =
-    looked_then c.looks_follow.ensures.follow g.S.Texts.tells c.args.graph.now (g.S.Texts.world c.args.site.now) (g.S.Texts.world c.first_missing.new.site) (g.S.Texts.world c.due_edges.new.site) c.args.self.now c.first_missing.new.self c.due_edges.new.self c.first_missing.ensures.looked c.due_edges.ensures.looked
+    looked_then c.looks_follow.ensures.follow g.S.Texts.tells c.args.graph.now (g.S.Texts.world c.args.site.now) (g.S.Texts.world c.first_missing.new.site) (g.S.Texts.world c.flags.new.site) c.args.self.now c.first_missing.new.self c.flags.new.self c.first_missing.ensures.looked c.flags.ensures.looked
 
 pub returns-in_err-lack-in-None-clause-looked : goal.returns-in_err-lack-in-None-clause-looked
 returns-in_err-lack-in-None-clause-looked g c =
-    looked_then c.looks_follow.ensures.follow g.S.Texts.tells c.args.graph.now (g.S.Texts.world c.args.site.now) (g.S.Texts.world c.due_edges.new.site) (g.S.Texts.world c.lack_of_due.new.site) c.args.self.now c.due_edges.new.self c.lack_of_due.new.self (looked_then c.looks_follow.ensures.follow g.S.Texts.tells c.args.graph.now (g.S.Texts.world c.args.site.now) (g.S.Texts.world c.first_missing.new.site) (g.S.Texts.world c.due_edges.new.site) c.args.self.now c.first_missing.new.self c.due_edges.new.self c.first_missing.ensures.looked c.due_edges.ensures.looked) c.lack_of_due.ensures.looked
+    looked_then c.looks_follow.ensures.follow g.S.Texts.tells c.args.graph.now (g.S.Texts.world c.args.site.now) (g.S.Texts.world c.flags.new.site) (g.S.Texts.world c.lack_of_due.new.site) c.args.self.now c.flags.new.self c.lack_of_due.new.self (looked_then c.looks_follow.ensures.follow g.S.Texts.tells c.args.graph.now (g.S.Texts.world c.args.site.now) (g.S.Texts.world c.first_missing.new.site) (g.S.Texts.world c.flags.new.site) c.args.self.now c.first_missing.new.self c.flags.new.self c.first_missing.ensures.looked c.flags.ensures.looked) c.lack_of_due.ensures.looked
 
 pub returns-in-Some-2-clause-looked : goal.returns-in-Some-2-clause-looked
 returns-in-Some-2-clause-looked g c =
-    looked_then c.looks_follow.ensures.follow g.S.Texts.tells c.args.graph.now (g.S.Texts.world c.args.site.now) (g.S.Texts.world c.due_edges.new.site) (g.S.Texts.world c.lack_of_due.new.site) c.args.self.now c.due_edges.new.self c.lack_of_due.new.self (looked_then c.looks_follow.ensures.follow g.S.Texts.tells c.args.graph.now (g.S.Texts.world c.args.site.now) (g.S.Texts.world c.first_missing.new.site) (g.S.Texts.world c.due_edges.new.site) c.args.self.now c.first_missing.new.self c.due_edges.new.self c.first_missing.ensures.looked c.due_edges.ensures.looked) c.lack_of_due.ensures.looked
+    looked_then c.looks_follow.ensures.follow g.S.Texts.tells c.args.graph.now (g.S.Texts.world c.args.site.now) (g.S.Texts.world c.flags.new.site) (g.S.Texts.world c.lack_of_due.new.site) c.args.self.now c.flags.new.self c.lack_of_due.new.self (looked_then c.looks_follow.ensures.follow g.S.Texts.tells c.args.graph.now (g.S.Texts.world c.args.site.now) (g.S.Texts.world c.first_missing.new.site) (g.S.Texts.world c.flags.new.site) c.args.self.now c.first_missing.new.self c.flags.new.self c.first_missing.ensures.looked c.flags.ensures.looked) c.lack_of_due.ensures.looked
 
 pub returns-in-None-2-clause-looked : goal.returns-in-None-2-clause-looked
 returns-in-None-2-clause-looked g c =
-    looked_then c.looks_follow.ensures.follow g.S.Texts.tells c.args.graph.now (g.S.Texts.world c.args.site.now) (g.S.Texts.world c.due_edges.new.site) (g.S.Texts.world c.lack_of_due.new.site) c.args.self.now c.due_edges.new.self c.lack_of_due.new.self (looked_then c.looks_follow.ensures.follow g.S.Texts.tells c.args.graph.now (g.S.Texts.world c.args.site.now) (g.S.Texts.world c.first_missing.new.site) (g.S.Texts.world c.due_edges.new.site) c.args.self.now c.first_missing.new.self c.due_edges.new.self c.first_missing.ensures.looked c.due_edges.ensures.looked) c.lack_of_due.ensures.looked
+    looked_then c.looks_follow.ensures.follow g.S.Texts.tells c.args.graph.now (g.S.Texts.world c.args.site.now) (g.S.Texts.world c.flags.new.site) (g.S.Texts.world c.lack_of_due.new.site) c.args.self.now c.flags.new.self c.lack_of_due.new.self (looked_then c.looks_follow.ensures.follow g.S.Texts.tells c.args.graph.now (g.S.Texts.world c.args.site.now) (g.S.Texts.world c.first_missing.new.site) (g.S.Texts.world c.flags.new.site) c.args.self.now c.first_missing.new.self c.flags.new.self c.first_missing.ensures.looked c.flags.ensures.looked) c.lack_of_due.ensures.looked
 
 pub returns-in-Some-clause-found : goal.returns-in-Some-clause-found
 returns-in-Some-clause-found g c store targets before way =
@@ -35,7 +35,7 @@ returns-in-Some-clause-found g c store targets before way =
 pub returns-in-Some-2-clause-found : goal.returns-in-Some-2-clause-found
 returns-in-Some-2-clause-found g c store targets before way =
     let graph = c.args.graph.now in
-    all_found c.looks_follow.ensures.follow c.looks_follow.ensures.stay g.S.Texts.tells graph c.lists_stand.ensures c.args.records.now c.args.cone.now c.args.plan.now store targets before way c.requires.targets (g.S.Texts.world c.args.site.now) (g.S.Texts.world c.first_missing.new.site) c.args.self.now (g.S.Texts.world c.due_edges.new.site) (g.S.Texts.world c.lack_of_due.new.site) c.first_missing.new.self c.due_edges.new.self c.lack_of_due.new.self c.first_missing.ensures.looked c.due_edges.ensures.looked c.lack_of_due.ensures.looked c.in_ok-due-in-None.due.items (c.in_ok-due-in-None.ensures.due store targets before way)
+    all_found c.looks_follow.ensures.follow c.looks_follow.ensures.stay g.S.Texts.tells graph c.lists_stand.ensures c.args.records.now c.args.cone.now c.args.plan.now store targets before way c.requires.targets (g.S.Texts.world c.args.site.now) (g.S.Texts.world c.first_missing.new.site) c.args.self.now (g.S.Texts.world c.flags.new.site) (g.S.Texts.world c.lack_of_due.new.site) c.first_missing.new.self c.flags.new.self c.lack_of_due.new.self c.first_missing.ensures.looked c.flags.ensures.looked c.lack_of_due.ensures.looked c.in_ok-due-in-None.due.items (c.in_ok-due-in-None.ensures.due store targets before way)
     (λ told set kept seen files same fit. subst (λ (l : List ℕ). IsFirstIn graph l files None) c.as_slice-targets.ensures.value (subst (IsFirstIn graph c.as_slice-targets.result.now files) c.in-None.is (c.in_ok-path.ensures.first told set kept seen files same (subst (AreSourcesIn set graph) (sym {A = List ℕ} c.as_slice-targets.ensures.value) fit)))) (Some c.in-Some-2.lack)
     (λ told set kept seen files same fit.
     subst (λ (l : List Bool). IsFoundOfDue graph l files (Some c.in-Some-2.lack)) c.deref.ensures.value (subst (IsFoundOfDue graph c.deref.result.now files) c.in-Some-2.is (c.in_ok-lack-in-None.ensures.found told set kept seen files same fit)))
@@ -43,7 +43,7 @@ returns-in-Some-2-clause-found g c store targets before way =
 pub returns-in-None-2-clause-found : goal.returns-in-None-2-clause-found
 returns-in-None-2-clause-found g c store targets before way =
     let graph = c.args.graph.now in
-    all_found c.looks_follow.ensures.follow c.looks_follow.ensures.stay g.S.Texts.tells graph c.lists_stand.ensures c.args.records.now c.args.cone.now c.args.plan.now store targets before way c.requires.targets (g.S.Texts.world c.args.site.now) (g.S.Texts.world c.first_missing.new.site) c.args.self.now (g.S.Texts.world c.due_edges.new.site) (g.S.Texts.world c.lack_of_due.new.site) c.first_missing.new.self c.due_edges.new.self c.lack_of_due.new.self c.first_missing.ensures.looked c.due_edges.ensures.looked c.lack_of_due.ensures.looked c.in_ok-due-in-None.due.items (c.in_ok-due-in-None.ensures.due store targets before way)
+    all_found c.looks_follow.ensures.follow c.looks_follow.ensures.stay g.S.Texts.tells graph c.lists_stand.ensures c.args.records.now c.args.cone.now c.args.plan.now store targets before way c.requires.targets (g.S.Texts.world c.args.site.now) (g.S.Texts.world c.first_missing.new.site) c.args.self.now (g.S.Texts.world c.flags.new.site) (g.S.Texts.world c.lack_of_due.new.site) c.first_missing.new.self c.flags.new.self c.lack_of_due.new.self c.first_missing.ensures.looked c.flags.ensures.looked c.lack_of_due.ensures.looked c.in_ok-due-in-None.due.items (c.in_ok-due-in-None.ensures.due store targets before way)
     (λ told set kept seen files same fit. subst (λ (l : List ℕ). IsFirstIn graph l files None) c.as_slice-targets.ensures.value (subst (IsFirstIn graph c.as_slice-targets.result.now files) c.in-None.is (c.in_ok-path.ensures.first told set kept seen files same (subst (AreSourcesIn set graph) (sym {A = List ℕ} c.as_slice-targets.ensures.value) fit)))) None
     (λ told set kept seen files same fit.
     subst (λ (l : List Bool). IsFoundOfDue graph l files None) c.deref.ensures.value (subst (IsFoundOfDue graph c.deref.result.now files) c.in-None-2.is (c.in_ok-lack-in-None.ensures.found told set kept seen files same fit)))
@@ -53,14 +53,14 @@ returns-in-None-2-clause-due g c = record {
   fits = c.in_ok-due-in-None.ensures.fits;
   due = λ store targets before way.
       let graph = c.args.graph.now in
-      due_told c.looks_follow.ensures.follow c.looks_follow.ensures.stay g.S.Texts.tells graph c.lists_stand.ensures c.args.records.now c.args.cone.now c.args.plan.now store targets before way c.requires.targets (g.S.Texts.world c.args.site.now) (g.S.Texts.world c.first_missing.new.site) c.args.self.now (g.S.Texts.world c.due_edges.new.site) (g.S.Texts.world c.lack_of_due.new.site) c.first_missing.new.self c.due_edges.new.self c.lack_of_due.new.self c.first_missing.ensures.looked c.due_edges.ensures.looked c.lack_of_due.ensures.looked c.in_ok-due-in-None.due.items (c.in_ok-due-in-None.ensures.due store targets before way);
+      due_told c.looks_follow.ensures.follow c.looks_follow.ensures.stay g.S.Texts.tells graph c.lists_stand.ensures c.args.records.now c.args.cone.now c.args.plan.now store targets before way c.requires.targets (g.S.Texts.world c.args.site.now) (g.S.Texts.world c.first_missing.new.site) c.args.self.now (g.S.Texts.world c.flags.new.site) (g.S.Texts.world c.lack_of_due.new.site) c.first_missing.new.self c.flags.new.self c.lack_of_due.new.self c.first_missing.ensures.looked c.flags.ensures.looked c.lack_of_due.ensures.looked c.in_ok-due-in-None.due.items (c.in_ok-due-in-None.ensures.due store targets before way);
   clean = λ e listed not_due unjudged.
       let tells = g.S.Texts.tells in
       let graph = c.args.graph.now in
       let old = g.S.Texts.world c.args.site.now in
-      let mid = g.S.Texts.world c.due_edges.new.site in
+      let mid = g.S.Texts.world c.flags.new.site in
       clean_first c.looks_follow.ensures.follow c.looks_follow.ensures.stay tells graph c.args.records.now e old mid (g.S.Texts.world c.lack_of_due.new.site) c.args.self.now c.lack_of_due.ensures.looked.looks
-      (clean_second c.looks_follow.ensures.follow c.looks_follow.ensures.stay tells graph c.args.records.now e old (g.S.Texts.world c.first_missing.new.site) mid c.args.self.now c.first_missing.new.self c.first_missing.ensures.looked c.due_edges.ensures.looked.looks
+      (clean_second c.looks_follow.ensures.follow c.looks_follow.ensures.stay tells graph c.args.records.now e old (g.S.Texts.world c.first_missing.new.site) mid c.args.self.now c.first_missing.new.self c.first_missing.ensures.looked c.flags.ensures.looked.looks
       (c.in_ok-due-in-None.ensures.clean e listed not_due unjudged));
 }
 
@@ -91,22 +91,22 @@ pub returns-in-Some-clause-known : goal.returns-in-Some-clause-known
 returns-in-Some-clause-known g c =
     known_kept c.args.graph.now c.args.records.now c.args.self.now c.first_missing.new.self c.first_missing.ensures.looked.stays (ap (λ (s : Sums). s.answers) c.first_missing.ensures.sums) c.requires.known
 
-pub due_edges-requires-clause-known : goal.due_edges-requires-clause-known
-due_edges-requires-clause-known g c =
+pub flags-requires-clause-known : goal.flags-requires-clause-known
+flags-requires-clause-known g c =
     known_kept c.args.graph.now c.args.records.now c.args.self.now c.first_missing.new.self c.first_missing.ensures.looked.stays (ap (λ (s : Sums). s.answers) c.first_missing.ensures.sums) c.requires.known
 
 pub returns-in_err-due-in-None-clause-known : goal.returns-in_err-due-in-None-clause-known
 returns-in_err-due-in-None-clause-known g c =
-    c.due_edges.ensures.known
+    c.flags.ensures.known
 
 pub returns-in_err-lack-in-None-clause-known : goal.returns-in_err-lack-in-None-clause-known
 returns-in_err-lack-in-None-clause-known g c =
-    known_kept c.args.graph.now c.args.records.now c.due_edges.new.self c.lack_of_due.new.self c.lack_of_due.ensures.looked.stays (ap (λ (s : Sums). s.answers) c.lack_of_due.ensures.sums) c.due_edges.ensures.known
+    known_kept c.args.graph.now c.args.records.now c.flags.new.self c.lack_of_due.new.self c.lack_of_due.ensures.looked.stays (ap (λ (s : Sums). s.answers) c.lack_of_due.ensures.sums) c.flags.ensures.known
 
 pub returns-in-Some-2-clause-known : goal.returns-in-Some-2-clause-known
 returns-in-Some-2-clause-known g c =
-    known_kept c.args.graph.now c.args.records.now c.due_edges.new.self c.lack_of_due.new.self c.lack_of_due.ensures.looked.stays (ap (λ (s : Sums). s.answers) c.lack_of_due.ensures.sums) c.due_edges.ensures.known
+    known_kept c.args.graph.now c.args.records.now c.flags.new.self c.lack_of_due.new.self c.lack_of_due.ensures.looked.stays (ap (λ (s : Sums). s.answers) c.lack_of_due.ensures.sums) c.flags.ensures.known
 
 pub returns-in-None-2-clause-known : goal.returns-in-None-2-clause-known
 returns-in-None-2-clause-known g c =
-    known_kept c.args.graph.now c.args.records.now c.due_edges.new.self c.lack_of_due.new.self c.lack_of_due.ensures.looked.stays (ap (λ (s : Sums). s.answers) c.lack_of_due.ensures.sums) c.due_edges.ensures.known
+    known_kept c.args.graph.now c.args.records.now c.flags.new.self c.lack_of_due.new.self c.lack_of_due.ensures.looked.stays (ap (λ (s : Sums). s.answers) c.lack_of_due.ensures.sums) c.flags.ensures.known

@@ -36,4 +36,4 @@ returns-clause-looks c = c.grow.ensures.front
 pub returns-clause-answers : goal.returns-clause-answers
 returns-clause-answers c =
     subst (λ (l : List LoadedEdge). KnowsOthers (numbers_in l) c.args.self.now.looks.sums.answers c.forget.new.self) c.deref.ensures.value
-    (subst (λ (s : Sums). KnowsOthers (numbers_in c.deref.result.now) s.answers c.forget.new.self) c.grow.ensures.sums c.forget.ensures)
+    (subst (λ (s : Sums). KnowsOthers (numbers_in c.deref.result.now) s.answers c.forget.new.self) c.grow.ensures.sums c.forget.ensures.others)
