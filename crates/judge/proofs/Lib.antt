@@ -26,7 +26,9 @@ pub mod RuledStays
 pub mod RuledMore
 pub mod RuledAgain
 pub mod NotedPlaces
+pub mod SourcesSeen
 pub mod KeptFlags
+pub mod KeptSources
 pub mod AfterMakers
 pub mod RuledDues
 pub mod AskedAny

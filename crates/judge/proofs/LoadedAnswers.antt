@@ -149,7 +149,7 @@ module _ (edges : List ℕ) (old new : Graph) (grown : HasGrownBy edges old new)
   grow = grown_by grown.file grown.additions few many grown.grown
 
   -- another edge is what it was
-  edge_same : (e : ℕ) → has_number edges e ≡ false → edge_at many (suc e) ≡ edge_at few (suc e)
+  pub edge_same : (e : ℕ) → has_number edges e ≡ false → edge_at many (suc e) ≡ edge_at few (suc e)
   edge_same e other = grown.grown.others (suc e) (grown.others e other)
 
   -- and so is a phony one
@@ -209,7 +209,7 @@ module _ (edges : List ℕ) (old new : Graph) (grown : HasGrownBy edges old new)
       ap (λ (t : List ℕ). t ∷ map (text_at new.manifest.paths) ns) (text_same n (within n (or_left (n == n) (has_number ns n) (eq-eqb n n refl))))
       ∙ ap (λ (l : List (List ℕ)). text_at old.manifest.paths n ∷ l) (texts_same ns (λ p h. within p (or_right (n == p) (has_number ns p) h)))
 
-  made_same : (e : ℕ) → has_number edges e ≡ false → (links_of new).outputs e ≡ (links_of old).outputs e
+  pub made_same : (e : ℕ) → has_number edges e ≡ false → (links_of new).outputs e ≡ (links_of old).outputs e
   made_same e other =
       same_numbers new.manifest.paths new.apart ((links_of new).outputs e) ((links_of old).outputs e) (both.after.outputs_within e) (λ p h. longer p (both.before.outputs_within e p h))
       (both.after.outputs_are e ∙ (ap outputs (edge_same e other) ∙ (sym (both.before.outputs_are e) ∙ sym (texts_same ((links_of old).outputs e) (both.before.outputs_within e)))))
@@ -373,7 +373,7 @@ module _ (edges : List ℕ) (old new : Graph) (grown : HasGrownBy edges old new)
   later_back m (Some d) is = ap (λ (k : ℕ). Some k) (same_job d m is)
 
   -- what made a path makes it still
-  maker_kept : (p m : ℕ) → p < length old.manifest.paths → (links_of old).maker p ≡ Some m → (links_of new).maker p ≡ Some m
+  pub maker_kept : (p m : ℕ) → p < length old.manifest.paths → (links_of old).maker p ≡ Some m → (links_of new).maker p ≡ Some m
   maker_kept p m lt is =
       later_back m ((links_of new).maker p) (sym (made_then p lt ((links_of new).maker p) refl) ∙ maker_still few many grow grown.once (text_at old.manifest.paths p) (suc m) (made_before p lt (Some m) is))
 
@@ -383,12 +383,12 @@ module _ (edges : List ℕ) (old new : Graph) (grown : HasGrownBy edges old new)
         same_numbers new.manifest.paths new.apart ((links_of new).regular e) ((links_of old).regular e) (both.after.regular_within e) (λ p h. longer p (both.before.regular_within e p h))
         (both.after.regular_are e ∙ (ap regular_inputs (edge_same e other) ∙ (sym (both.before.regular_are e) ∙ sym (texts_same ((links_of old).regular e) (both.before.regular_within e)))))
 
-    all_same : (links_of new).inputs e ≡ (links_of old).inputs e
+    pub all_same : (links_of new).inputs e ≡ (links_of old).inputs e
     all_same =
         same_numbers new.manifest.paths new.apart ((links_of new).inputs e) ((links_of old).inputs e) (both.after.inputs_within e) (λ p h. longer p (both.before.inputs_within e p h))
         (both.after.inputs_are e ∙ (ap inputs (edge_same e other) ∙ (sym (both.before.inputs_are e) ∙ sym (texts_same ((links_of old).inputs e) (both.before.inputs_within e)))))
 
-    phony_same : (links_of new).phony e ≡ (links_of old).phony e
+    pub phony_same : (links_of new).phony e ≡ (links_of old).phony e
     phony_same = both.after.phony_is e ∙ (grow.phony (suc e) ∙ sym (both.before.phony_is e))
 
     -- no source that it needs has got a maker

@@ -1,7 +1,8 @@
 -- Flags that are kept, of which some are found again, the lowest place first.
 use Rattle.std.proofs.Common.{◌≡◌, inl, inr, ℕ, zero, suc, ◌+◌, ◌<◌, ◌≤◌, ◌==◌, Bool, true, false, List, [], ◌∷◌, Some, cond, length, take, get_or, refl, sym, ◌∙◌, ap, subst, arith}
+use Rattle.std.proofs.Math.ListN.{set}
 use Rattle.std.proofs.lemmas.Bool.{false≢true, cases_Bool, cases_lt, eqb-true, or_cases, or_right}
-use Rattle.std.proofs.lemmas.List.{get_or_past}
+use Rattle.std.proofs.lemmas.List.{get_or_past, length-set, get_or-set_same, get_or-set_other}
 use Rattle.model.specs.World.{World}
 use Rattle.model.specs.Calls.{OnlyLooks}
 use Rattle.model.specs.Graph.{has_number}
@@ -71,6 +72,28 @@ leading_past (b ∷ bs) (suc n) lt none =
     let rest = leading_past bs n (omega (arith, lt)) (λ j low. none (suc j) (omega (arith, low))) in
     omega (arith, one, rest)
 
+-- the first of them is taken out
+pub removed_less : (flags : List Bool) (k : ℕ) → IsFirst flags k → k < length flags → left_from (set flags k false) < left_from flags
+removed_less flags k first lt =
+    let size = length-set flags k false in
+    let was = leading_low flags k first.is in
+    let now = leading_past (set flags k false) k (omega (arith, lt, size)) (λ j low. gone j low) in
+    let old = both_parts flags in
+    let new = both_parts (set flags k false) in
+    omega (arith, size, was, now, old, new, lt)
+  where
+    gone : (j : ℕ) → j ≤ k → has (set flags k false) j ≡ false
+    gone j low = elim (same_or_other k j) [
+      | inl here ↦ ap (λ (n : ℕ). has (set flags k false) n) here ∙ get_or-set_same flags k false false lt
+      | inr other ↦ get_or-set_other flags k j false false other ∙ first.lowest j (before other)
+    ]
+      where
+        before : (j ≡ k → ⊥) → j < k
+        before other = elim (cases_lt j k) [
+          | inl early ↦ early
+          | inr past ↦ let here : j ≡ k = omega (arith, low, past) in absurd (other here)
+        ]
+
 -- ---- places in an order
 
 take_has : (order : List ℕ) (j k : ℕ) → j < k → j < length order → has_number (take k order) (get_or order j 0) ≡ true
@@ -135,7 +158,7 @@ module _ (tells : Bool) (graph : Graph) (records : Records) (cone : Cone) (plan 
     flagged = but.flagged;
     each = λ k lt out.
         let was = but.each k lt out in
-        record { depfile = was.depfile; ruled = was.ruled; there = λ anew told keeps named unset. absurd (asks k lt out anew named unset) };
+        record { depfile = was.depfile; ruled = was.ruled; there = λ anew told keeps named unset. absurd (asks k lt out anew anew.command named unset) };
   }
 
   -- what is so then stays

@@ -45,7 +45,7 @@ absent_of None = refl
 absent_of (Some file) = refl
 
 module _ (graph : Graph) (set : List ℕ → Bool) (now files : List Moment) (seen : List Look) (are : AreSeenOf set graph.manifest.paths now seen) (alike : AreSameOf set now files) (due : List Bool) where
-  absent_same : (p : ℕ) → set (text_at graph.manifest.paths p) ≡ true → WasAsked seen p → is_absent_seen seen p ≡ is_absent graph.manifest.paths files p
+  pub absent_same : (p : ℕ) → set (text_at graph.manifest.paths p) ≡ true → WasAsked seen p → is_absent_seen seen p ≡ is_absent graph.manifest.paths files p
   absent_same p inside asked =
       ap (λ (look : Look). is_none (seen_stamp look)) (are p asked inside)
       ∙ (absent_of (file_at now (text_at graph.manifest.paths p)) ∙ ap (λ (file : Option File). is_none file) (sym (alike (text_at graph.manifest.paths p) inside)))

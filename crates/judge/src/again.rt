@@ -4,7 +4,7 @@ ghost use Rattle.std.specs.Prelude.{◌≡◌, ◌<◌, [], OnOk, length, vec_le
 ghost use Rattle.model.specs.Calls.{HasCause};
 ghost use Rattle.plan.specs.Flags.{AreNone};
 ghost use Rattle.judge.specs.Answers.{KnowsRight};
-ghost use Rattle.judge.specs.KeptDues.{AreRuledBut, AskForNone};
+ghost use Rattle.judge.specs.KeptDues.{AreRuledBut, AskForNone, LacksNoneBut};
 ghost use Rattle.judge.specs.Looking.{HasLookedAt};
 ghost use Rattle.judge.specs.Ruled.{FindsFlag, FindsAgain};
 ghost use Rattle.judge.specs.Summed.{AreSums};
@@ -37,10 +37,12 @@ impl Looks {
         requires known { KnowsRight graph.now records.now self.old }
         requires ruled { AreRuledBut graph.now records.now cone.now plan.now self.old.seen.items self.old.sums.answers.dues }
         requires asked { AskForNone graph.now cone.now plan.now self.old.sums.answers.dues }
+        requires lacks { LacksNoneBut graph.now cone.now self.old.seen.items self.old.sums.answers.dues }
         ensures looked { HasLookedAt S.tells S.world site.old site.new graph.now self.old self.new }
         ensures cause { HasCause (S.world site.old) (S.world site.new) result }
         ensures known { KnowsRight graph.now records.now self.new }
         ensures kept { AreRuledBut graph.now records.now cone.now plan.now self.new.seen.items self.new.sums.answers.dues }
+        ensures lacks { LacksNoneBut graph.now cone.now self.new.seen.items self.new.sums.answers.dues }
         ensures none { OnOk result (AreNone self.new.sums.answers.dues.todo) }
         ensures ruled { FindsAgain S.tells S.world site.old site.new graph.now records.now cone.now plan.now self.new result }
     {

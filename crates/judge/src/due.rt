@@ -6,62 +6,21 @@ ghost use Rattle.judge.specs.Answers.{KnowsRight};
 ghost use Rattle.judge.specs.Looking.{HasLookedAt};
 ghost use Rattle.judge.specs.UnderWay.{was_due, judged_due};
 ghost use Rattle.judge.specs.Dues.{AreListed, FindsClean, FindsDueEdges, FindsRest};
-ghost use Rattle.judge.specs.KeptDues.{AsksForNone, AsksNowhere, HasMakersFirst, KeepsDues};
+ghost use Rattle.judge.specs.KeptDues.{LeavesNone, AsksForNone, AsksNowhere, BeginsFlags, KeepsAnswers};
 ghost use Rattle.judge.specs.Ruled.{FindsEdgeRuled, FindsRuled};
 ghost use Rattle.judge.specs.Summed.{AreSums};
 
+use crate::judgement::command_of;
 use crate::laws::looks_follow;
 use crate::looks::Looks;
-use graph::{Cone, Graph, lists_stand, numbers_stand};
+use graph::{Cone, Graph, lists_stand};
 use model::{Deps, SiteFault};
-use paths::{Action, EdgeId};
+use paths::{Command, EdgeId};
 use plan::{Plan, Standing};
 use records::Records;
 use site::Site;
 
 impl Looks {
-    /// For each edge, whether it is in the cone and due. Where flags are kept, it is found again where something has changed, and else
-    /// anew of all; then flags are kept from now on where dyndep files are still to be loaded and no edge of the cone asks for a depfile.
-    pub(crate) fn flags<S: Site>(
-        &mut self,
-        site: &mut S,
-        graph: &Graph,
-        cone: &Cone,
-        plan: &Plan,
-        records: &Records,
-    ) -> Result<Vec<bool>, SiteFault>
-        requires running { (S.world site.old).stopped ≡ false }
-        requires fits { length self.old.seen.items ≡ length graph.now.manifest.paths }
-        requires order { All (λ e. e < length graph.now.manifest.lines) cone.now.order.items }
-        requires plan { vec_len plan.now.standings ≡ length graph.now.manifest.lines }
-        requires known { KnowsRight graph.now records.now self.old }
-        requires placed { HasMakersFirst graph.now cone.now }
-        requires kept { KeepsDues graph.now records.now cone.now plan.now self.old }
-        ensures looked { HasLookedAt S.tells S.world site.old site.new graph.now self.old self.new }
-        ensures cause { HasCause (S.world site.old) (S.world site.new) result }
-        ensures known { KnowsRight graph.now records.now self.new }
-        ensures kept { KeepsDues graph.now records.now cone.now plan.now self.new }
-        ensures fits { IfOk result (λ due. length due.items ≡ length graph.now.manifest.lines) }
-        ensures listed { IfOk result (λ due. AreListed cone.now.order.items due.items) }
-        ensures due { FindsDueEdges S.tells S.world site.old site.new graph.now records.now cone.now plan.now self.old result }
-        ensures clean { FindsRest S.tells S.world site.old site.new graph.now records.now cone.now plan.now self.old result }
-    {
-        looks_follow();
-        lists_stand(graph);
-        if self.sums.answers.dues.known {
-            self.due_again(site, graph, cone, plan, records)?;
-            let due = self.sums.answers.dues.flags.as_slice();
-            let copied = due.to_vec(self.sums.alloc())?;
-            return Ok(copied);
-        }
-        let due = self.due_edges(site, graph, cone, plan, records)?;
-        if edges_to_keep(graph, plan) > 0 && !asks_somewhere(graph, cone) {
-            let alloc = self.sums.alloc();
-            self.sums.answers.dues.begin(alloc, cone.order.len(), &due);
-        }
-        Ok(due)
-    }
-
     /// For each edge, whether it is in the cone and due: commands by how they were judged, and where they were not by their records
     /// and files, aliases by the paths that they name, and both by the edges that make what they read. What is found of commands is kept
     /// where dyndep files are still to be loaded.
@@ -81,6 +40,7 @@ impl Looks {
         ensures looked { HasLookedAt S.tells S.world site.old site.new graph.now self.old self.new }
         ensures cause { HasCause (S.world site.old) (S.world site.new) result }
         ensures known { KnowsRight graph.now records.now self.new }
+        ensures dues { self.new.sums.answers.dues ≡ self.old.sums.answers.dues }
         ensures fits { IfOk result (λ due. length due.items ≡ length graph.now.manifest.lines) }
         ensures listed { IfOk result (λ due. AreListed cone.now.order.items due.items) }
         ensures ruled { FindsRuled S.tells S.world site.old site.new graph.now records.now cone.now plan.now self.new result }
@@ -135,6 +95,23 @@ impl Looks {
     }
 }
 
+impl Looks {
+    /// These flags are kept from now on, where dyndep files are still to be loaded and no edge of the cone asks for a depfile.
+    pub(crate) fn keep(&mut self, graph: &Graph, cone: &Cone, plan: &Plan, due: &[bool])
+        requires order { All (λ e. e < length graph.now.manifest.lines) cone.now.order.items }
+        ensures seen { self.new.seen ≡ self.old.seen }
+        ensures answers { KeepsAnswers self.old.sums.answers self.new.sums.answers }
+        ensures kept { BeginsFlags graph.now cone.now due.now self.new.sums.answers.dues }
+    {
+        self.sums.answers.dues.forget();
+        if edges_to_keep(graph, plan) == 0 || asks_somewhere(graph, cone) {
+            return;
+        }
+        let alloc = self.sums.alloc();
+        self.sums.answers.dues.begin(alloc, cone.order.len(), due);
+    }
+}
+
 /// Whether the site is asked for the depfile of one of the edges of the cone, which its command is to leave.
 fn asks_somewhere(graph: &Graph, cone: &Cone) -> bool
     requires { All (λ e. e < length graph.now.manifest.lines) cone.now.order.items }
@@ -153,13 +130,21 @@ fn asks_for_depfile(graph: &Graph, edge: EdgeId) -> bool
     requires { edge < length graph.now.manifest.lines }
     ensures { result ≡ false → AsksForNone graph.now edge }
 {
-    numbers_stand(graph);
-    match graph.manifest.action(edge) {
-        Action::Alias => false,
-        Action::Command(command) => {
-            command.deps == Deps::Unset && !command.act.depfile.as_str().is_empty()
-        }
+    lists_stand(graph);
+    if graph.is_phony(edge) {
+        return false;
     }
+    leaves_depfile(command_of(graph, edge))
+}
+
+/// Whether the command leaves a depfile that stays.
+fn leaves_depfile(command: &Command) -> bool
+    ensures { result ≡ false → LeavesNone command.now.act.depfile command.now.deps }
+{
+    if command.deps != Deps::Unset || command.act.depfile.is_empty() {
+        return false;
+    }
+    true
 }
 
 /// Of how many edges it is kept what is found: of all, where dyndep files are still to be loaded: it is asked for again after each.

@@ -19,7 +19,7 @@ returns-then-has c =
     let mark : is_listed (mark_at cone.marks.items c.args.edge) ≡ true = search rules in
     let listed : has_number cone.order.items c.args.edge ≡ true = sym (c.requires.marks c.args.edge) ∙ mark in
     let stands = cone.placed c.args.edge listed in
-    notes_one cone c.args.edge listed old (record { known = old.known; flags = old.flags; todo = c.insert.new.self }) (omega (arith, stands.0, c.requires.room)) refl refl
+    notes_one cone c.args.edge listed old (record { known = old.known; flags = old.flags; todo = c.insert.new.self; fresh = old.fresh }) (omega (arith, stands.0, c.requires.room)) refl refl refl
     (c.insert.ensures ∙ ap (λ (n : ℕ). set old.todo n true) c.place_in.ensures)
 
 pub returns-else-has : goal.returns-else-has

@@ -6,13 +6,14 @@ use Rattle.judge.specs.declared.answers.Answers.{Answers}
 use Rattle.judge.specs.declared.dues.Dues.{Dues}
 use Rattle.judge.specs.declared.sums.Sums.{Sums}
 use Rattle.judge.specs.Answers.{AreAnswers}
-use Rattle.judge.specs.KeptDues.{edge_of_place, NotesFound, AreRuledBut}
+use Rattle.judge.specs.KeptDues.{edge_of_place, NotesFound, AreRuledBut, LacksNoneBut}
 use Rattle.judge.specs.Ruled.{IsFlagFound}
 use Rattle.judge.proofs.FilesStay.{looked_then}
 use Rattle.judge.proofs.KeptFlags.{dues_stay}
 use Rattle.judge.proofs.LooksStay.{looked_cleared}
 use Rattle.judge.proofs.NumbersAsTexts.{at_has}
 use Rattle.judge.proofs.RuledAgain.{IsAgainAt, room_within, again_start, again_kept, again_end, again_more, again_less}
+use Rattle.judge.proofs.SourcesSeen.{lacks_stay, lacks_found}
 use Rattle.judge.proofs.looks.Looks.due_again.Goals as goal
 
 -- ---- the edge of the lowest place
@@ -61,6 +62,18 @@ found-requires-clause-marks g c = c.loop-place.invariant.again.room.marks
 pub found-requires-clause-room : goal.found-requires-clause-room
 found-requires-clause-room g c = subst (λ (dues : Dues). length c.args.cone.now.order.items ≤ length dues.todo) (sym {A = Dues} c.flag_again.ensures.dues) c.loop-place.invariant.again.room.room
 
+pub found-requires-clause-asking : goal.found-requires-clause-asking
+found-requires-clause-asking g c =
+    let cone = c.args.cone.now in
+    let k = c.in-Some.place in
+    let room = c.loop-place.invariant.again.room in
+    let low : k < length cone.order.items = room.within k c.in-Some.ensures.is in
+    let at : c.index-edge.result.now ≡ edge_of_place cone k = c.index-edge.ensures ∙ get_or_default cone.order.items k c.index-edge.result.now 0 low in
+    let within = room_within c.args.graph.now cone c.loop-place.self.sums.answers.dues room c.index-edge.result.now (subst (λ (n : ℕ). has_number cone.order.items n ≡ true) (sym {A = ℕ} at) (at_has cone.order.items k 0 low)) in
+    let asking = c.loop-place.invariant.lacks.room.room in
+    let same = ap (λ (dues : Dues). length dues.fresh) c.flag_again.ensures.dues in
+    omega (arith, within, asking, same)
+
 -- ---- the site failed
 
 pub returns-in_err-is-clause-looked : goal.returns-in_err-is-clause-looked
@@ -83,6 +96,15 @@ returns-in_err-is-clause-kept g c =
     (dues_stay graph records cone plan one.seen.items two.seen.items c.flag_again.ensures.looked.stays one.sums.answers.dues
     (again_kept g.S.Texts.tells graph records cone plan (g.S.Texts.world c.args.site.now) (g.S.Texts.world c.loop-place.site) one.seen.items one.sums.answers.dues c.loop-place.invariant.again))
 
+pub returns-in_err-is-clause-lacks : goal.returns-in_err-is-clause-lacks
+returns-in_err-is-clause-lacks g c =
+    let graph = c.args.graph.now in
+    let cone = c.args.cone.now in
+    let one = c.loop-place.self in
+    let two = c.flag_again.new.self in
+    subst (λ (dues : Dues). LacksNoneBut graph cone two.seen.items dues) (sym {A = Dues} c.flag_again.ensures.dues)
+    (lacks_stay graph one.seen.items two.seen.items c.flag_again.ensures.looked.stays cone one.sums.answers.dues c.loop-place.invariant.lacks)
+
 -- ---- one more after another
 
 pub loop-place-init : goal.loop-place-init
@@ -98,6 +120,7 @@ loop-place-init g c =
       again =
           subst (λ (answers : Answers). IsAgainAt tells graph c.args.records.now c.args.cone.now c.args.plan.now now now c.args.self.now.seen.items answers.dues) (sym {A = Answers} c.clear.ensures.answers)
           (again_start tells graph c.args.records.now c.args.cone.now c.args.plan.now now c.args.self.now.seen.items c.args.self.now.sums.answers.dues c.requires.ruled c.requires.asked);
+      lacks = subst (λ (answers : Answers). LacksNoneBut graph c.args.cone.now c.args.self.now.seen.items answers.dues) (sym {A = Answers} c.clear.ensures.answers) c.requires.lacks;
     }
 
 pub loop-place-preserved : goal.loop-place-preserved
@@ -130,6 +153,10 @@ loop-place-preserved g c =
       known = c.flag_again.ensures.known;
       again = again_more c.looks_follow.ensures.follow c.looks_follow.ensures.stay tells graph c.lists_stand.ensures records cone plan a b d one two c.loop-place.invariant.looked.looks c.flag_again.ensures.looked
           one.sums.answers.dues c.found.new.self again k c.in-Some.ensures is notes flag;
+      lacks =
+          let listed = at_has cone.order.items k 0 low in
+          lacks_found graph cone two.seen.items one.sums.answers.dues c.found.new.self (edge_of_place cone k) listed (room_within graph cone one.sums.answers.dues again.room (edge_of_place cone k) listed) is notes again.flagged
+          (lacks_stay graph one.seen.items two.seen.items c.flag_again.ensures.looked.stays cone one.sums.answers.dues c.loop-place.invariant.lacks);
     }
 
 pub loop-place-smaller : goal.loop-place-smaller
@@ -158,3 +185,6 @@ returns-clause-ruled g c =
 
 pub returns-clause-known : goal.returns-clause-known
 returns-clause-known g c = c.loop-place.invariant.known
+
+pub returns-clause-lacks : goal.returns-clause-lacks
+returns-clause-lacks g c = c.loop-place.invariant.lacks

@@ -1,6 +1,7 @@
 use Rattle.std.proofs.Common.{[]}
 use Rattle.theory.specs.Seen.{Unrefused}
 use Rattle.judge.specs.Answers.{KnowsRight}
+use Rattle.judge.specs.KeptDues.{LacksNoneBut}
 use Rattle.judge.specs.Looking.{HasLooked}
 use Rattle.judge.specs.Summed.{AreSums}
 use Rattle.judge.proofs.RuledAgain.{IsAgainAt, left_from}
@@ -13,6 +14,7 @@ invariant-loop-place g l = record {
   summed : AreSums l.graph [] l.self.seen.items l.self.sums;
   known : KnowsRight l.graph l.records l.self;
   again : IsAgainAt g.S.Texts.tells l.graph l.records l.cone l.plan (g.S.Texts.world l.fn.site) (g.S.Texts.world l.site) l.self.seen.items l.self.sums.answers.dues;
+  lacks : LacksNoneBut l.graph l.cone l.self.seen.items l.self.sums.answers.dues;
 }
 
 abbrev pub decreases-loop-place : goal.decreases-loop-place

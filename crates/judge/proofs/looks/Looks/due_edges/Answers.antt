@@ -30,6 +30,7 @@ loop-edge-init g c =
       unrefused = unrefused_none (g.S.Texts.world c.args.site.now) c.requires.running;
       summed = c.clear.ensures.summed c.args.graph.now [] c.args.self.now.seen.items;
       known = λ e answer is. c.requires.known e answer (ap (λ (a : Answers). answer_at a e) (sym {A = Answers} c.clear.ensures.answers) ∙ (sym (c.make_room.ensures.same e) ∙ is));
+      dues = c.make_room.ensures.dues ∙ ap (λ (a : Answers). a.dues) c.clear.ensures.answers;
       fits = search rules;
       listed = subst (λ (l : List Bool). AreListed c.args.cone.now.order.items l) (sym none) (none_listed c.args.cone.now.order.items c.edges.result);
       ruled = λ after e listed. absurd (false≢true listed);
@@ -74,6 +75,7 @@ loop-edge-preserved-in-Some g c =
       unrefused = c.loop-edge.invariant.unrefused;
       summed = c.loop-edge.invariant.summed;
       known = c.loop-edge.invariant.known;
+      dues = c.loop-edge.invariant.dues;
       fits = length-set due c.index.result judged ∙ c.loop-edge.invariant.fits;
       listed = subst (λ (e : ℕ). AreListed c.args.cone.now.order.items (set due e judged)) (sym {A = ℕ} (c.index.ensures.place ∙ at))
           (listed_one_more c.args.cone.now.order.items due (get_or order place 0) judged
@@ -114,6 +116,7 @@ loop-edge-preserved g c =
       unrefused = unrefused_then (g.S.Texts.world c.args.site.now) (g.S.Texts.world c.loop-edge.site) (g.S.Texts.world c.is_due.new.site) c.loop-edge.invariant.unrefused (unrefused_call (g.S.Texts.world c.loop-edge.site) (g.S.Texts.world c.is_due.new.site) _ c.in_ok-due-2.ensures.cause);
       summed = c.is_due.ensures.summed;
       known = c.is_due.ensures.known;
+      dues = c.is_due.ensures.dues ∙ c.loop-edge.invariant.dues;
       fits = length-set due c.index-in-loop-edge.result c.in_ok-due-2.field-0 ∙ c.loop-edge.invariant.fits;
       listed = subst (λ (e : ℕ). AreListed c.args.cone.now.order.items (set due e c.in_ok-due-2.field-0)) (sym {A = ℕ} (c.index-in-loop-edge.ensures.place ∙ at))
           (listed_one_more c.args.cone.now.order.items due (get_or order place 0) c.in_ok-due-2.field-0
@@ -185,3 +188,10 @@ returns-clause-known g c = c.loop-edge.invariant.known
 
 pub returns-in_err-due-2-clause-known : goal.returns-in_err-due-2-clause-known
 returns-in_err-due-2-clause-known g c = c.is_due.ensures.known
+
+-- the flags that are kept are left alone
+pub returns-clause-dues : goal.returns-clause-dues
+returns-clause-dues g c = c.loop-edge.invariant.dues
+
+pub returns-in_err-due-2-clause-dues : goal.returns-in_err-due-2-clause-dues
+returns-in_err-due-2-clause-dues g c = c.is_due.ensures.dues ∙ c.loop-edge.invariant.dues

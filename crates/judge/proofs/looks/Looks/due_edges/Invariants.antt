@@ -14,6 +14,7 @@ invariant-loop-edge g l = record {
   unrefused : Unrefused (g.S.Texts.world l.fn.site) (g.S.Texts.world l.site);
   summed : AreSums l.graph [] l.self.seen.items l.self.sums;
   known : KnowsRight l.graph l.records l.self;
+  dues : l.self.sums.answers.dues ≡ l.fn.self.sums.answers.dues;
   fits : length l.due.items ≡ length l.graph.manifest.lines;
   listed : AreListed l.cone.order.items l.due.items;
   ruled : ComeAfterMakers (links_of l.graph) l.order → EachRuledFound g.S.Texts.tells l.graph l.records l.plan (g.S.Texts.world l.fn.site) (g.S.Texts.world l.site) l.self.seen.items l.due.items (take l.edge-index l.order);

@@ -38,7 +38,7 @@ pub returns-clause-dues : goal.returns-clause-dues
 returns-clause-dues g c =
     let was = c.args.self.now.sums.answers.dues in
     let is = c.is_due.new.self.sums.answers.dues in
-    ap (λ (v : Vec Bool Global). record { known = is.known; flags = v; todo = is.todo }) c.replace-flags.ensures.value ∙ ap (λ (dues : Dues). record { known = dues.known; flags = was.flags; todo = dues.todo }) c.is_due.ensures.dues
+    ap (λ (v : Vec Bool Global). record { known = is.known; flags = v; todo = is.todo; fresh = is.fresh }) c.replace-flags.ensures.value ∙ ap (λ (dues : Dues). record { known = dues.known; flags = was.flags; todo = dues.todo; fresh = dues.fresh }) c.is_due.ensures.dues
 
 pub returns-clause-ruled : goal.returns-clause-ruled
 returns-clause-ruled g c =
