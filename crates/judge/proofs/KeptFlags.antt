@@ -122,7 +122,7 @@ kept_judged graph records cone plan next e told seen old new notes was = record 
 }
 
 -- it was not due, and is clean
-dues_clean : (graph : Graph) (records : Records) (cone : Cone) (plan next : Plan) (e : ℕ) → TellsSameBut graph plan next e → judged_due graph next e ≡ Some false → (seen : List Look) (dues : Dues) → due_at dues.flags.items e ≡ false
+dues_clean : (graph : Graph) (records : Records) (cone : Cone) (plan next : Plan) (e : ℕ) → TellsSameBut graph plan next e → was_due (standing_at next.standings.items e) ≡ Some false → (seen : List Look) (dues : Dues) → due_at dues.flags.items e ≡ false
     → AreRuledBut graph records cone plan seen dues → AreRuledBut graph records cone next seen dues
 dues_clean graph records cone plan next e told clean seen dues flag but = record {
   room = but.room;
@@ -133,20 +133,32 @@ dues_clean graph records cone plan next e told clean seen dues flag but = record
       record { depfile = was.depfile; ruled = at_edge q was.depfile was.ruled };
 }
   where
-    here : (depfile : Bool) → IsRuled graph records next seen dues.flags.items depfile e
-    here depfile = record {
-      judged = λ was so. flag ∙ same_some false was (sym clean ∙ so);
-      alias = λ none phony. absurd (some_none false (sym clean ∙ none));
-      command = λ none plain. absurd (some_none false (sym clean ∙ none));
-    }
+    -- a phony edge is not judged
+    here : (depfile : Bool) → IsRuled graph records plan seen dues.flags.items depfile e → IsRuled graph records next seen dues.flags.items depfile e
+    here depfile ruled = by_kind ((links_of graph).phony e) refl
+      where
+        by_kind : (b : Bool) → (links_of graph).phony e ≡ b → IsRuled graph records next seen dues.flags.items depfile e
+        by_kind true phony =
+            let now = ap (λ (b : Bool). if b then None else was_due (standing_at next.standings.items e)) phony in
+            let before = ap (λ (b : Bool). if b then None else was_due (standing_at plan.standings.items e)) phony in
+            ruled_planned graph records plan next e (now ∙ sym before) seen dues.flags.items depfile ruled
+        by_kind false plain =
+            let now : judged_due graph next e ≡ Some false = ap (λ (b : Bool). if b then None else was_due (standing_at next.standings.items e)) plain ∙ clean in
+            record {
+              judged = λ was so. flag ∙ same_some false was (sym now ∙ so);
+              alias = λ none phony. absurd (some_none false (sym now ∙ none));
+              command = λ none plain. absurd (some_none false (sym now ∙ none));
+            }
 
     at_edge : (q : ℕ) (depfile : Bool) → IsRuled graph records plan seen dues.flags.items depfile q → IsRuled graph records next seen dues.flags.items depfile q
     at_edge q depfile ruled = elim (same_or_other e q) [
-      | inl same ↦ subst (λ (n : ℕ). IsRuled graph records next seen dues.flags.items depfile n) (sym {A = ℕ} same) (here depfile)
+      | inl same ↦
+          subst (λ (n : ℕ). IsRuled graph records next seen dues.flags.items depfile n) (sym {A = ℕ} same)
+          (here depfile (subst (λ (n : ℕ). IsRuled graph records plan seen dues.flags.items depfile n) same ruled))
       | inr other ↦ ruled_planned graph records plan next q (told q other) seen dues.flags.items depfile ruled
     ]
 
-pub kept_clean : (graph : Graph) (records : Records) (cone : Cone) (plan next : Plan) (e : ℕ) → TellsSameBut graph plan next e → judged_due graph next e ≡ Some false → (seen : List Look) (dues : Dues) → due_at dues.flags.items e ≡ false
+pub kept_clean : (graph : Graph) (records : Records) (cone : Cone) (plan next : Plan) (e : ℕ) → TellsSameBut graph plan next e → was_due (standing_at next.standings.items e) ≡ Some false → (seen : List Look) (dues : Dues) → due_at dues.flags.items e ≡ false
     → AreKeptRight graph records cone plan seen dues → AreKeptRight graph records cone next seen dues
 kept_clean graph records cone plan next e told clean seen dues flag was = record { but = dues_clean graph records cone plan next e told clean seen dues flag was.but; asks = was.asks; lacks = was.lacks }
 

@@ -14,6 +14,7 @@ use Rattle.graph.specs.Places.{place_in}
 use Rattle.graph.specs.Told.{declared_by}
 use Rattle.plan.specs.declared.plan.Plan.{Plan}
 use Rattle.plan.specs.Flags.{has, AreNone}
+use Rattle.plan.specs.Standing.{standing_at}
 use Rattle.records.specs.declared.records.Records.{Records}
 use Rattle.judge.specs.declared.answers.Answers.{Answers}
 use Rattle.judge.specs.declared.dues.Dues.{Dues}
@@ -23,7 +24,7 @@ use Rattle.judge.specs.declared.looks.Look.{Look}
 use Rattle.judge.specs.declared.looks.Looks.{Looks}
 use Rattle.judge.specs.Answers.{HasGrownBy, StandBoth, AreKnownStill, TellSame}
 use Rattle.judge.specs.Seen.{StaysKnown}
-use Rattle.judge.specs.UnderWay.{IsUnderWay, judged_due}
+use Rattle.judge.specs.UnderWay.{IsUnderWay, judged_due, was_due}
 use Rattle.judge.specs.Dues.{due_at, AreListed}
 use Rattle.judge.specs.Lacks.{IfPresent}
 use Rattle.judge.specs.Ruled.{is_absent_seen, WasAsked, IsRuled, IsFoundAnew, ComeAfterMakers}
@@ -262,7 +263,7 @@ pub record DuesFollow : Type 0 where
   pub told : (graph : Graph) (old new : Records) → TellSame old new → (cone : Cone) (plan : Plan) (seen : List Look) (dues : Dues) → AreKeptRight graph old cone plan seen dues → AreKeptRight graph new cone plan seen dues
   pub judged : (graph : Graph) (records : Records) (cone : Cone) (plan next : Plan) (e : ℕ) → TellsSameBut graph plan next e → (seen : List Look) (old new : Dues) → NotesEdges cone (e ∷ []) old new
       → AreKeptRight graph records cone plan seen old → AreKeptRight graph records cone next seen new
-  pub clean : (graph : Graph) (records : Records) (cone : Cone) (plan next : Plan) (e : ℕ) → TellsSameBut graph plan next e → judged_due graph next e ≡ Some false → (seen : List Look) (dues : Dues) → due_at dues.flags.items e ≡ false
+  pub clean : (graph : Graph) (records : Records) (cone : Cone) (plan next : Plan) (e : ℕ) → TellsSameBut graph plan next e → was_due (standing_at next.standings.items e) ≡ Some false → (seen : List Look) (dues : Dues) → due_at dues.flags.items e ≡ false
       → AreKeptRight graph records cone plan seen dues → AreKeptRight graph records cone next seen dues
   pub loaded : (edges : List ℕ) (old new : Graph) → HasGrownBy edges old new → StandBoth old new → (was is : Records) → AreKnownStill old new was is → (cone : Cone) (plan next : Plan) (store other : Store) (targets others : List (List ℕ)) (steps : List Step)
       → IsUnderWay old was cone plan store targets steps → IsUnderWay new is cone next other others steps → (before after : Dues) → NotesGrown new cone edges before after → (seen : List Look)

@@ -140,7 +140,7 @@ impl Dues {
 
     /// The edge was judged: it is to be found again, if any flag is kept.
     pub fn note_judged(&mut self, cone: &Cone, edge: EdgeId)
-        requires within { edge < vec_len cone.now.marks }
+        requires within { self.old.known ≡ true → edge < vec_len cone.now.marks }
         requires places { self.old.known ≡ true → HasPlaces cone.now self.old }
         ensures known { self.new.known ≡ self.old.known }
         ensures noted { self.old.known ≡ true → NotesEdges cone.now (edge ∷ []) self.old self.new }

@@ -15,6 +15,7 @@ use crate::state::Work;
 use crate::stop::Stop;
 use crate::summary::{Pause, Summary};
 use graph::{Graph, lists_stand};
+use judge::dues_follow;
 use paths::PathId;
 use plan::{Plan, Step};
 use records::log_stays;
@@ -120,6 +121,7 @@ impl Work<'_> {
         ensures halted { HaltsOver S.tells S.world site.old site.new self.old self.new result }
     {
         log_stays();
+        dues_follow();
         lists_stand(&self.graph);
         match self.check_sources(site) {
             Ok(due) => {
