@@ -71,12 +71,12 @@ returns-in-Ok-clause-asked g c course edges phases begins =
     (knows_clean tells course edges phases graph state now begins.stands c.log_stays.ensures new looked.looks c.in-Ok.due.items c.in-Ok.ensures.due) stay)
     c.judge_clean.new.self c.judge_clean.ensures.looks c.judge_clean.ensures.on
 
-pub unstarted_commands-unstarted-requires-clause-fits : goal.unstarted_commands-unstarted-requires-clause-fits
-unstarted_commands-unstarted-requires-clause-fits g c =
-    subst (λ (s : Work). length c.deref.result.now ≡ length s.graph.manifest.lines) (sym {A = Work} c.check_sources.ensures.beside) (ap length c.deref.ensures.value ∙ c.in-Ok.ensures.due.fits)
+pub still_unstarted-unstarted-requires-clause-fits : goal.still_unstarted-unstarted-requires-clause-fits
+still_unstarted-unstarted-requires-clause-fits g c =
+    subst (λ (s : Work). length c.deref-2.result.now ≡ length s.graph.manifest.lines) (sym {A = Work} c.check_sources.ensures.beside) (ap length c.deref-2.ensures.value ∙ c.in-Ok.ensures.due.fits)
 
-pub unstarted_commands-unstarted-requires-clause-plan : goal.unstarted_commands-unstarted-requires-clause-plan
-unstarted_commands-unstarted-requires-clause-plan g c =
+pub still_unstarted-unstarted-requires-clause-plan : goal.still_unstarted-unstarted-requires-clause-plan
+still_unstarted-unstarted-requires-clause-plan g c =
     let standings = c.args.self.now.plan.standings in
     let size : vec_len standings ≡ length standings.items = omega (arith, standings.ok.0) in
     subst (λ (s : Work). vec_len s.plan.standings ≡ length s.graph.manifest.lines) (sym {A = Work} c.check_sources.ensures.beside) (size ∙ c.requires.begins.3.stands.on.planned.over.over.edges)
