@@ -226,7 +226,8 @@ impl Looks {
     {
         lists_stand(graph);
         if self.sums.answers.dues.flags[edge.index()] {
-            self.first_missing(site, graph, graph.inputs(edge))
+            let needed = graph.inputs(edge);
+            self.first_missing(site, graph, needed)
         } else {
             Ok(None)
         }
