@@ -1,5 +1,5 @@
 -- Flags that are kept are right over what a run does between two turns.
-use Rattle.std.proofs.Common.{◌≡◌, inl, inr, ℕ, suc, ◌<◌, ◌≤◌, ◌≢◌, Bool, true, false, List, [], ◌∷◌, Option, Some, None, if◌then◌else◌, length, vec_len, get_or, refl, sym, ◌∙◌, ap, subst, arith}
+use Rattle.std.proofs.Common.{◌≡◌, inl, inr, ℕ, suc, ◌<◌, ◌≤◌, ◌≢◌, Bool, true, false, List, [], ◌∷◌, Option, Some, None, if◌then◌else◌, length, refl, sym, ◌∙◌, ap, subst, arith}
 use Rattle.std.proofs.lemmas.Bool.{false≢true, cases_Bool}
 use Rattle.model.specs.declared.graph.Deps.{Deps}
 use Rattle.model.specs.declared.graph.Edge.{Edge}
@@ -21,16 +21,15 @@ use Rattle.plan.specs.Standing.{standing_at}
 use Rattle.records.specs.declared.records.Records.{Records}
 use Rattle.judge.specs.declared.dues.Dues.{Dues}
 use Rattle.judge.specs.declared.looks.Look.{Look}
-use Rattle.judge.specs.declared.looks.Looks.{Looks}
 use Rattle.judge.specs.Answers.{HasGrownBy, StandBoth, AreKnownStill, TellSame}
 use Rattle.judge.specs.Seen.{StaysKnown}
 use Rattle.judge.specs.UnderWay.{IsUnderWay, judged_due, was_due}
 use Rattle.judge.specs.Dues.{due_at, AreListed}
 use Rattle.judge.specs.Ruled.{IsRuled, ComeAfterMakers}
-use Rattle.judge.specs.KeptDues.{place_of, edge_of_place, NotesEdges, NotesGrown, AsksNowhere, AreRuledBut, LacksNoneBut, IsSourceSeen, AreSourcesSeen, AreKeptRight, KeepsDues, HasMakersFirst, TellsSameBut}
+use Rattle.judge.specs.KeptDues.{place_of, edge_of_place, NotesEdges, NotesGrown, AsksNowhere, AreRuledBut, LacksNoneBut, IsSourceSeen, AreKeptRight, HasMakersFirst, TellsSameBut}
 use Rattle.judge.proofs.AfterMakers.{after_makers}
 use Rattle.judge.proofs.Answered.{answer_told}
-use Rattle.judge.proofs.LoadedAnswers.{count_same, ruled_again, maker_kept, all_same, made_same, edge_same, phony_same}
+use Rattle.judge.proofs.LoadedAnswers.{count_same, ruled_again, maker_kept, all_same, made_same, phony_same}
 use Rattle.judge.proofs.NotedPlaces.{needs_user}
 use Rattle.judge.proofs.NumbersAsTexts.{same_or_other, at_has}
 use Rattle.judge.proofs.RuledAgain.{place_is}

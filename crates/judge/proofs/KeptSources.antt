@@ -1,9 +1,8 @@
 -- Flags that are kept from now on, and what was found by flags that were kept.
-use Rattle.std.proofs.Common.{◌≡◌, ℕ, ◌<◌, ◌≤◌, Bool, true, false, List, [], Option, Some, None, Vec, Global, length, vec_len, sym, ◌∙◌, ap, subst, arith}
+use Rattle.std.proofs.Common.{◌≡◌, ℕ, ◌≤◌, Bool, true, false, List, Option, None, Vec, Global, length, sym, ◌∙◌, ap, subst, arith}
 use Rattle.std.specs.Prelude.{slice_index_or}
 use Rattle.std.proofs.lemmas.Bool.{false≢true}
 use Rattle.model.specs.World.{World}
-use Rattle.model.specs.Graph.{has_number}
 use Rattle.graph.specs.declared.cone.Cone.{Cone}
 use Rattle.graph.specs.declared.graph.Graph.{Graph}
 use Rattle.graph.specs.Links.{links_of}
@@ -24,7 +23,7 @@ use Rattle.judge.proofs.Answered.{answers_stay}
 use Rattle.judge.proofs.KeptFlags.{dues_stay}
 use Rattle.judge.proofs.NumbersAsTexts.{at_has}
 use Rattle.judge.proofs.RuledStays.{ruled_seen}
-use Rattle.judge.proofs.SourcesSeen.{sources_stay, lacks_back}
+use Rattle.judge.proofs.SourcesSeen.{lacks_back}
 
 -- ---- looks of which just what is kept beside them is another
 

@@ -1,12 +1,12 @@
 -- Sources that were seen to be there: no target is missing, nor an input of a due edge.
-use Rattle.std.proofs.Common.{◌≡◌, inl, inr, ℕ, zero, suc, ◌+◌, ◌<◌, ◌≤◌, ◌==◌, Bool, true, false, List, [], ◌∷◌, Option, Some, None, IfNone, take, get_or, length, refl, sym, ◌∙◌, ap, subst, arith}
+use Rattle.std.proofs.Common.{◌≡◌, inl, inr, ℕ, ◌+◌, ◌<◌, ◌≤◌, ◌==◌, Bool, true, false, List, [], ◌∷◌, Option, Some, None, IfNone, take, get_or, length, sym, ◌∙◌, ap, subst, arith}
 use Rattle.std.proofs.Math.ListN.{set}
 use Rattle.std.proofs.lemmas.Bool.{false≢true, cases_Bool, cases_lt, or_right}
 use Rattle.std.proofs.lemmas.List.{take_more, length-set, get_or_past, get_or-set_same, get_or-set_other}
 use Rattle.model.specs.declared.event.Moment.{Moment}
 use Rattle.model.specs.declared.graph.Edge.{Edge}
 use Rattle.model.specs.World.{World, file_at}
-use Rattle.model.specs.Graph.{has_number, edge_at, inputs}
+use Rattle.model.specs.Graph.{has_number, inputs}
 use Rattle.model.specs.OutOfDate.{IsMissing, NoneIsMissing}
 use Rattle.theory.proofs.Lists.{has_number-cases, has_number-is, some_none}
 use Rattle.paths.specs.Told.{text_at, texts_at}
@@ -26,7 +26,7 @@ use Rattle.judge.specs.Quiet.{AreSameOf, IfStill}
 use Rattle.judge.specs.Dues.{due_at, AreListed, IsSourceIn, AreSourcesIn, HasAllSources}
 use Rattle.judge.specs.Lacks.{NoneBelow, IsFirstIn, IsFoundOfDue}
 use Rattle.judge.specs.Ruled.{IsAbsentAsked}
-use Rattle.judge.specs.KeptDues.{place_of, edge_of_place, NotesEdges, NotesFound, IsSourceSeen, AreSourcesSeen, HasFreshRoom, LacksNoneOf, LacksNoneBut}
+use Rattle.judge.specs.KeptDues.{place_of, edge_of_place, NotesEdges, NotesFound, IsSourceSeen, AreSourcesSeen, LacksNoneOf, LacksNoneBut}
 use Rattle.judge.proofs.AliasDues.{there_none, no_number}
 use Rattle.judge.proofs.AskedAny.{absent_stays}
 use Rattle.judge.proofs.NumbersAsTexts.{same_or_other, has_here}

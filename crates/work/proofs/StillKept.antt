@@ -1,21 +1,19 @@
 -- What a run knows of commands and of due edges stays right.
-use Rattle.std.proofs.Common.{◌≡◌, ◌≢◌, inl, inr, ℕ, Bool, true, false, List, ◌∷◌, [], Option, Some, None, Vec, Global, if◌then◌else◌, refl, sym, ◌∙◌, ap, subst}
+use Rattle.std.proofs.Common.{◌≡◌, ◌≢◌, inl, inr, ℕ, Bool, true, false, List, Some, None, if◌then◌else◌, refl, sym, ◌∙◌, ap, subst}
 use Rattle.std.proofs.lemmas.Bool.{false≢true}
 use Rattle.graph.specs.declared.cone.Cone.{Cone}
 use Rattle.graph.specs.declared.graph.Graph.{Graph}
 use Rattle.graph.specs.Links.{links_of}
 use Rattle.plan.specs.declared.plan.Plan.{Plan}
 use Rattle.plan.specs.declared.step.Standing.{Standing}
-use Rattle.plan.specs.declared.step.Standing.TheVariants.{Alias, Known}
 use Rattle.plan.specs.Plan.{IsSettling}
 use Rattle.plan.specs.Standing.{standing_at}
 use Rattle.records.specs.declared.records.Records.{Records}
-use Rattle.judge.specs.declared.dues.Dues.{Dues}
 use Rattle.judge.specs.declared.looks.Looks.{Looks}
 use Rattle.judge.specs.Answers.{KnowsRight}
 use Rattle.judge.specs.UnderWay.{was_due}
 use Rattle.judge.specs.Dues.{due_at}
-use Rattle.judge.specs.KeptDues.{KeepsDues, AreKeptRight, TellsSameBut, DuesFollow}
+use Rattle.judge.specs.KeptDues.{KeepsDues, TellsSameBut, DuesFollow}
 use Rattle.work.specs.declared.state.Work.{Work}
 use Rattle.work.specs.Answered.{AreAnswersOf, HasKeptFlags}
 

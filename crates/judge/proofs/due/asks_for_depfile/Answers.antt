@@ -1,4 +1,4 @@
-use Rattle.std.proofs.Common.{◌≢◌, ◌∙◌, List, ℕ, [], sym, ap, subst}
+use Rattle.std.proofs.Common.{◌≢◌, ◌∙◌, [], sym, ap, subst}
 use Rattle.model.specs.declared.graph.Edge.{Edge}
 use Rattle.judge.proofs.due.asks_for_depfile.Goals as goal
 

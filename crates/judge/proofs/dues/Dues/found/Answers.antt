@@ -1,4 +1,4 @@
-use Rattle.std.proofs.Common.{ℕ, List, Bool, false, length, refl, ◌∙◌, ap, arith}
+use Rattle.std.proofs.Common.{ℕ, List, Bool, true, false, length, refl, ◌∙◌, ap, arith}
 use Rattle.std.proofs.Math.ListN.{set}
 use Rattle.std.proofs.lemmas.List.{length-set}
 use Rattle.judge.proofs.NotedPlaces.{found_same, found_other}

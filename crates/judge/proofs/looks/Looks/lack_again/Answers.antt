@@ -1,7 +1,5 @@
-use Rattle.std.proofs.Common.{◌≡◌, ◌<◌, ◌≤◌, ℕ, Bool, List, true, Option, Some, None, IfSome, Vec, Global, slice_set, length, false, refl, sym, ◌∙◌, ap, subst, arith}
-use Rattle.std.proofs.lemmas.Bool.{false≢true}
+use Rattle.std.proofs.Common.{◌≡◌, ◌<◌, ℕ, Bool, List, true, Option, Some, None, IfSome, Vec, Global, slice_set, length, false, refl, sym, ◌∙◌, ap, subst, arith}
 use Rattle.theory.proofs.SiteCalls.{unrefused_none, unrefused_call, unrefused_then}
-use Rattle.judge.specs.declared.answers.Answers.{Answers}
 use Rattle.judge.specs.declared.dues.Dues.{Dues}
 use Rattle.judge.specs.declared.sums.Sums.{Sums}
 use Rattle.judge.specs.Dues.{due_at}

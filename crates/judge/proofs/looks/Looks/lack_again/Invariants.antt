@@ -1,4 +1,3 @@
-use Rattle.std.proofs.Common.{◌≡◌}
 use Rattle.theory.specs.Seen.{Unrefused}
 use Rattle.judge.specs.KeptDues.{KeepsFlags, LacksNoneOf}
 use Rattle.judge.specs.Looking.{HasLooked}

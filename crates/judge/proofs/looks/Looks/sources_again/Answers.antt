@@ -1,4 +1,4 @@
-use Rattle.std.proofs.Common.{◌≡◌, ◌<◌, List, ℕ, Bool, true, Option, Some, None, IfSome, Vec, Global, length, sym, ◌∙◌, ap, subst}
+use Rattle.std.proofs.Common.{◌≡◌, ◌<◌, List, Bool, Option, Some, None, IfSome, Vec, Global, length, sym, ◌∙◌, ap, subst}
 use Rattle.judge.specs.declared.lack.Lack.{Lack}
 use Rattle.judge.specs.Lacks.{HasDue, IsLackOf, NamesDue}
 use Rattle.judge.proofs.CleanEdges.{clean_first}

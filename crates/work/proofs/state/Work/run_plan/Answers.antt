@@ -4,7 +4,6 @@ use Rattle.work.proofs.Cutting.{starts_cut, met_by}
 use Rattle.work.proofs.Ends.{ran_cut}
 use Rattle.work.proofs.After.{after_then}
 use Rattle.std.proofs.Common.{sym, subst}
-use Rattle.graph.specs.declared.graph.Graph.{Graph}
 use Rattle.judge.specs.declared.looks.Looks.{Looks}
 use Rattle.work.specs.After.{LooksUnlessMore}
 use Rattle.work.proofs.StillKept.{same_answers}
