@@ -192,6 +192,24 @@ def modules_far(folder, edges):
 
 
 # How many files stand below the phony edge of `gathered`.
+def strewn(folder, edges, made=False):
+    """Edges of which each ten, strewn over the whole file, name a dyndep file that no edge makes. It adds the source that they read already."""
+    count = edges // OF_ONE_FILE
+    head = "rule copy\n  command = cp $in $out\nrule touch\n  command = : > $out\n"
+    lines = [f"build files/d{k}: copy files/d{k}.in\n" for k in range(count)] if made else []
+    lines += [f"build out/o{n}: touch start || files/d{n % count}\n  dyndep = files/d{n % count}\n" for n in range(edges)]
+    for k in range(count):
+        told = [f"build out/o{n}: dyndep | start\n" for n in range(k, edges, count)]
+        write(folder, f"files/d{k}{'.in' * made}", "".join(["ninja_dyndep_version = 1\n", *told]))
+    write(folder, "build.ninja", head + "".join(lines))
+    empty(folder, ["start"])
+
+
+def strewn_made(folder, edges):
+    """The same, each file made by a command."""
+    strewn(folder, edges, made=True)
+
+
 GATHERED = 10_000
 
 
