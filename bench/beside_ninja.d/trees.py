@@ -191,7 +191,6 @@ def modules_far(folder, edges):
     modules(folder, edges, needs=three_before)
 
 
-# How many files stand below the phony edge of `gathered`.
 def strewn(folder, edges, made=False):
     """Edges of which each ten, strewn over the whole file, name a dyndep file that no edge makes. It adds the source that they read already."""
     count = edges // OF_ONE_FILE
@@ -210,6 +209,7 @@ def strewn_made(folder, edges):
     strewn(folder, edges, made=True)
 
 
+# How many files stand below the phony edge of `gathered`.
 GATHERED = 10_000
 
 
@@ -220,6 +220,26 @@ def gathered(folder, edges):
     lines += [f"build out/c{n}: touch out/c{n - 1} | all_files\n" for n in range(1, edges)]
     write(folder, "build.ninja", "".join(lines))
     empty(folder, ["start", *files])
+
+
+# The target that `asked:` asks for.
+ONE = "one"
+
+# What a compiler's command may have in front: 5 kB.
+FLAGS = " ".join(f"-Isome/where/include/folder{n} -DSOME_MACRO_{n}=1" for n in range(100))
+
+
+def long_commands(folder, edges, told=""):
+    """Edges with commands of 5 kB, of a source each."""
+    lines = [f"flags = {FLAGS}\nrule compile\n  command = : $flags -c $in -o $out; : > $out\n{told}"]
+    lines += [f"build obj/o{n}.o: compile src/s{n}.c\n" for n in range(edges)]
+    write(folder, "build.ninja", "".join(lines))
+    empty(folder, (f"src/s{n}.c" for n in range(edges)))
+
+
+def long_told(folder, edges):
+    """The same with a depfile each, and one edge besides."""
+    long_commands(folder, edges, f"  depfile = $out.d\n  deps = gcc\n{TOUCH}build {ONE}: touch\n")
 
 
 # What `bare.` takes out of a build file: the lines by which edges name dyndep files and pools, pools, and a phony edge that all read.
