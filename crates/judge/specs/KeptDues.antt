@@ -243,6 +243,10 @@ SeesInputs graph due e after result = IfOk result (λ found. IfNone found (due_a
 abbrev pub SeesAllInputs : {E : Type 0} → Graph → List Bool → Looks → Result (Option Lack) E → Type 0
 SeesAllInputs graph due after result = IfOk result (λ found. IfNone found ((e : ℕ) → due_at due e ≡ true → AreSourcesSeen graph after.seen.items ((links_of graph).inputs e)))
 
+-- the flags that are kept beside these looks
+abbrev pub flags_kept : Looks → List Bool
+flags_kept looks = looks.sums.answers.dues.flags.items
+
 -- the flags that are answered are those that are kept, if any are
 abbrev pub KeepsFound : {E : Type 0} → Looks → Result Found E → Type 0
 KeepsFound after result = IfOk result (λ found. IfPresent found (λ due. after.sums.answers.dues.known ≡ true → after.sums.answers.dues.flags.items ≡ due))

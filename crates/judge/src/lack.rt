@@ -3,7 +3,7 @@
 ghost use Rattle.std.specs.Prelude.{◌≡◌, ◌<◌, true, false, length, vec_len, All, IfOk, IfSome};
 ghost use Rattle.model.specs.Calls.{HasCause};
 ghost use Rattle.judge.specs.Answers.{KnowsRight};
-ghost use Rattle.judge.specs.KeptDues.{HasMakersFirst, AreKeptRight, KeepsDues, KeepsFlags, KeepsFound, LacksNoneOf, SeesSource, SeesSources, SeesInputs, SeesAllInputs};
+ghost use Rattle.judge.specs.KeptDues.{flags_kept, HasMakersFirst, AreKeptRight, KeepsDues, KeepsFlags, KeepsFound, LacksNoneOf, SeesSource, SeesSources, SeesInputs, SeesAllInputs};
 ghost use Rattle.judge.specs.Looking.{HasLookedAt};
 ghost use Rattle.judge.specs.Dues.{due_at};
 ghost use Rattle.judge.specs.Lacks.{lack_in, IsLackOf, IsSourceOf, IsSourceFor, IsSourceAt, IsAskedLack, NamesDue};
@@ -180,15 +180,15 @@ impl Looks {
     ) -> Result<Option<Lack>, SiteFault>
         requires running { (S.world site.old).stopped ≡ false }
         requires fits { length self.old.seen.items ≡ length graph.now.manifest.paths }
-        requires due { length self.old.sums.answers.dues.flags.items ≡ length graph.now.manifest.lines }
+        requires due { length (flags_kept self.old) ≡ length graph.now.manifest.lines }
         requires lacks { LacksNoneOf graph.now self.old.seen.items self.old.sums.answers.dues }
         ensures looked { HasLookedAt S.tells S.world site.old site.new graph.now self.old self.new }
         ensures cause { HasCause (S.world site.old) (S.world site.new) result }
         ensures answers { KeepsFlags self.old.sums.answers self.new.sums.answers }
         ensures lacks { LacksNoneOf graph.now self.new.seen.items self.new.sums.answers.dues }
-        ensures found { FindsFirstOfDue S.tells S.world site.old site.new graph.now self.old self.old.sums.answers.dues.flags.items result }
+        ensures found { FindsFirstOfDue S.tells S.world site.old site.new graph.now self.old (flags_kept self.old) result }
         ensures within { IfOk result (λ found. IfSome found (IsLackOf graph.now)) }
-        ensures named { IfOk result (λ found. IfSome found (λ lack. NamesDue self.old.sums.answers.dues.flags.items lack.needed_by)) }
+        ensures named { IfOk result (λ found. IfSome found (λ lack. NamesDue (flags_kept self.old) lack.needed_by)) }
     {
         looks_follow();
         lists_stand(graph);
@@ -215,14 +215,14 @@ impl Looks {
         requires running { (S.world site.old).stopped ≡ false }
         requires fits { length self.old.seen.items ≡ length graph.now.manifest.paths }
         requires within { edge < length graph.now.manifest.lines }
-        requires due { length self.old.sums.answers.dues.flags.items ≡ length graph.now.manifest.lines }
+        requires due { length (flags_kept self.old) ≡ length graph.now.manifest.lines }
         ensures looked { HasLookedAt S.tells S.world site.old site.new graph.now self.old self.new }
         ensures cause { HasCause (S.world site.old) (S.world site.new) result }
         ensures sums { self.new.sums ≡ self.old.sums }
-        ensures first { FindsFirstOf S.tells S.world site.old site.new graph.now self.old self.old.sums.answers.dues.flags.items edge result }
-        ensures there { SeesInputs graph.now self.old.sums.answers.dues.flags.items edge self.new result }
+        ensures first { FindsFirstOf S.tells S.world site.old site.new graph.now self.old (flags_kept self.old) edge result }
+        ensures there { SeesInputs graph.now (flags_kept self.old) edge self.new result }
         ensures within { IfOk result (λ found. IfSome found (IsSourceFor graph.now edge)) }
-        ensures marked { IfOk result (λ found. IfSome found (λ path. due_at self.old.sums.answers.dues.flags.items edge ≡ true)) }
+        ensures marked { IfOk result (λ found. IfSome found (λ path. due_at (flags_kept self.old) edge ≡ true)) }
     {
         lists_stand(graph);
         if self.sums.answers.dues.flag_of(edge) {
