@@ -40,11 +40,12 @@ left_from [] = zero
 left_from (b ∷ bs) = cond b (suc (length bs)) (left_from bs)
 
 both_parts : (flags : List Bool) → leading flags + left_from flags ≡ length flags
+unfolding leading left_from
 both_parts [] = refl
 both_parts (b ∷ bs) = elim (cases_Bool b) [
-  | inl set ↦
-      let one : leading (b ∷ bs) ≡ zero = ap (λ (x : Bool). cond x zero (suc (leading bs))) set in
-      let two : left_from (b ∷ bs) ≡ suc (length bs) = ap (λ (x : Bool). cond x (suc (length bs)) (left_from bs)) set in
+  | inl here ↦
+      let one : leading (b ∷ bs) ≡ zero = ap (λ (x : Bool). cond x zero (suc (leading bs))) here in
+      let two : left_from (b ∷ bs) ≡ suc (length bs) = ap (λ (x : Bool). cond x (suc (length bs)) (left_from bs)) here in
       omega (arith, one, two)
   | inr unset ↦
       let one : leading (b ∷ bs) ≡ suc (leading bs) = ap (λ (x : Bool). cond x zero (suc (leading bs))) unset in
@@ -54,10 +55,11 @@ both_parts (b ∷ bs) = elim (cases_Bool b) [
 ]
 
 leading_low : (flags : List Bool) (n : ℕ) → has flags n ≡ true → leading flags ≤ n
+unfolding leading
 leading_low [] n h = absurd (false≢true (sym (get_or_past [] n false (omega arith)) ∙ h))
 leading_low (b ∷ bs) zero h = let one : leading (b ∷ bs) ≡ zero = ap (λ (x : Bool). cond x zero (suc (leading bs))) h in omega (arith, one)
 leading_low (b ∷ bs) (suc n) h = elim (cases_Bool b) [
-  | inl set ↦ let one : leading (b ∷ bs) ≡ zero = ap (λ (x : Bool). cond x zero (suc (leading bs))) set in omega (arith, one)
+  | inl here ↦ let one : leading (b ∷ bs) ≡ zero = ap (λ (x : Bool). cond x zero (suc (leading bs))) here in omega (arith, one)
   | inr unset ↦
       let one : leading (b ∷ bs) ≡ suc (leading bs) = ap (λ (x : Bool). cond x zero (suc (leading bs))) unset in
       let rest = leading_low bs n h in
@@ -65,6 +67,7 @@ leading_low (b ∷ bs) (suc n) h = elim (cases_Bool b) [
 ]
 
 leading_past : (flags : List Bool) (n : ℕ) → n < length flags → ((j : ℕ) → j ≤ n → has flags j ≡ false) → n < leading flags
+unfolding leading
 leading_past [] n lt none = absurd (omega (arith, lt))
 leading_past (b ∷ bs) zero lt none = let one : leading (b ∷ bs) ≡ suc (leading bs) = ap (λ (x : Bool). cond x zero (suc (leading bs))) (none zero (omega arith)) in omega (arith, one)
 leading_past (b ∷ bs) (suc n) lt none =

@@ -157,7 +157,7 @@ lacks_back graph cone seen new stays old dues flags was now = record {
   edges = λ e due out fresh. now.edges e due fresh;
 }
 
-unset_before : (old new : List Bool) → ((k : ℕ) → has old k ≡ true → has new k ≡ true) → (k : ℕ) → has new k ≡ false → has old k ≡ false
+pub unset_before : (old new : List Bool) → ((k : ℕ) → has old k ≡ true → has new k ≡ true) → (k : ℕ) → has new k ≡ false → has old k ≡ false
 unset_before old new more k out = elim (cases_Bool (has old k)) [
   | inl is ↦ absurd (false≢true (sym out ∙ more k is))
   | inr unset ↦ unset

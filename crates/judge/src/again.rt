@@ -51,8 +51,8 @@ impl Looks {
         self.sums.clear();
         while let Some(place) = self.sums.answers.dues.todo.first() {
             let edge = cone.order[place];
-            let is = self.flag_again(site, graph, plan, records, edge)?;
-            self.sums.answers.dues.found(graph, cone, edge, is);
+            let flag = self.flag_again(site, graph, plan, records, edge)?;
+            self.sums.answers.dues.found(graph, cone, edge, flag);
         }
         Ok(())
     }

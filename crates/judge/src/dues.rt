@@ -171,6 +171,14 @@ impl Dues {
         self.note_users(graph, cone, edge);
     }
 
+    /// Whether the edge is due, as it was found.
+    pub(crate) fn flag_of(&self, edge: EdgeId) -> bool
+        requires { edge < length self.now.flags.items }
+        ensures { result ≡ due_at self.now.flags.items edge }
+    {
+        self.flags[edge.index()]
+    }
+
     /// Whether the flag of the edge is this.
     fn has_flag(&self, edge: EdgeId, is: bool) -> bool
         requires { edge < length self.now.flags.items }

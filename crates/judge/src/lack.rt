@@ -225,7 +225,7 @@ impl Looks {
         ensures marked { IfOk result (λ found. IfSome found (λ path. due_at self.old.sums.answers.dues.flags.items edge ≡ true)) }
     {
         lists_stand(graph);
-        if self.sums.answers.dues.flags[edge.index()] {
+        if self.sums.answers.dues.flag_of(edge) {
             let needed = graph.inputs(edge);
             self.first_missing(site, graph, needed)
         } else {

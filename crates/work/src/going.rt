@@ -125,11 +125,12 @@ impl Work<'_> {
         lists_stand(&self.graph);
         match self.check_sources(site) {
             Ok(due) => {
+                let before = self.due.as_slice();
                 let unstarted = still_unstarted(
                     &self.display,
                     &self.graph,
                     &self.plan,
-                    &self.due,
+                    before,
                     &due,
                 );
                 self.display.recount(unstarted);

@@ -76,16 +76,16 @@ found-requires-clause-asking g c =
 
 -- ---- the site failed
 
-pub returns-in_err-is-clause-looked : goal.returns-in_err-is-clause-looked
-returns-in_err-is-clause-looked g c =
+pub returns-in_err-flag-clause-looked : goal.returns-in_err-flag-clause-looked
+returns-in_err-flag-clause-looked g c =
     looked_then c.looks_follow.ensures.follow g.S.Texts.tells c.args.graph.now (g.S.Texts.world c.args.site.now) (g.S.Texts.world c.loop-place.site) (g.S.Texts.world c.flag_again.new.site) c.args.self.now c.loop-place.self c.flag_again.new.self
     c.loop-place.invariant.looked c.flag_again.ensures.looked
 
-pub returns-in_err-is-clause-known : goal.returns-in_err-is-clause-known
-returns-in_err-is-clause-known g c = c.flag_again.ensures.known
+pub returns-in_err-flag-clause-known : goal.returns-in_err-flag-clause-known
+returns-in_err-flag-clause-known g c = c.flag_again.ensures.known
 
-pub returns-in_err-is-clause-kept : goal.returns-in_err-is-clause-kept
-returns-in_err-is-clause-kept g c =
+pub returns-in_err-flag-clause-kept : goal.returns-in_err-flag-clause-kept
+returns-in_err-flag-clause-kept g c =
     let graph = c.args.graph.now in
     let records = c.args.records.now in
     let cone = c.args.cone.now in
@@ -96,8 +96,8 @@ returns-in_err-is-clause-kept g c =
     (dues_stay graph records cone plan one.seen.items two.seen.items c.flag_again.ensures.looked.stays one.sums.answers.dues
     (again_kept g.S.Texts.tells graph records cone plan (g.S.Texts.world c.args.site.now) (g.S.Texts.world c.loop-place.site) one.seen.items one.sums.answers.dues c.loop-place.invariant.again))
 
-pub returns-in_err-is-clause-lacks : goal.returns-in_err-is-clause-lacks
-returns-in_err-is-clause-lacks g c =
+pub returns-in_err-flag-clause-lacks : goal.returns-in_err-flag-clause-lacks
+returns-in_err-flag-clause-lacks g c =
     let graph = c.args.graph.now in
     let cone = c.args.cone.now in
     let one = c.loop-place.self in
@@ -136,7 +136,7 @@ loop-place-preserved g c =
     let one = c.loop-place.self in
     let two = c.flag_again.new.self in
     let k = c.in-Some.place in
-    let is = c.in_ok-is.is in
+    let is = c.in_ok-flag.flag in
     let again = c.loop-place.invariant.again in
     let low : k < length cone.order.items = again.room.within k c.in-Some.ensures.is in
     let at : c.index-edge.result.now ≡ edge_of_place cone k = c.index-edge.ensures ∙ get_or_default cone.order.items k c.index-edge.result.now 0 low in
@@ -144,11 +144,11 @@ loop-place-preserved g c =
     let notes = subst (λ (dues : Dues). NotesFound graph cone (edge_of_place cone k) is dues c.found.new.self) c.flag_again.ensures.dues
     (subst (λ (e : ℕ). NotesFound graph cone e is two.sums.answers.dues c.found.new.self) at c.found.ensures) in
     let flag = subst (λ (dues : Dues). IsFlagFound tells graph records plan b d two.seen.items dues.flags.items (edge_of_place cone k) is) c.flag_again.ensures.dues
-    (subst (λ (e : ℕ). IsFlagFound tells graph records plan b d two.seen.items two.sums.answers.dues.flags.items e is) at c.in_ok-is.ensures.ruled) in
+    (subst (λ (e : ℕ). IsFlagFound tells graph records plan b d two.seen.items two.sums.answers.dues.flags.items e is) at c.in_ok-flag.ensures.ruled) in
     record {
       looked = looked_then c.looks_follow.ensures.follow tells graph a d d c.args.self.now two (record { seen = two.seen; sums = sums })
           (looked_then c.looks_follow.ensures.follow tells graph a b d c.args.self.now one two c.loop-place.invariant.looked c.flag_again.ensures.looked) (looked_cleared tells graph d two sums);
-      unrefused = unrefused_then a b d c.loop-place.invariant.unrefused (unrefused_call b d _ c.in_ok-is.ensures.cause);
+      unrefused = unrefused_then a b d c.loop-place.invariant.unrefused (unrefused_call b d _ c.in_ok-flag.ensures.cause);
       summed = c.flag_again.ensures.summed;
       known = c.flag_again.ensures.known;
       again = again_more c.looks_follow.ensures.follow c.looks_follow.ensures.stay tells graph c.lists_stand.ensures records cone plan a b d one two c.loop-place.invariant.looked.looks c.flag_again.ensures.looked
@@ -166,7 +166,7 @@ loop-place-smaller g c =
     let one = c.loop-place.self in
     let two = c.flag_again.new.self in
     let k = c.in-Some.place in
-    let is = c.in_ok-is.is in
+    let is = c.in_ok-flag.flag in
     let again = c.loop-place.invariant.again in
     let low : k < length cone.order.items = again.room.within k c.in-Some.ensures.is in
     let at : c.index-edge.result.now ≡ edge_of_place cone k = c.index-edge.ensures ∙ get_or_default cone.order.items k c.index-edge.result.now 0 low in

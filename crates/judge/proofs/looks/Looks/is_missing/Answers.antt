@@ -20,7 +20,7 @@ returns-in-None-clause-source g c = if_ok_then c.is_absent.result c.is_absent.en
 
 -- an edge makes it
 pub returns-in-Some-clause-there : goal.returns-in-Some-clause-there
-returns-in-Some-clause-there g c so source = absurd (some_none _ (sym c.in-Some.ensures.value ∙ source))
+returns-in-Some-clause-there g c so source = absurd (some_none c.in-Some.field-0 (c.in-Some.ensures.value ∙ source))
 
 pub returns-in-None-clause-there : goal.returns-in-None-clause-there
 returns-in-None-clause-there g c = if_ok_then c.is_absent.result c.is_absent.ensures.seen (λ is absent so. source_asked c.args.graph.now c.is_absent.new.self.seen.items c.args.path is absent so)

@@ -72,16 +72,16 @@ returns-in_err-due-in-None-clause-kept g c on =
     kept_again c.args.graph.now c.args.records.now c.args.cone.now c.args.plan.now c.due_again.new.self.seen.items c.lack_again.new.self.seen.items c.lack_again.ensures.looked.stays c.due_again.new.self.sums.answers.dues c.lack_again.new.self.sums.answers.dues
     answers.known answers.flags answers.todo c.due_again.ensures.kept c.requires.kept.asks c.due_again.ensures.lacks c.lack_again.ensures.lacks
 
-pub returns-in-None-clause-looked : goal.returns-in-None-clause-looked
-returns-in-None-clause-looked g c =
+pub returns-in_ok-due-in-None-clause-looked : goal.returns-in_ok-due-in-None-clause-looked
+returns-in_ok-due-in-None-clause-looked g c =
     looked_then c.looks_follow.ensures.follow g.S.Texts.tells c.args.graph.now (g.S.Texts.world c.args.site.now) (g.S.Texts.world c.due_again.new.site) (g.S.Texts.world c.lack_again.new.site) c.args.self.now c.due_again.new.self c.lack_again.new.self c.due_again.ensures.looked c.lack_again.ensures.looked
 
-pub returns-in-None-clause-known : goal.returns-in-None-clause-known
-returns-in-None-clause-known g c =
+pub returns-in_ok-due-in-None-clause-known : goal.returns-in_ok-due-in-None-clause-known
+returns-in_ok-due-in-None-clause-known g c =
     answers_kept c.args.graph.now c.args.records.now c.due_again.new.self c.lack_again.new.self c.lack_again.ensures.looked.stays c.lack_again.ensures.answers.answers c.due_again.ensures.known
 
-pub returns-in-None-clause-kept : goal.returns-in-None-clause-kept
-returns-in-None-clause-kept g c on =
+pub returns-in_ok-due-in-None-clause-kept : goal.returns-in_ok-due-in-None-clause-kept
+returns-in_ok-due-in-None-clause-kept g c on =
     let answers = c.lack_again.ensures.answers in
     kept_again c.args.graph.now c.args.records.now c.args.cone.now c.args.plan.now c.due_again.new.self.seen.items c.lack_again.new.self.seen.items c.lack_again.ensures.looked.stays c.due_again.new.self.sums.answers.dues c.lack_again.new.self.sums.answers.dues
     answers.known answers.flags answers.todo c.due_again.ensures.kept c.requires.kept.asks c.due_again.ensures.lacks c.lack_again.ensures.lacks
@@ -107,8 +107,8 @@ returns-in-Some-clause-found g c store targets before way =
     (first_none tells graph c.lists_stand.ensures a a one one none cone.targets.items (all_of (λ p. p < length graph.manifest.paths) cone.targets.items c.requires.targets) c.requires.kept.lacks.targets) (Some c.in-Some.lack)
     (subst (λ (found : Option Lack). FindsAt tells graph b d two due found) c.in-Some.is c.in_ok-lack.ensures.found)
 
-pub returns-in-None-clause-found : goal.returns-in-None-clause-found
-returns-in-None-clause-found g c store targets before way =
+pub returns-in_ok-due-in-None-clause-found : goal.returns-in_ok-due-in-None-clause-found
+returns-in_ok-due-in-None-clause-found g c store targets before way =
     let tells = g.S.Texts.tells in
     let follow = c.looks_follow.ensures.follow in
     let stay = c.looks_follow.ensures.stay in
@@ -128,8 +128,8 @@ returns-in-None-clause-found g c store targets before way =
     (first_none tells graph c.lists_stand.ensures a a one one none cone.targets.items (all_of (λ p. p < length graph.manifest.paths) cone.targets.items c.requires.targets) c.requires.kept.lacks.targets) None
     (subst (λ (found : Option Lack). FindsAt tells graph b d two due found) c.in-None.is c.in_ok-lack.ensures.found)
 
-pub returns-in-None-clause-due : goal.returns-in-None-clause-due
-returns-in-None-clause-due g c =
+pub returns-in_ok-due-in-None-clause-due : goal.returns-in_ok-due-in-None-clause-due
+returns-in_ok-due-in-None-clause-due g c =
     let tells = g.S.Texts.tells in
     let follow = c.looks_follow.ensures.follow in
     let stay = c.looks_follow.ensures.stay in
@@ -157,8 +157,8 @@ returns-in-None-clause-due g c =
           (ruled_are_clean follow stay tells graph c.lists_stand.ensures records cone plan a b one two c.due_again.ensures.looked due c.in_ok-due_again.ensures.ruled e listed not_due unjudged);
     })
 
-pub returns-in-None-clause-flags : goal.returns-in-None-clause-flags
-returns-in-None-clause-flags g c on = sym (c.in_ok-due-in-None.ensures.items_if_clones_equal (λ x y h. h) ∙ c.as_slice.ensures.value)
+pub returns-in_ok-due-in-None-clause-flags : goal.returns-in_ok-due-in-None-clause-flags
+returns-in_ok-due-in-None-clause-flags g c on = sym (c.in_ok-due-in-None.ensures.items_if_clones_equal (λ x y h. h) ∙ c.as_slice.ensures.value)
 
 pub returns-in-Some-clause-asked : goal.returns-in-Some-clause-asked
 returns-in-Some-clause-asked g c =

@@ -151,7 +151,7 @@ returns-in-None-2-clause-kept g c on =
     let three = c.lack_of_due.new.self in
     let four = c.keep.new.self in
     let due = c.in_ok-due-in-None.due.items in
-    let begun = subst (λ (l : List Bool). HasBegunWith graph cone l four.sums.answers.dues) c.deref-2.ensures.value (c.keep.ensures.kept on) in
+    let begun = subst (λ (l : List Bool). HasBegunWith graph cone l four.sums.answers.dues) c.deref-in-None-2.ensures.value (c.keep.ensures.kept on) in
     let targets : AreSourcesSeen graph one.seen.items cone.targets.items = subst (λ (l : List ℕ). AreSourcesSeen graph one.seen.items l) c.as_slice-targets.ensures.value (none_given c.in_ok-path.field-0 c.in-None.is c.in_ok-path.ensures.there) in
     let edges = none_given c.in_ok-lack-in-None.field-0 c.in-None-2.is c.in_ok-lack-in-None.ensures.there in
     let later = looked_then c.looks_follow.ensures.follow g.S.Texts.tells graph (g.S.Texts.world c.first_missing.new.site) (g.S.Texts.world c.due_edges.new.site) (g.S.Texts.world c.lack_of_due.new.site) one two three c.due_edges.ensures.looked c.lack_of_due.ensures.looked in
@@ -161,4 +161,4 @@ returns-in-None-2-clause-kept g c on =
     (λ e is. edges e (subst (λ (l : List Bool). due_at l e ≡ true) (sym {A = List Bool} c.deref.ensures.value) is)))
 
 pub returns-in-None-2-clause-flags : goal.returns-in-None-2-clause-flags
-returns-in-None-2-clause-flags g c on = (c.keep.ensures.kept on).begins.flags ∙ c.deref-2.ensures.value
+returns-in-None-2-clause-flags g c on = (c.keep.ensures.kept on).begins.flags ∙ c.deref-in-None-2.ensures.value

@@ -73,7 +73,7 @@ returns-in-Ok-clause-asked g c course edges phases begins =
 
 pub still_unstarted-unstarted-requires-clause-fits : goal.still_unstarted-unstarted-requires-clause-fits
 still_unstarted-unstarted-requires-clause-fits g c =
-    subst (λ (s : Work). length c.deref-2.result.now ≡ length s.graph.manifest.lines) (sym {A = Work} c.check_sources.ensures.beside) (ap length c.deref-2.ensures.value ∙ c.in-Ok.ensures.due.fits)
+    subst (λ (s : Work). length c.deref.result.now ≡ length s.graph.manifest.lines) (sym {A = Work} c.check_sources.ensures.beside) (ap length c.deref.ensures.value ∙ c.in-Ok.ensures.due.fits)
 
 pub still_unstarted-unstarted-requires-clause-plan : goal.still_unstarted-unstarted-requires-clause-plan
 still_unstarted-unstarted-requires-clause-plan g c =
