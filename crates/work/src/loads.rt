@@ -1,6 +1,6 @@
 //! Loading dyndep files (manual: "Dynamic Dependencies").
 
-ghost use Rattle.std.specs.Prelude.{◌≡◌, ◌<◌, ◌≤◌, ℕ, false, All, length, IfOk, IfErr, OnOk, OnErr, Ok, Err};
+ghost use Rattle.std.specs.Prelude.{◌≡◌, ◌<◌, ◌≤◌, ℕ, true, false, All, length, IfOk, IfErr, OnOk, OnErr, Ok, Err};
 ghost use Rattle.model.specs.Records.{Store};
 ghost use Rattle.model.specs.SingleBuild.{Asked};
 ghost use Rattle.model.specs.Calls.{OnlyLooks};

@@ -6,6 +6,7 @@ use Rattle.work.specs.Standing.{RefusesAt, StopsAt, IsStopThere, IfRefused, task
 use Rattle.work.specs.Joined.{WasHeld}
 use Rattle.graph.specs.declared.cone.Cone.{Cone}
 use Rattle.graph.specs.Told.{declared_by}
+use Rattle.judge.specs.Answers.{StandBoth, AreKnownStill}
 use Rattle.judge.specs.KeptDues.{AreKeptRight}
 use Rattle.judge.specs.UnderWay.{IsUnderWay}
 use Rattle.work.proofs.Asking.{under}
@@ -157,8 +158,8 @@ returns-in-Ok-clause-known g c =
     let new = g.S.Texts.world c.additions_in.new.site in
     let left = c.in-Ok.ensures.left in
     let may = may_join tells course edges phases state.graph state old stands file to_load in
-    let both = record { before = c.lists_stand.ensures; after = c.lists_stand-2.ensures } in
-    let still = record { rs = course.store.records; ds = course.store.deps; known = may.known; stay = c.in-Ok.ensures.known } in
+    let both : StandBoth state.graph after.graph = record { before = c.lists_stand.ensures; after = c.lists_stand-2.ensures } in
+    let still : AreKnownStill state.graph after.graph state.records after.records = record { rs = course.store.records; ds = course.store.deps; known = may.known; stay = c.in-Ok.ensures.known } in
     record {
       known =
           c.answers_follow.ensures.stay after.graph after.records state.looks.seen.items after.looks.seen.items (λ p asked. c.in-Ok.ensures.room.looks p) after.looks.sums.answers
