@@ -123,7 +123,7 @@ impl<'a, L: Records> Pieces<'a, L> {
     /// What is kept of the text that was taken, and how it ends. A damaged one tells nothing.
     pub fn finish(self) -> (L, Tail)
         requires { ReadsSome L.forms L.Keeps self }
-        ensures { (text : List ℕ) → ReadsTo L.forms L.Keeps text self → IsParsed L.forms L.Keeps text result.0 result.1 }
+        ensures { (text : List ℕ) → ReadsTo L.forms L.Keeps text self.entry → IsParsed L.forms L.Keeps text result.0 result.1 }
     {
         let Pieces {
             stock,

@@ -191,7 +191,7 @@ impl<L: Records> LogFile<L> {
 /// What the text that was read tells, and what may be done with its file. One that is absent is as one that is empty.
 fn log_of<L: Records>(pieces: Pieces<'_, L>) -> (L, State)
     requires { ReadsSome L.forms L.Keeps pieces }
-    ensures { OfHeld L.forms L.Keeps pieces (λ held. IsJudged L.forms L.Keeps L.compaction held result.0 result.1) }
+    ensures { OfHeld L.forms L.Keeps pieces.entry (λ held. IsJudged L.forms L.Keeps L.compaction held result.0 result.1) }
 {
     let is_empty = pieces.is_empty();
     let (log, tail) = pieces.finish();

@@ -20,7 +20,7 @@ returns-in_default g c = λ text to.
 
 -- what stands in the rest is a line
 pub add-requires : goal.add-requires
-add-requires g c = inr (c.args.self.now.rest.items ++ c.in-Some.front.now, c.as_slice.ensures.value ∙ (c.in_ok-push.ensures.items ∙ ap (λ (xs : List ℕ). xs ++ 10 ∷ []) c.in_ok-extend_from_slice.ensures.items))
+add-requires g c = inr (c.args.self.now.rest.items ++ c.in-Some.front.now, c.as_slice.ensures.value ∙ (c.in_ok-push.ensures.items ∙ ap (λ (xs : List ℕ). xs ++ 10 ∷ []) c.in_ok-extend_from_slice-2.ensures.items))
 
 pub returns : goal.returns
 returns g c = λ text to.
@@ -28,8 +28,8 @@ returns g c = λ text to.
     let front = c.in-Some.front.now in
     let more = c.split_tail.result.0.now in
     let last = c.split_tail.result.1.now in
-    let line : c.as_slice.result.now ≡ (rest ++ front) ++ 10 ∷ [] = c.as_slice.ensures.value ∙ (c.in_ok-push.ensures.items ∙ ap (λ (xs : List ℕ). xs ++ 10 ∷ []) c.in_ok-extend_from_slice.ensures.items) in
-    let end : c.extend_from_slice-2.new.self.items ≡ last = c.in_ok-extend_from_slice-2.ensures.items ∙ ap (λ (xs : List ℕ). xs ++ last) c.clear.ensures.items in
+    let line : c.as_slice.result.now ≡ (rest ++ front) ++ 10 ∷ [] = c.as_slice.ensures.value ∙ (c.in_ok-push.ensures.items ∙ ap (λ (xs : List ℕ). xs ++ 10 ∷ []) c.in_ok-extend_from_slice-2.ensures.items) in
+    let end : c.extend_from_slice-3.new.self.items ≡ last = c.in_ok-extend_from_slice-3.ensures.items ∙ ap (λ (xs : List ℕ). xs ++ last) c.clear.ensures.items in
     let told = c.in_ok-add-2.ensures (to.lines ++ c.as_slice.result.now) (c.in_ok-add.ensures to.lines to.told) in
     record {
       lines = (to.lines ++ ((rest ++ front) ++ 10 ∷ [])) ++ more;
