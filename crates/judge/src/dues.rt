@@ -48,7 +48,7 @@ impl Dues {
     {
         let todo = Lowest::new(alloc, places)?;
         let fresh = Lowest::new(alloc, due.len())?;
-        let flags = due.to_vec(alloc)?;
+        let flags = copied(alloc, due)?;
         Ok(Dues {
             known: true,
             flags,
@@ -186,6 +186,15 @@ impl Dues {
     {
         self.flags[edge.index()] == is
     }
+}
+
+/// The same flags, which are copied many at a time.
+pub(crate) fn copied(alloc: Global, flags: &[bool]) -> Result<Vec<bool>, AllocError>
+    ensures { IfOk result (λ copy. copy.items ≡ flags.now) }
+{
+    let mut copy = Vec::with_capacity(alloc, flags.len())?;
+    copy.extend_from_slice(flags)?;
+    Ok(copy)
 }
 
 /// Where the edge stands in the order of the cone, if it is there.

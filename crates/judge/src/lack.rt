@@ -9,6 +9,7 @@ ghost use Rattle.judge.specs.Dues.{due_at};
 ghost use Rattle.judge.specs.Lacks.{lack_in, IsLackOf, IsSourceOf, IsSourceFor, IsSourceAt, IsAskedLack, NamesDue};
 ghost use Rattle.judge.specs.Lacks.{FindsMissing, FindsFirst, FindsFirstOf, FindsFirstOfDue, FindsLack, FindsFlags};
 
+use crate::dues::copied;
 use crate::laws::looks_follow;
 use crate::looks::Looks;
 use graph::{Cone, Graph, lists_stand};
@@ -165,7 +166,7 @@ impl Looks {
             Some(lack) => Ok(Found::Missing(lack)),
             None => {
                 let alloc = self.sums.alloc();
-                let due = self.sums.answers.dues.flags.as_slice().to_vec(alloc)?;
+                let due = copied(alloc, self.sums.answers.dues.flags.as_slice())?;
                 Ok(Found::Present(due))
             }
         }

@@ -145,7 +145,7 @@ returns-in_ok-due-in-None-clause-due g c =
     let due = two.sums.answers.dues.flags.items in
     let none = looked_none tells graph a one in
     let same : c.in_ok-due-in-None.due.items ≡ due =
-    c.in_ok-due-in-None.ensures.items_if_clones_equal (λ x y h. h) ∙ (c.as_slice.ensures.value ∙ ap (λ (v : Vec Bool Global). v.items) c.lack_again.ensures.answers.flags) in
+    c.in_ok-due-in-None.ensures ∙ (c.as_slice.ensures.value ∙ ap (λ (v : Vec Bool Global). v.items) c.lack_again.ensures.answers.flags) in
     subst (λ (l : List Bool). HasDue tells graph records cone plan a d one l) (sym {A = List Bool} same)
     (record {
       fits = c.due_again.ensures.kept.room.fits;
@@ -158,7 +158,7 @@ returns-in_ok-due-in-None-clause-due g c =
     })
 
 pub returns-in_ok-due-in-None-clause-flags : goal.returns-in_ok-due-in-None-clause-flags
-returns-in_ok-due-in-None-clause-flags g c on = sym (c.in_ok-due-in-None.ensures.items_if_clones_equal (λ x y h. h) ∙ c.as_slice.ensures.value)
+returns-in_ok-due-in-None-clause-flags g c on = sym (c.in_ok-due-in-None.ensures ∙ c.as_slice.ensures.value)
 
 pub returns-in-Some-clause-asked : goal.returns-in-Some-clause-asked
 returns-in-Some-clause-asked g c =
