@@ -11,7 +11,8 @@ use text::Text;
 pub fn names(alloc: Global, manifest: &Manifest, verbose: bool) -> Result<Names, AllocError> {
     let mut names = Names::new(alloc);
     for action in manifest.actions.as_slice() {
-        names.push(name_of(alloc, action, verbose)?.as_str())?;
+        let name = name_of(alloc, action, verbose)?;
+        names.push(name.as_str())?;
     }
     Ok(names)
 }
