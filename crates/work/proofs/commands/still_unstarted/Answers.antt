@@ -1,4 +1,4 @@
-use Rattle.std.proofs.Common.{refl, ◌∙◌, ap}
+use Rattle.std.proofs.Common.{◌∙◌, ap}
 use Rattle.work.specs.Commands.{count_unstarted}
 use Rattle.work.proofs.commands.still_unstarted.Goals as goal
 
