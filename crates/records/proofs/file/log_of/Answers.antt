@@ -7,5 +7,5 @@ returns g c = λ held to.
       read.0,
       (c.finish-log.result.1, read.1),
       read.2,
-      c.state_of-state.ensures (text_in held) (c.is_empty.ensures (text_in held) to) read.0 read.1 read.2,
+      c.state_of-state.ensures (text_in held) (c.is_empty-is_empty.ensures (text_in held) to) read.0 read.1 read.2,
     )
