@@ -32,13 +32,13 @@ err_of (Ok x) error is = absurd (false≢true error)
 err_of (Err e) error is = is
 
 -- an error says nothing of what was done, and no error nothing of what was not
-pub no_ok : {T E : Type 0} {P : Type 0} (r : Result T E) → is_err r ≡ true → OnOk r P
-no_ok (Ok x) error = absurd (false≢true error)
-no_ok (Err e) error = tt
+pub no_ok : {T E : Type 0} (P : Type 0) (r : Result T E) → is_err r ≡ true → OnOk r P
+no_ok P (Ok x) error = absurd (false≢true error)
+no_ok P (Err e) error = tt
 
-pub no_err : {T E : Type 0} {P : Type 0} (r : Result T E) → is_err r ≡ false → OnErr r P
-no_err (Ok x) no_error = tt
-no_err (Err e) no_error = absurd (true≢false no_error)
+pub no_err : {T E : Type 0} (P : Type 0) (r : Result T E) → is_err r ≡ false → OnErr r P
+no_err P (Ok x) no_error = tt
+no_err P (Err e) no_error = absurd (true≢false no_error)
 
 pub on_ok : {T E : Type 0} {P : Type 0} (r : Result T E) → P → OnOk r P
 on_ok (Ok x) p = p

@@ -156,16 +156,20 @@ cut_all first now paths (x ∷ left) none so_far = absurd (omega (arith, none))
 
 -- ---- numbers that all stand in a list of numbers, each of which stands there once
 
-sum_times : List ℕ → List ℕ → ℕ
+abbrev sum_times : List ℕ → List ℕ → ℕ
 sum_times xs [] = 0
 sum_times xs (e ∷ es) = times xs e + sum_times xs es
 
 sum_none : (es : List ℕ) → sum_times [] es ≡ 0
 sum_none [] = refl
-sum_none (e ∷ es) = sum_none es
+sum_none (e ∷ es) =
+    let rest = sum_none es in
+    let none : times [] e ≡ 0 = refl in
+    let whole : sum_times [] (e ∷ es) ≡ times [] e + sum_times [] es = refl in
+    omega (arith, rest, none, whole)
 
 sum_push : (es : List ℕ) (n : ℕ) (xs : List ℕ) → sum_times (n ∷ xs) es ≡ sum_times xs es + times es n
-sum_push [] n xs = refl
+sum_push [] n xs = let none : times [] n ≡ 0 = refl in let nothing : sum_times xs [] ≡ 0 = refl in let one : sum_times (n ∷ xs) [] ≡ 0 = refl in omega (arith, none, nothing, one)
 sum_push (e ∷ es) n xs =
     let rest = sum_push es n xs in
     let whole : sum_times (n ∷ xs) (e ∷ es) ≡ times (n ∷ xs) e + sum_times (n ∷ xs) es = refl in

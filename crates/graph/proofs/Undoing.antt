@@ -231,29 +231,27 @@ loaded_each actions chosen rising = record {
 -- each of them stands once
 loaded_chosen : (actions : List Action) (chosen : List Choice) (e : ℕ) → has_number (numbers_in (loaded_all actions chosen)) e ≡ true → has_number (chosen_edges chosen) e ≡ true
 loaded_chosen actions [] e has = absurd (false≢true has)
-loaded_chosen actions (c ∷ cs) e has = by c.statement (subst (λ (l : List ℕ). has_number l e ≡ true) (numbers_more (loaded_by c.edge (action_at actions c.edge) c.statement) (loaded_all actions cs)) has)
+loaded_chosen actions (c ∷ cs) e has = by c.statement (loaded_chosen actions cs e) (subst (λ (l : List ℕ). has_number l e ≡ true) (numbers_more (loaded_by c.edge (action_at actions c.edge) c.statement) (loaded_all actions cs)) has)
   where
-    by : (o : Option ℕ) → has_number (numbers_in (loaded_by c.edge (action_at actions c.edge) o) ++ numbers_in (loaded_all actions cs)) e ≡ true → has_number (chosen_edges (c ∷ cs)) e ≡ true
-    by None there = or_right (c.edge == e) (has_number (chosen_edges cs) e) (loaded_chosen actions cs e there)
-    by (Some k) there = elim (or_cases (c.edge == e) (has_number (numbers_in (loaded_all actions cs)) e) there) [
+    by : (o : Option ℕ) → (has_number (numbers_in (loaded_all actions cs)) e ≡ true → has_number (chosen_edges cs) e ≡ true) → has_number (numbers_in (loaded_by c.edge (action_at actions c.edge) o) ++ numbers_in (loaded_all actions cs)) e ≡ true
+        → has_number (chosen_edges (c ∷ cs)) e ≡ true
+    by None rest there = or_right (c.edge == e) (has_number (chosen_edges cs) e) (rest there)
+    by (Some k) rest there = elim (or_cases (c.edge == e) (has_number (numbers_in (loaded_all actions cs)) e) there) [
       | inl here ↦ or_left (c.edge == e) (has_number (chosen_edges cs) e) here
-      | inr later ↦ or_right (c.edge == e) (has_number (chosen_edges cs) e) (loaded_chosen actions cs e later)
+      | inr later ↦ or_right (c.edge == e) (has_number (chosen_edges cs) e) (rest later)
     ]
 
 pub loaded_once : (actions : List Action) (chosen : List Choice) → AreRising (chosen_edges chosen) → StandOnce (numbers_in (loaded_all actions chosen))
 loaded_once actions [] rising = once_none
 loaded_once actions (c ∷ cs) rising =
-    subst StandOnce (sym (numbers_more (loaded_by c.edge (action_at actions c.edge) c.statement) (loaded_all actions cs))) (by c.statement)
+    subst StandOnce (sym (numbers_more (loaded_by c.edge (action_at actions c.edge) c.statement) (loaded_all actions cs))) (by c.statement (loaded_once actions cs (rising_tail c.edge (chosen_edges cs) rising)))
   where
     rest : List ℕ
     rest = numbers_in (loaded_all actions cs)
 
-    later : StandOnce rest
-    later = loaded_once actions cs (rising_tail c.edge (chosen_edges cs) rising)
-
     absent : has_number rest c.edge ≡ false
     absent = false_from_ne_true (has_number rest c.edge) (λ there. false≢true (sym (rising_absent c.edge (chosen_edges cs) rising) ∙ loaded_chosen actions cs c.edge there))
 
-    by : (o : Option ℕ) → StandOnce (numbers_in (loaded_by c.edge (action_at actions c.edge) o) ++ rest)
-    by None = later
-    by (Some k) = once_append (c.edge ∷ []) rest (once_push [] c.edge once_none refl) later (λ n here. subst (λ (m : ℕ). has_number rest m ≡ false) (has_number-is c.edge n here) absent)
+    by : (o : Option ℕ) → StandOnce rest → StandOnce (numbers_in (loaded_by c.edge (action_at actions c.edge) o) ++ rest)
+    by None later = later
+    by (Some k) later = once_append (c.edge ∷ []) rest (once_push [] c.edge once_none refl) later (λ n here. subst (λ (m : ℕ). has_number rest m ≡ false) (has_number-is c.edge n here) absent)

@@ -55,7 +55,7 @@ impl<'a> FewPieces<'a> {
 
     /// Puts a piece at the end. Where memory is refused, the list stays as it was and the piece comes back.
     pub fn push(&mut self, piece: Piece<'a>) -> Result<(), AllocFailed<Piece<'a>>>
-        ensures ok { OnOk result (self.new ≡ self.old ++ piece ∷ []) }
+        ensures ok { OnOk result (self.new ≡ self.old ++ piece.entry ∷ []) }
         ensures err { OnErr result (self.new ≡ self.old) }
     {
         self.pieces.push(piece)

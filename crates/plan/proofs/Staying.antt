@@ -112,7 +112,9 @@ without_at file zero (f ∷ files) once low is = by (f == file) (eq-eqb f file i
     by : (b : Bool) → b ≡ true → cond b (without file files) (f ∷ without file files) ≡ files
     by true same = without_none file files (subst (λ (n : ℕ). has_number files n ≡ false) is once.0)
     by false other = absurd (false≢true other)
-without_at file (suc k) (f ∷ files) once low is = by (f == file) refl (without_at file k files once.1 (omega (arith, low)) is)
+without_at file (suc k) (f ∷ files) once low is =
+    let next : suc k + 1 ≡ suc (k + 1) = omega arith in
+    by (f == file) refl (without_at file k files once.1 (omega (arith, low)) is) ∙ ap (λ (n : ℕ). f ∷ (take k files ++ drop n (f ∷ files))) (sym next)
   where
     later : has_number files file ≡ true
     later = subst (λ (n : ℕ). has_number files n ≡ true) is (listed_at files k (omega (arith, low)))
@@ -360,13 +362,13 @@ may_go_on_by before after file additions plan load over some loaded alone = reco
 
 has_without : (file p : ℕ) (loads : List ℕ) → has_number (without file loads) p ≡ true → has_number loads p ≡ true
 has_without file p [] there = there
-has_without file p (f ∷ loads) there = by (f == file) there
+has_without file p (f ∷ loads) there = by (f == file) (has_without file p loads) there
   where
-    by : (b : Bool) → has_number (cond b (without file loads) (f ∷ without file loads)) p ≡ true → has_number (f ∷ loads) p ≡ true
-    by true rest = or_right (f == p) (has_number loads p) (has_without file p loads rest)
-    by false rest = elim (or_cases (f == p) (has_number (without file loads) p) rest) [
+    by : (b : Bool) → (has_number (without file loads) p ≡ true → has_number loads p ≡ true) → has_number (cond b (without file loads) (f ∷ without file loads)) p ≡ true → has_number (f ∷ loads) p ≡ true
+    by true held rest = or_right (f == p) (has_number loads p) (held rest)
+    by false held rest = elim (or_cases (f == p) (has_number (without file loads) p) rest) [
       | inl here ↦ or_left (f == p) (has_number loads p) here
-      | inr later ↦ or_right (f == p) (has_number loads p) (has_without file p loads later)
+      | inr later ↦ or_right (f == p) (has_number loads p) (held later)
     ]
 
 -- they are marked as they were

@@ -4,8 +4,8 @@ use Rattle.graph.specs.InTurn.{ClaimsGains}
 use Rattle.graph.proofs.Parts.{if_ok_then, on_err_then}
 use Rattle.graph.proofs.loaded.claim_more.Goals as goal
 
-pub claim_within-requires-clause-fits : goal.claim_within-requires-clause-fits
-claim_within-requires-clause-fits c =
+pub claim_within-claimed-requires-clause-fits : goal.claim_within-claimed-requires-clause-fits
+claim_within-claimed-requires-clause-fits c =
     let size = ap (λ (l : List (Option ℕ)). length l) (c.into_vec-grown.ensures ∙ c.replace.ensures.value) in
     let fits = c.requires.fits in
     omega (arith, size, fits)

@@ -12,7 +12,7 @@ use Rattle.graph.proofs.Losing.{gained_longer, slice_whole}
 use Rattle.graph.proofs.loaded.claim_within.Goals as goal
 
 pub returns-in_err-resize-clause-err : goal.returns-in_err-resize-clause-err
-returns-in_err-resize-clause-err c = some_err c.from_residual.result c.in_err-resize.ensures.err.0
+returns-in_err-resize-clause-err c = some_err c.from_residual.result c.in_err-resize.ensures.items
 
 pub claim_gains-requires-clause-outputs : goal.claim_gains-requires-clause-outputs
 claim_gains-requires-clause-outputs c =

@@ -7,14 +7,14 @@ use Rattle.graph.proofs.Parts.{on_ok_then}
 use Rattle.graph.proofs.Using.{length-more}
 use Rattle.graph.proofs.loaded.grow_users.Goals as goal
 
-pub use_gains-requires-clause-inputs : goal.use_gains-requires-clause-inputs
-use_gains-requires-clause-inputs c =
+pub use_gains-used-requires-clause-inputs : goal.use_gains-used-requires-clause-inputs
+use_gains-used-requires-clause-inputs c =
     let users = c.args.users.now in
     let long : length c.lengthen.new.self ≡ c.args.paths = ap (λ (l : List (List ℕ)). length l) c.in_ok-lengthen.ensures.ok ∙ length-more users c.args.paths c.requires.longer in
     subst (λ (n : ℕ). AreInputsBelow n c.args.gains.now) (sym {A = ℕ} long) c.requires.inputs
 
 pub returns-then-is_err-clause-ok : goal.returns-then-is_err-clause-ok
-returns-then-is_err-clause-ok c = no_ok c.use_gains-used.result (sym c.if-is_err.ensures.value)
+returns-then-is_err-clause-ok c = no_ok _ c.use_gains-used.result (sym c.if-is_err.ensures.value)
 
 pub returns-then-is_err-clause-err : goal.returns-then-is_err-clause-err
 returns-then-is_err-clause-err c =
@@ -27,4 +27,4 @@ returns-else-is_err-clause-ok c =
     on_ok_then c.use_gains-used.result c.use_gains-used.ensures.ok (λ used. used ∙ ap (λ (l : List (List ℕ)). users_given c.args.gains.now l c.args.chosen.now) c.in_ok-lengthen.ensures.ok)
 
 pub returns-else-is_err-clause-err : goal.returns-else-is_err-clause-err
-returns-else-is_err-clause-err c = no_err c.use_gains-used.result (sym c.if-is_err.ensures.value)
+returns-else-is_err-clause-err c = no_err _ c.use_gains-used.result (sym c.if-is_err.ensures.value)

@@ -4,6 +4,7 @@ use Rattle.model.specs.Graph.{has}
 use Rattle.log_text.specs.Kept.{AreDistinct}
 use Rattle.log_text.proofs.Bytes.{take_more}
 use Rattle.log_text.proofs.Distinct.{distinct_push}
+use Rattle.log_text.proofs.KeptRecords.{none_twice}
 use Rattle.log_text.proofs.Parts.{stands_before}
 use Rattle.log_text.proofs.outputs.few_are_distinct.Goals as goal
 
@@ -14,6 +15,9 @@ returns-then-is_among-clause-twice c = λ no distinct.
     let x = c.index-outputs-place.result in
     let there : has (take i outputs) x ≡ true = ap (has (take i outputs)) (sym c.as_str.ensures) ∙ (sym c.is_among.ensures ∙ c.if-is_among.true) in
     stands_before outputs i x c.loop-place-test.true c.index-outputs-place.is there distinct
+
+pub loop-place-init : goal.loop-place-init
+loop-place-init c = none_twice
 
 pub loop-place-preserved : goal.loop-place-preserved
 loop-place-preserved c =

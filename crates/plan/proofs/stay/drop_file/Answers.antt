@@ -14,7 +14,7 @@ pub returns-in-Some : goal.returns-in-Some
 returns-in-Some c =
     let place = c.in-Some.place in
     let held = c.as_slice.ensures.value in
-    c.remove.ensures.by_index.1.1
+    c.remove.ensures.by_index.2
     ∙ (sym (ap (λ (l : List ℕ). take place l ++ drop (place + 1) l) held) ∙ (sym c.in-Some.ensures.found ∙ ap (without c.args.file) held))
 
 pub returns-in-None : goal.returns-in-None

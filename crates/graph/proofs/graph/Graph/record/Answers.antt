@@ -54,4 +54,4 @@ returns-else-is_err-clause-users c =
     on_ok c.set-recorded.result (subst (FrontsStay graph.users) (sym {A = List (List ℕ)} c.in_ok-push_all.ensures.ok) (pushed_front graph.users fresh c.args.edge within))
 
 pub returns-then-is_err-clause-users : goal.returns-then-is_err-clause-users
-returns-then-is_err-clause-users c = no_ok c.set-recorded.result (sym c.if-is_err.ensures.value)
+returns-then-is_err-clause-users c = no_ok _ c.set-recorded.result (sym c.if-is_err.ensures.value)

@@ -6,7 +6,7 @@ use Rattle.graph.proofs.Parts.{on_ok_then}
 use Rattle.graph.proofs.users.Users.lengthen.Goals as goal
 
 pub returns-then-is_err-clause-ok : goal.returns-then-is_err-clause-ok
-returns-then-is_err-clause-ok c = no_ok c.add_paths-added.result (sym c.if-is_err.ensures.value)
+returns-then-is_err-clause-ok c = no_ok _ c.add_paths-added.result (sym c.if-is_err.ensures.value)
 
 pub returns-then-is_err-clause-err : goal.returns-then-is_err-clause-err
 returns-then-is_err-clause-err c =
@@ -19,4 +19,4 @@ returns-else-is_err-clause-ok c =
     on_ok_then c.add_paths-added.result c.add_paths-added.ensures.ok (λ added. added ∙ ap (λ (n : ℕ). c.args.self.now ++ replicate (c.args.paths - n) []) c.len-known.ensures)
 
 pub returns-else-is_err-clause-err : goal.returns-else-is_err-clause-err
-returns-else-is_err-clause-err c = no_err c.add_paths-added.result (sym c.if-is_err.ensures.value)
+returns-else-is_err-clause-err c = no_err _ c.add_paths-added.result (sym c.if-is_err.ensures.value)

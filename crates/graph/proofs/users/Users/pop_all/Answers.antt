@@ -1,8 +1,8 @@
-use Rattle.std.proofs.Common.{◌≡◌, ◌∙◌, ◌<◌, ◌++◌, ◌∷◌, [], ℕ, ap, refl, sym, subst, arith, length}
+use Rattle.std.proofs.Common.{◌≡◌, ◌∙◌, ◌<◌, ◌++◌, ◌∷◌, [], ℕ, List, ap, refl, sym, subst, arith, length}
 use Rattle.std.specs.List.{AllByRecursion}
 use Rattle.std.proofs.lemmas.List.{append-nil, length-set}
 use Rattle.theory.proofs.Lists.{all_parts}
-use Rattle.graph.specs.Held.{times}
+use Rattle.graph.specs.Held.{pushed, times}
 use Rattle.graph.proofs.Ends.{popped_next}
 use Rattle.graph.proofs.Fronts.{cut_none, cut_next, cut_all}
 use Rattle.graph.proofs.Lists.{length-pushed}
@@ -10,12 +10,15 @@ use Rattle.graph.proofs.Parts.{index_all}
 use Rattle.graph.proofs.users.Users.pop_all.Goals as goal
 
 pub loop-last-init : goal.loop-last-init
-loop-last-init c = record {
-  fits = refl;
-  within = index_all (length c.args.self.now) c.args.paths.now c.requires;
-  behind = ([], sym (append-nil c.args.paths.now), cut_none (times []) c.args.self.now (λ p. refl));
-  popped = λ users edge is. is;
-}
+loop-last-init c =
+    let left = c.split_at.result.1.now in
+    let all : left ≡ c.args.paths.now = c.split_at.ensures.back in
+    record {
+      fits = refl;
+      within = subst (AllByRecursion (λ p. p < length c.args.self.now)) (sym {A = List ℕ} all) (index_all (length c.args.self.now) c.args.paths.now c.requires);
+      behind = ([], sym {A = List ℕ} all ∙ sym (append-nil left), cut_none (times []) c.args.self.now (λ p. refl));
+      popped = λ users edge is. is ∙ ap (λ (l : List ℕ). pushed users l edge) (sym {A = List ℕ} all);
+    }
 
 pub loop-last-preserved : goal.loop-last-preserved
 loop-last-preserved c =

@@ -46,8 +46,8 @@ drop_file-requires c =
     let may = c.requires.may.1 in
     once_ordered c.requires.may.0 c.args.self.now.loads.items may.over.loading.loads_are.ordered
 
-pub invariant_of-self : goal.invariant_of-self
-invariant_of-self c =
+pub invariant_of-self-2 : goal.invariant_of-self-2
+invariant_of-self-2 c =
     let plan = c.args.self.now in
     record {
       fits = plan.fits;
