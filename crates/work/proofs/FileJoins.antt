@@ -273,7 +273,7 @@ module _ {asked : Asked} {store : Store} {graph : Graph} {state : Work} {file : 
       files_kept e = ap (λ (l : List Action). dyndep_of (get_or l e no_action)) joined.grown.actions
 
       maker_kept : (p : ℕ) → (links_of grown).maker p ≡ (links_of loaded).maker p
-      maker_kept p = ap (λ v. maker_in v.items p) joined.grown.makers
+      maker_kept p = ap (λ v. maker_in v p) joined.grown.makers
 
       still_alone : HasGrownAlone numbers before.file graph loaded → HasGrownAlone numbers before.file graph grown
       still_alone alone = record {
