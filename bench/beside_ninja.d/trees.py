@@ -191,6 +191,24 @@ def modules_far(folder, edges):
     modules(folder, edges, needs=three_before)
 
 
+def strewn(folder, edges, made=False):
+    """Edges of which each ten, strewn over the whole file, name a dyndep file that no edge makes. It adds the source that they read already."""
+    count = edges // OF_ONE_FILE
+    head = "rule copy\n  command = cp $in $out\nrule touch\n  command = : > $out\n"
+    lines = [f"build files/d{k}: copy files/d{k}.in\n" for k in range(count)] if made else []
+    lines += [f"build out/o{n}: touch start || files/d{n % count}\n  dyndep = files/d{n % count}\n" for n in range(edges)]
+    for k in range(count):
+        told = [f"build out/o{n}: dyndep | start\n" for n in range(k, edges, count)]
+        write(folder, f"files/d{k}{'.in' * made}", "".join(["ninja_dyndep_version = 1\n", *told]))
+    write(folder, "build.ninja", head + "".join(lines))
+    empty(folder, ["start"])
+
+
+def strewn_made(folder, edges):
+    """The same, each file made by a command."""
+    strewn(folder, edges, made=True)
+
+
 # How many files stand below the phony edge of `gathered`.
 GATHERED = 10_000
 
@@ -202,6 +220,26 @@ def gathered(folder, edges):
     lines += [f"build out/c{n}: touch out/c{n - 1} | all_files\n" for n in range(1, edges)]
     write(folder, "build.ninja", "".join(lines))
     empty(folder, ["start", *files])
+
+
+# The target that `asked:` asks for.
+ONE = "one"
+
+# What a compiler's command may have in front: 5 kB.
+FLAGS = " ".join(f"-Isome/where/include/folder{n} -DSOME_MACRO_{n}=1" for n in range(100))
+
+
+def long_commands(folder, edges, told=""):
+    """Edges with commands of 5 kB, of a source each."""
+    lines = [f"flags = {FLAGS}\nrule compile\n  command = : $flags -c $in -o $out; : > $out\n{told}"]
+    lines += [f"build obj/o{n}.o: compile src/s{n}.c\n" for n in range(edges)]
+    write(folder, "build.ninja", "".join(lines))
+    empty(folder, (f"src/s{n}.c" for n in range(edges)))
+
+
+def long_told(folder, edges):
+    """The same with a depfile each, and one edge besides."""
+    long_commands(folder, edges, f"  depfile = $out.d\n  deps = gcc\n{TOUCH}build {ONE}: touch\n")
 
 
 # What `bare.` takes out of a build file: the lines by which edges name dyndep files and pools, pools, and a phony edge that all read.

@@ -29,8 +29,8 @@ use site::Site;
 use std::alloc::{AllocError, Global};
 use text::{Path, Text};
 use work::{
-    Options, Report, Stop, Work, first_output, orders_stand, path_text, source_to_load,
-    sources_load,
+    Options, Report, Stop, Work, first_output, makers_stand_first, orders_stand, path_text,
+    source_to_load, sources_load,
 };
 
 /// Why commands are due that [`crate::build`] would start, by what the build files, the logs and the files say now. It takes the same
@@ -131,6 +131,7 @@ fn explain_run<S: Site>(site: &mut S, state: &mut Work<'_>) -> Result<Explained,
     ensures tells { TellsDueAt S.tells S.world site.old site.new state.old state.new result }
 {
     orders_stand(&state.graph);
+    makers_stand_first(&state.graph);
     let due = state.check_sources(site)?;
     let explained = explain_due(site, state, &due)?;
     Ok(explained)

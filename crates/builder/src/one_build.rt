@@ -278,6 +278,7 @@ fn fresh_of(alloc: Global, graph: &Graph, asked: &Asked<'_>) -> Result<Fresh, Re
     ensures plan { IfOk result (λ fresh. IsPlanFor graph.now fresh.cone asked.now.limits fresh.plan) }
     ensures looks { IfOk result (λ fresh. AreUnasked graph.now fresh.looks) }
     ensures answers { IfOk result (λ fresh. KnowsNone fresh.looks.sums.answers) }
+    ensures dues { IfOk result (λ fresh. fresh.looks.sums.answers.dues.known ≡ false) }
     ensures tick { IfOk result (λ fresh. fresh.tick ≡ file_in asked.now.folder tick_name) }
     ensures starts { IfOk result (λ fresh. vec_len fresh.starts ≡ length graph.now.manifest.lines) }
     ensures cone { IfOk result (λ fresh. IsConeRecorded graph.now asked.now.targets fresh.cone) }

@@ -188,10 +188,11 @@ reason_stays graph records flags seen new stays e depfile reason by = record {
   stale = by.stale;
 }
 
+pub answer_stays : (graph : Graph) (records : Records) (seen new : List Look) → StaysKnown seen new → (e : ℕ) (answer : Answer) → IsAnswerSeen graph records seen e answer → IsAnswerSeen graph records new e answer
+answer_stays graph records seen new stays e answer was = record { reason = was.reason; is = was.is; seen = reason_stays graph records [] seen new stays e answer.depfile was.reason was.seen }
+
 pub answers_stay : (graph : Graph) (records : Records) (seen new : List Look) → StaysKnown seen new → (answers : Answers) → AreAnswers graph records seen answers → AreAnswers graph records new answers
-answers_stay graph records seen new stays answers right e answer is =
-    let was = right e answer is in
-    record { reason = was.reason; is = was.is; seen = reason_stays graph records [] seen new stays e answer.depfile was.reason was.seen }
+answers_stay graph records seen new stays answers right e answer is = answer_stays graph records seen new stays e answer (right e answer is)
 
 -- and so it is of the same answers
 pub known_kept : (graph : Graph) (records : Records) (old new : Looks) → StaysKnown old.seen.items new.seen.items → new.sums.answers ≡ old.sums.answers → KnowsRight graph records old → KnowsRight graph records new
@@ -231,9 +232,8 @@ module _ (old new : Records) (same : TellSame old new) where
     told = subst (ArePlaces tolds deps_in_force ds paths) same.deps_places is.told;
   }
 
-  pub answers_told : (graph : Graph) (seen : List Look) (answers : Answers) → AreAnswers graph old seen answers → AreAnswers graph new seen answers
-  answers_told graph seen answers right e answer is =
-      let was = right e answer is in
+  pub answer_told : (graph : Graph) (seen : List Look) (e : ℕ) (answer : Answer) → IsAnswerSeen graph old seen e answer → IsAnswerSeen graph new seen e answer
+  answer_told graph seen e answer was =
       let by = was.seen in
       record {
         reason = was.reason;
@@ -250,3 +250,6 @@ module _ (old new : Records) (same : TellSame old new) where
           stale = by.stale;
         };
       }
+
+  pub answers_told : (graph : Graph) (seen : List Look) (answers : Answers) → AreAnswers graph old seen answers → AreAnswers graph new seen answers
+  answers_told graph seen answers right e answer is = answer_told graph seen e answer (right e answer is)

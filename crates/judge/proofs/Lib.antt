@@ -21,4 +21,15 @@ pub mod KeptAnswers
 pub mod LoadedAnswers
 pub mod FoundDues
 pub mod Lacking
+pub mod RuledAliases
+pub mod RuledStays
+pub mod RuledMore
+pub mod RuledAgain
+pub mod NotedPlaces
+pub mod SourcesSeen
+pub mod KeptFlags
+pub mod KeptSources
+pub mod AfterMakers
+pub mod RuledDues
+pub mod AskedAny
 pub mod Finding

@@ -1,5 +1,6 @@
 -- What was found of commands is right after the load of a dyndep file, but for those that named it.
 use Rattle.std.proofs.Common.{◌≡◌, inl, inr, ℕ, zero, suc, ◌<◌, ◌==◌, ◌||◌, not, Bool, true, false, List, [], ◌∷◌, ◌++◌, Option, Some, None, is_some, if◌then◌else◌, map, length, slice_get, arith, refl, sym, ◌∙◌, ap, subst}
+use Rattle.std.specs.List.{list_any}
 use Rattle.std.specs.Option.{option_and_then}
 use Rattle.std.proofs.lemmas.Bool.{cases_Bool, or_left, or_right, eq-eqb}
 use Rattle.std.proofs.lemmas.List.{length-append}
@@ -13,19 +14,22 @@ use Rattle.model.specs.Judgement.{OutputFacts, InputFacts}
 use Rattle.model.specs.OutOfDate.{deps_start}
 use Rattle.model.specs.Reading.{IsAlias, Counts, IsRead, Itself, Through}
 use Rattle.model.specs.Records.{Made, in_force, deps_in_force}
+use Rattle.theory.proofs.Lists.{has_number-left, has_number-right}
 use Rattle.theory.proofs.Growth.{HasGrown, grown_by, maker_still, once_back}
 use Rattle.theory.proofs.Makers.{maker_has, maker_is}
+use Rattle.paths.specs.Lists.{line_at, line_regular_inputs}
 use Rattle.paths.specs.Numbers.{HaveOnePlace}
 use Rattle.paths.specs.Told.{text_at}
 use Rattle.graph.specs.declared.graph.Graph.{Graph}
 use Rattle.graph.specs.Alias.{if_phony, is_any, has_inputs, counts_if_present}
-use Rattle.graph.specs.Links.{links_of}
+use Rattle.graph.specs.Links.{links_of, needs_at}
 use Rattle.graph.specs.Told.{declared_by}
 use Rattle.log_text.specs.declared.deps.Deps.{Deps}
 use Rattle.log_text.specs.declared.done.Done.{Done}
 use Rattle.log_text.specs.Kept.{Saying, Telling, Table, AreTold, joined, tellings}
 use Rattle.log_text.specs.BuildLog.{Keeps, made_of, makings, saying}
 use Rattle.log_text.specs.DepsLog.{Keeps as KeepsDeps, AreSaidBy, tolds}
+use Rattle.plan.specs.declared.plan.Plan.{Plan}
 use Rattle.records.specs.declared.records.Records.{Records}
 use Rattle.judge.specs.declared.answers.Answer.{Answer}
 use Rattle.judge.specs.declared.answers.Answers.{Answers}
@@ -36,8 +40,12 @@ use Rattle.judge.specs.Seen.{look_at}
 use Rattle.judge.specs.Summaries.{AreOutputs, AreInputs}
 use Rattle.judge.specs.Facts.{flag_at, AreKnownOf, AreAsked, one_input, seen_stamp, seen_inputs, IsReadAmong}
 use Rattle.judge.specs.Answers.{seen_output, AreReadSeen, AreMadeSeen, IsReasonWith, IsStaleWith, IsAnswerSeen, AreAnswers, KnowsOthers, HasGrownBy, StandBoth, AreKnownStill}
+use Rattle.judge.specs.UnderWay.{judged_due}
+use Rattle.judge.specs.Dues.{due_at, due_by, is_made_due, reads_due}
+use Rattle.judge.specs.Ruled.{is_absent_seen, is_due_seen, WasSourceAsked, IsAnyAbsentAsked, IsAnyDueAsked, IsAliasRuled, IsRuled}
 use Rattle.judge.proofs.Answered.{no_answer}
 use Rattle.judge.proofs.Known.{text_in_front, known_of}
+use Rattle.judge.proofs.RuledStays.{any_stays, any_where}
 
 -- ---- what two lists of records that are known by the same log have in force
 
@@ -141,7 +149,7 @@ module _ (edges : List ℕ) (old new : Graph) (grown : HasGrownBy edges old new)
   grow = grown_by grown.file grown.additions few many grown.grown
 
   -- another edge is what it was
-  edge_same : (e : ℕ) → has_number edges e ≡ false → edge_at many (suc e) ≡ edge_at few (suc e)
+  pub edge_same : (e : ℕ) → has_number edges e ≡ false → edge_at many (suc e) ≡ edge_at few (suc e)
   edge_same e other = grown.grown.others (suc e) (grown.others e other)
 
   -- and so is a phony one
@@ -201,7 +209,7 @@ module _ (edges : List ℕ) (old new : Graph) (grown : HasGrownBy edges old new)
       ap (λ (t : List ℕ). t ∷ map (text_at new.manifest.paths) ns) (text_same n (within n (or_left (n == n) (has_number ns n) (eq-eqb n n refl))))
       ∙ ap (λ (l : List (List ℕ)). text_at old.manifest.paths n ∷ l) (texts_same ns (λ p h. within p (or_right (n == p) (has_number ns p) h)))
 
-  made_same : (e : ℕ) → has_number edges e ≡ false → (links_of new).outputs e ≡ (links_of old).outputs e
+  pub made_same : (e : ℕ) → has_number edges e ≡ false → (links_of new).outputs e ≡ (links_of old).outputs e
   made_same e other =
       same_numbers new.manifest.paths new.apart ((links_of new).outputs e) ((links_of old).outputs e) (both.after.outputs_within e) (λ p h. longer p (both.before.outputs_within e p h))
       (both.after.outputs_are e ∙ (ap outputs (edge_same e other) ∙ (sym (both.before.outputs_are e) ∙ sym (texts_same ((links_of old).outputs e) (both.before.outputs_within e)))))
@@ -353,6 +361,89 @@ module _ (edges : List ℕ) (old new : Graph) (grown : HasGrownBy edges old new)
             stale = subst (λ (edge : Edge). IsStaleWith edge answer.depfile by.outputs found.reason) (sym (edge_same e other)) by.stale;
           };
         }
+
+  -- a load brings no line
+  pub count_same : length new.manifest.lines ≡ length old.manifest.lines
+  count_same = sym both.after.fits ∙ (grown.grown.as_many ∙ both.before.fits)
+
+  -- ---- the rule of one edge
+
+  later_back : (m : ℕ) (n : Option ℕ) → later_number n ≡ Some (suc m) → n ≡ Some m
+  later_back m None is = absurd (none_job (suc m) is)
+  later_back m (Some d) is = ap (λ (k : ℕ). Some k) (same_job d m is)
+
+  -- what made a path makes it still
+  pub maker_kept : (p m : ℕ) → p < length old.manifest.paths → (links_of old).maker p ≡ Some m → (links_of new).maker p ≡ Some m
+  maker_kept p m lt is =
+      later_back m ((links_of new).maker p) (sym (made_then p lt ((links_of new).maker p) refl) ∙ maker_still few many grow grown.once (text_at old.manifest.paths p) (suc m) (made_before p lt (Some m) is))
+
+  module _ (e : ℕ) (other : has_number edges e ≡ false) where
+    regular_same : (links_of new).regular e ≡ (links_of old).regular e
+    regular_same =
+        same_numbers new.manifest.paths new.apart ((links_of new).regular e) ((links_of old).regular e) (both.after.regular_within e) (λ p h. longer p (both.before.regular_within e p h))
+        (both.after.regular_are e ∙ (ap regular_inputs (edge_same e other) ∙ (sym (both.before.regular_are e) ∙ sym (texts_same ((links_of old).regular e) (both.before.regular_within e)))))
+
+    pub all_same : (links_of new).inputs e ≡ (links_of old).inputs e
+    all_same =
+        same_numbers new.manifest.paths new.apart ((links_of new).inputs e) ((links_of old).inputs e) (both.after.inputs_within e) (λ p h. longer p (both.before.inputs_within e p h))
+        (both.after.inputs_are e ∙ (ap inputs (edge_same e other) ∙ (sym (both.before.inputs_are e) ∙ sym (texts_same ((links_of old).inputs e) (both.before.inputs_within e)))))
+
+    pub phony_same : (links_of new).phony e ≡ (links_of old).phony e
+    phony_same = both.after.phony_is e ∙ (grow.phony (suc e) ∙ sym (both.before.phony_is e))
+
+    -- no source that it needs has got a maker
+    module _ (untouched : (p : ℕ) → has_number (needs_at (links_of old) e) p ≡ true → (links_of old).maker p ≡ None → (links_of new).maker p ≡ None) (due : List Bool) where
+      regular_needed : (p : ℕ) → has_number ((links_of old).regular e) p ≡ true → has_number (needs_at (links_of old) e) p ≡ true
+      regular_needed p listed =
+          has_number-left ((links_of old).inputs e) ((links_of old).recorded e) p
+          (has_number-left (line_regular_inputs (line_at old.manifest.lines e)) (line_at old.manifest.lines e).order_only_inputs p listed)
+
+      maker_same : (p : ℕ) → has_number (needs_at (links_of old) e) p ≡ true → p < length old.manifest.paths → (links_of new).maker p ≡ (links_of old).maker p
+      maker_same p needed lt = by_old ((links_of old).maker p) refl
+        where
+          by_old : (m : Option ℕ) → (links_of old).maker p ≡ m → (links_of new).maker p ≡ (links_of old).maker p
+          by_old None is = untouched p needed is ∙ sym is
+          by_old (Some m) is = maker_kept p m lt is ∙ sym is
+
+      made_flag : (source : Bool) (p : ℕ) → has_number (needs_at (links_of old) e) p ≡ true → p < length old.manifest.paths → due_by due source ((links_of new).maker p) ≡ due_by due source ((links_of old).maker p)
+      made_flag source p needed lt = ap (due_by due source) (maker_same p needed lt)
+
+      reads_again : reads_due (links_of new) due e ≡ reads_due (links_of old) due e
+      reads_again =
+          ap (λ (l : List ℕ). list_any (is_made_due (links_of new) due) l || list_any (is_made_due (links_of new) due) ((links_of new).recorded e)) regular_same
+          ∙ (ap (λ (l : List ℕ). list_any (is_made_due (links_of new) due) ((links_of old).regular e) || list_any (is_made_due (links_of new) due) l) (grown.recorded e other)
+          ∙ (ap (λ (b : Bool). b || list_any (is_made_due (links_of new) due) ((links_of old).recorded e))
+          (any_where (is_made_due (links_of new) due) (is_made_due (links_of old) due) ((links_of old).regular e) (λ p listed. made_flag false p (regular_needed p listed) (both.before.regular_within e p listed)))
+          ∙ ap (λ (b : Bool). list_any (is_made_due (links_of old) due) ((links_of old).regular e) || b)
+          (any_where (is_made_due (links_of new) due) (is_made_due (links_of old) due) ((links_of old).recorded e)
+          (λ p listed. made_flag false p (has_number-right ((links_of old).inputs e) ((links_of old).recorded e) p listed) (both.before.recorded_within e p listed)))))
+
+      alias_again : (seen : List Look) (so : Bool) → IsAliasRuled (links_of old) seen due e so → IsAliasRuled (links_of new) seen due e so
+      alias_again seen so ruled = record {
+        of_nothing = λ empty.
+            subst (λ (l : List ℕ). IsAnyAbsentAsked seen l so) (sym (made_same e other)) (ruled.of_nothing (sym (ap (λ (l : List ℕ). length l == 0) all_same) ∙ empty));
+        of_inputs = λ some.
+            subst (λ (l : List ℕ). IsAnyDueAsked (links_of new) seen due l so) (sym regular_same)
+            (any_stays (WasSourceAsked (links_of old) seen) (WasSourceAsked (links_of new) seen) (is_due_seen (links_of old) seen due) (is_due_seen (links_of new) seen due) ((links_of old).regular e)
+            (λ p listed asked.
+            let lt = both.before.regular_within e p listed in
+            let needed = regular_needed p listed in
+            ((λ source. asked (sym (maker_same p needed lt) ∙ source)), made_flag (is_absent_seen seen p) p needed lt)) so (ruled.of_inputs (sym (ap (λ (l : List ℕ). length l == 0) all_same) ∙ some)));
+      }
+
+      -- of edges that named the file none is phony, and the others have what they had
+      pub ruled_again : (was is : Records) → AreKnownStill old new was is → (plan next : Plan) → judged_due new next e ≡ judged_due old plan e → (seen : List Look) (depfile : Bool) → IsRuled old was plan seen due depfile e
+          → IsRuled new is next seen due depfile e
+      ruled_again was is still plan next judged seen depfile ruled = record {
+        judged = λ d told. ruled.judged d (sym judged ∙ told);
+        alias = λ none phony. alias_again seen (due_at due e) (ruled.alias (sym judged ∙ none) (sym phony_same ∙ phony));
+        command = λ none plain.
+            let command = ruled.command (sym judged ∙ none) (sym phony_same ∙ plain) in
+            record {
+              reads = λ so. command.reads (sym reads_again ∙ so);
+              found = λ so. answer_again was is still seen e other (record { depfile = depfile; due = due_at due e }) (command.found (sym reads_again ∙ so));
+            };
+      }
 
   pub answers_again : (was is : Records) → AreKnownStill old new was is → (seen : List Look) (answers left : Answers) → KnowsOthers edges answers left → AreAnswers old was seen answers → AreAnswers new is seen left
   answers_again was is still seen answers left others right e answer at = elim (cases_Bool (has_number edges e)) [

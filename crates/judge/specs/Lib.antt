@@ -11,4 +11,6 @@ pub mod Stores
 pub mod Quiet
 pub mod UnderWay
 pub mod Dues
+pub mod Ruled
+pub mod KeptDues
 pub mod Lacks

@@ -1,12 +1,13 @@
 //! What was found of commands that were not judged.
 
-ghost use Rattle.std.specs.Prelude.{◌≡◌, ◌∷◌, [], IfSome, Some};
+ghost use Rattle.std.specs.Prelude.{◌≡◌, ◌∷◌, [], IfOk, IfSome, Some, false};
 ghost use Rattle.graph.specs.LoadedEdges.{numbers_in};
 ghost use Rattle.judge.specs.Answers.{answer_at, KnowsNone, KnowsSame, KnowsWith, KnowsOthers};
 
+use crate::dues::Dues;
 use graph::LoadedEdge;
 use paths::EdgeId;
-use std::alloc::Global;
+use std::alloc::{AllocError, Global};
 
 /// What was found of a command that was not judged.
 #[derive(Clone, Copy, Debug, PartialEq, Eq)]
@@ -37,22 +38,26 @@ impl Answer {
 pub struct Answers {
     /// By the number of the edge; none at all where nothing is kept.
     pub known: Vec<Option<Answer>>,
+    /// Which edges are due, as it was found last.
+    pub dues: Dues,
 }
 
 impl Answers {
-    /// Nothing is known, and no memory is taken.
-    pub(crate) fn new(alloc: Global) -> Answers
-        ensures { KnowsNone result }
+    /// Nothing is known, and no memory is taken but some bytes.
+    pub(crate) fn new(alloc: Global) -> Result<Answers, AllocError>
+        ensures none { IfOk result KnowsNone }
+        ensures dues { IfOk result (λ answers. answers.dues.known ≡ false) }
     {
-        Answers {
-            known: Vec::new(alloc),
-        }
+        let known = Vec::new(alloc);
+        let dues = Dues::new(alloc)?;
+        Ok(Answers { known, dues })
     }
 
     /// Makes room for what will be found of so many edges. Where memory is refused, there is as much room as before: what finds none is
     /// not kept.
     pub(crate) fn make_room(&mut self, edges: usize)
-        ensures { KnowsSame self.old self.new }
+        ensures same { KnowsSame self.old self.new }
+        ensures dues { self.new.dues ≡ self.old.dues }
     {
         let room = self.known.len();
         if room >= edges {
@@ -83,7 +88,8 @@ impl Answers {
 
     /// Notes what was found of the command of the edge, where there is room.
     pub(crate) fn note(&mut self, edge: EdgeId, answer: Answer)
-        ensures { KnowsWith edge answer self.old self.new }
+        ensures with_it { KnowsWith edge answer self.old self.new }
+        ensures dues { self.new.dues ≡ self.old.dues }
     {
         let place = edge.index();
         if place < self.known.len() {
@@ -91,16 +97,19 @@ impl Answers {
         }
     }
 
-    /// Forgets all: what was found of a command may be of a path that another one has made since then. It takes one step.
+    /// Forgets all, flags too: what was found of a command may be of a path that another one has made since then. It takes two steps.
     pub fn forget_all(&mut self)
-        ensures { KnowsNone self.new }
+        ensures none { KnowsNone self.new }
+        ensures dues { self.new.dues.known ≡ false }
     {
         self.known.clear();
+        self.dues.forget();
     }
 
     /// Forgets what was found of the edges whose dyndep file was loaded: they may read and make more.
     pub fn forget(&mut self, edges: &[LoadedEdge])
-        ensures { KnowsOthers (numbers_in edges.now) self.old self.new }
+        ensures others { KnowsOthers (numbers_in edges.now) self.old self.new }
+        ensures dues { self.new.dues ≡ self.old.dues }
     {
         for loaded in edges {
             self.forget_one(loaded.edge);
@@ -109,7 +118,8 @@ impl Answers {
 
     /// Forgets what was found of the edge.
     fn forget_one(&mut self, edge: EdgeId)
-        ensures { KnowsOthers (edge ∷ []) self.old self.new }
+        ensures others { KnowsOthers (edge ∷ []) self.old self.new }
+        ensures dues { self.new.dues ≡ self.old.dues }
     {
         let place = edge.index();
         if place < self.known.len() {

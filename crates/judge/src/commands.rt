@@ -6,7 +6,8 @@ ghost use Rattle.model.specs.Calls.{HasCause};
 ghost use Rattle.graph.specs.Links.{links_of};
 ghost use Rattle.judge.specs.Answers.{KnowsRight};
 ghost use Rattle.judge.specs.Looking.{HasLookedAt};
-ghost use Rattle.judge.specs.Dues.{is_made_due, reads_due, FindsDueCommand, FindsCleanCommand};
+ghost use Rattle.judge.specs.Dues.{is_made_due, reads_due, FindsCleanCommand};
+ghost use Rattle.judge.specs.Ruled.{FindsCommandRuled};
 ghost use Rattle.judge.specs.Summed.{AreSums};
 
 use crate::answers::Answer;
@@ -42,7 +43,8 @@ impl Looks {
         ensures cause { HasCause (S.world site.old) (S.world site.new) result }
         ensures summed { AreSums graph.now [] self.new.seen.items self.new.sums }
         ensures known { KnowsRight graph.now records.now self.new }
-        ensures due { FindsDueCommand S.tells S.world site.old site.new graph.now records.now self.old due.now edge result }
+        ensures dues { self.new.sums.answers.dues ≡ self.old.sums.answers.dues }
+        ensures ruled { FindsCommandRuled S.tells S.world site.old site.new graph.now records.now self.new due.now edge result }
         ensures clean { FindsCleanCommand S.tells S.world site.old site.new graph.now records.now self.old edge result }
     {
         looks_follow();

@@ -119,7 +119,7 @@ pub(crate) fn depfile_of<S: Site>(
 }
 
 /// What the edge does.
-fn command_of(graph: &Graph, edge: EdgeId) -> &Command
+pub(crate) fn command_of(graph: &Graph, edge: EdgeId) -> &Command
     requires within { edge < length graph.now.manifest.lines }
     requires command { (links_of graph.now).phony edge ≡ false }
     ensures { DoesCommand graph.now edge result.now }

@@ -3,6 +3,7 @@
 ghost use Rattle.std.specs.Prelude.{Bool};
 ghost use Rattle.model.specs.World.{World};
 ghost use Rattle.judge.specs.Answers.{AnswersFollow};
+ghost use Rattle.judge.specs.KeptDues.{DuesFollow};
 ghost use Rattle.judge.specs.Lasting.{SumsFollow};
 ghost use Rattle.judge.specs.Looking.{FilesStay, LooksFollow};
 
@@ -23,4 +24,10 @@ pub fn sums_follow()
 /// edges that did not name it.
 pub fn answers_follow()
     ensures { AnswersFollow }
+{}
+
+/// A law, which runs nothing: flags that are kept are right where what was seen stays and the records and the plan tell the same, where an
+/// edge that is judged is noted, and after the load of a dyndep file, where that is noted which it changes.
+pub fn dues_follow()
+    ensures { DuesFollow }
 {}

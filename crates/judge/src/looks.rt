@@ -41,10 +41,12 @@ impl Looks {
     pub fn new(alloc: Global, graph: &Graph) -> Result<Looks, AllocError>
         ensures unasked { IfOk result (λ looks. AreUnasked graph.now looks) }
         ensures answers { IfOk result (λ looks. KnowsNone looks.sums.answers) }
+        ensures dues { IfOk result (λ looks. looks.sums.answers.dues.known ≡ false) }
     {
+        let sums = Sums::new(alloc)?;
         Ok(Looks {
             seen: vec![in alloc; Look::Unasked; graph.paths()]?,
-            sums: Sums::new(alloc),
+            sums,
         })
     }
 

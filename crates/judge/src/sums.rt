@@ -1,6 +1,6 @@
 //! What was found of edges by what was seen: what the inputs of phony edges come to, and whether commands have to run.
 
-ghost use Rattle.std.specs.Prelude.{◌≡◌, ◌&&◌, not, true, false, OnErr};
+ghost use Rattle.std.specs.Prelude.{◌≡◌, ◌&&◌, not, true, false, IfOk, OnErr};
 ghost use Rattle.indexmap.specs.IndexMap.{IsEmpty, IsUnchanged};
 ghost use Rattle.model.specs.Graph.{has_number};
 ghost use Rattle.judge.specs.Answers.{KnowsNone};
@@ -32,17 +32,19 @@ pub struct Sums {
 
 impl Sums {
     /// Nothing is known.
-    pub fn new(alloc: Global) -> Sums
-        ensures summed { AreAnySums result }
-        ensures marked { AreAnyMarked result }
-        ensures answers { KnowsNone result.answers }
+    pub fn new(alloc: Global) -> Result<Sums, AllocError>
+        ensures summed { IfOk result AreAnySums }
+        ensures marked { IfOk result AreAnyMarked }
+        ensures answers { IfOk result (λ sums. KnowsNone sums.answers) }
+        ensures dues { IfOk result (λ sums. sums.answers.dues.known ≡ false) }
     {
-        Sums {
+        let answers = Answers::new(alloc)?;
+        Ok(Sums {
             alloc,
             by_edge: IndexMap::new(alloc),
             passing: Vec::new(alloc),
-            answers: Answers::new(alloc),
-        }
+            answers,
+        })
     }
 
     /// With what memory is taken.
@@ -68,6 +70,7 @@ impl Sums {
     pub fn forget_made(&mut self)
         ensures lasting { LeavesLasting self.old self.new }
         ensures answers { KnowsNone self.new.answers }
+        ensures dues { self.new.answers.dues.known ≡ false }
     {
         let room = self.by_edge.capacity();
         while let Some(edge) = self.passing.pop() {

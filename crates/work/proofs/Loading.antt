@@ -69,6 +69,9 @@ use Rattle.work.specs.declared.report.Refusal.TheVariants.{File as BuildFile, Ma
 use Rattle.work.specs.Standing.{grown_course, task_over, is_bound, IsUnstarted, StandsAt, HasAsked, BeginsAt, IsLoadNext, IsHeldLoad, IsRefusedBy, HasBegun, IsStopped, IsCutThere, files_left}
 use Rattle.work.specs.Joined.{WasHeld, IsUnread, IsUnfitBy, IsCircleBy, IsUnjoined, MayJoin, HasJoinedFile, GoesOnWith, HasRoomIn, StayKnown, IsAsBefore}
 use Rattle.work.specs.Loads.{HeldThen, IsRefusedFile, IsSaying, IsUnfitFor}
+use Rattle.judge.specs.UnderWay.{IsUnderWay}
+use Rattle.work.proofs.Asking.{known as store_known}
+use Rattle.work.proofs.Callers.{under_way}
 use Rattle.work.proofs.Fewer.{fewer_left}
 use Rattle.work.proofs.FileJoins.{none_unloaded, text_front, texts_front, same_graph}
 use Rattle.work.proofs.KnownClean.{listed_suc}
@@ -458,6 +461,19 @@ module _ (tells : Bool) (course : Course) (edges : List Edge) (phases : List Pha
             asked_load course.own course.asked course.store edges next course.entry.history new.history [] phases last
             (asked_later tells course.own (task_over course edges) steps course.entry now stands.on.carried.run tell call.more new.history call.grows phases last split (task_over course edges) course.store
             (was tell (kept_before course.own edges course.entry.history now.history new.history call.more call.grows so_far) (needed_before files.free needed)))
+
+        -- what was done so far is that of a build over the edges as they are now
+        module _ (room : HasRoomIn grown state after) (known : StayKnown graph grown state.records after.records) (logs : after.records.logs ≡ state.records.logs) where
+          abbrev on_there : IsOn tells later grown None after new
+          on_there = on_loaded tells here graph grown path additions gains stands.suits stands.goes state after new on_new
+              (record { fits = room.fits; looks = room.looks; logs = logs; known = known; changed = room.changed; tick = room.tick; starts = room.starts; failed = room.failed })
+              stand stand_grown content next_load.next reads order holds held_here gone.planned stated coned
+
+          pub under_grown : IsUnderWay grown after.records after.cone after.plan course.store (task_over course next).targets steps
+          under_grown =
+              under_way grown after.records after.cone after.plan course.store
+              (record { known = known course.store.records course.store.deps (store_known tells course edges phases graph state now stands).known; in_use = joined.recorded })
+              (task_over course next).targets (task_over course next) refl refl refl steps on_there.planned on_there.taken is_cone coned.numbers
 
         -- ---- the run goes on
 

@@ -91,6 +91,13 @@ impl<'a> Display<'a> {
         }
     }
 
+    /// How many commands are still to be started.
+    pub(crate) fn unstarted(&self) -> usize
+        ensures { result ≡ self.now.unstarted }
+    {
+        self.unstarted
+    }
+
     /// With what its texts are made.
     pub fn alloc(&self) -> Global {
         self.alloc

@@ -9,12 +9,13 @@ ghost use Rattle.work.specs.Going.{IsCutOfSome};
 ghost use Rattle.work.specs.Ran.{AreEdgesOf, IsPauseOf};
 ghost use Rattle.work.specs.Standing.{NoSourceIsDue, GoesWell, IsStopThere, IsStopOf, EndsFrom, DoneFrom, HaltsFrom, PausesFrom, IsBeginning, AsksFrom, HaltsOver, HaltsBehind, IsRefusedOf, EndsHalted, IsLoading, Loads, HaltsAt, IfRefused, IfFault, stop_answer, IsSourceNext, IsMadePath, IsThatSource, HasFewerFiles, StopsBehind, StopsStill};
 
-use crate::commands::unstarted_commands;
+use crate::commands::still_unstarted;
 use crate::rest::give_up;
 use crate::state::Work;
 use crate::stop::Stop;
 use crate::summary::{Pause, Summary};
 use graph::{Graph, lists_stand};
+use judge::dues_follow;
 use paths::PathId;
 use plan::{Plan, Step};
 use records::log_stays;
@@ -120,10 +121,18 @@ impl Work<'_> {
         ensures halted { HaltsOver S.tells S.world site.old site.new self.old self.new result }
     {
         log_stays();
+        dues_follow();
         lists_stand(&self.graph);
         match self.check_sources(site) {
             Ok(due) => {
-                let unstarted = unstarted_commands(&self.graph, &self.plan, &due);
+                let before = self.due.as_slice();
+                let unstarted = still_unstarted(
+                    &self.display,
+                    &self.graph,
+                    &self.plan,
+                    before,
+                    &due,
+                );
                 self.display.recount(unstarted);
                 self.due = due;
                 self.judge_clean();

@@ -1,6 +1,6 @@
 //! Loading dyndep files (manual: "Dynamic Dependencies").
 
-ghost use Rattle.std.specs.Prelude.{◌≡◌, ◌<◌, ◌≤◌, ℕ, false, All, length, IfOk, IfErr, OnOk, OnErr, Ok, Err};
+ghost use Rattle.std.specs.Prelude.{◌≡◌, ◌<◌, ◌≤◌, ℕ, true, false, All, length, IfOk, IfErr, OnOk, OnErr, Ok, Err};
 ghost use Rattle.model.specs.Records.{Store};
 ghost use Rattle.model.specs.SingleBuild.{Asked};
 ghost use Rattle.model.specs.Calls.{OnlyLooks};
@@ -13,7 +13,8 @@ ghost use Rattle.graph.specs.Targets.{IsNoConeAgain};
 ghost use Rattle.plan.specs.Flags.{has};
 ghost use Rattle.plan.specs.Staying.{MayGoOnBy, GoesOnAfter, AreInside};
 ghost use Rattle.judge.specs.Answers.{KnowsOthers};
-ghost use Rattle.work.specs.Answered.{AreAnswersOf, ForgetsGrown};
+ghost use Rattle.judge.specs.KeptDues.{HasPlaces};
+ghost use Rattle.work.specs.Answered.{AreAnswersOf, ForgetsGrown, HasRoomToNote, NotesIfKept, NotesIfStill, NotesGrownIf};
 ghost use Rattle.work.specs.Cutting.{IsMet};
 ghost use Rattle.work.specs.Standing.{IsToLoad, Loads, RefusesLoad, StopsLoad, IsStopThere, IfRefused, IfFault, HasFewerFiles, OnRefusal, OnFault};
 ghost use Rattle.work.specs.Joined.{stop_of, IsMemory, MayJoin, HasRoomIn, StayKnown, IsUndone, IsLoaded, GoesOnBy, GoesOnOver, IsAskedOver, MayKeep, IsCircleOver, IsUnfitAt, IsUnfitOf, IsCircleOf, WasSaid, cone_then, HasMarksFor, IsConeBehind, UnjoinedBy, UnjoinedOver, WereKnown, MayShrink, KeepsRest, StayKnownFrom, SawBefore, HasLoadedFile, JoinsFrom, IsUnreadAt, StopsAsSaid};
@@ -26,7 +27,7 @@ use crate::state::Work;
 use crate::stop::Stop;
 use dyndep::{Addition, DynFault, ReadError, one_answer, parse};
 use graph::{Before, Cone, ConeFault, ExtendFault, Graph, cones_stay, files_stand, lists_stand};
-use judge::answers_follow;
+use judge::{Dues, answers_follow, dues_follow};
 use model::SiteFault;
 use paths::PathId;
 use plan::{Plan, loads_go_on_by, task_of};
@@ -56,6 +57,7 @@ impl Work<'_> {
     {
         log_stays();
         answers_follow();
+        dues_follow();
         one_answer();
         lists_stand(&self.graph);
         let additions = additions_in(self.alloc, site, &self.graph, file)?;
@@ -74,6 +76,7 @@ impl Work<'_> {
     fn join(&mut self, file: PathId, additions: &[Addition]) -> Result<(), Stop>
         requires may { (asked : Asked) × (store : Store) × MayJoin asked store self.old.graph self.old file }
         requires inside { AreInside self.old.cone.marks.items self.old.plan.standings.items }
+        requires places { HasRoomToNote self.old }
         ensures goes { OnOk result (GoesOnBy file additions.now self.old self.new) }
         ensures room { OnOk result (HasRoomIn self.new.graph self.old self.new) }
         ensures known { OnOk result (StayKnown self.old.graph self.new.graph self.old.records self.new.records) }
@@ -104,12 +107,14 @@ impl Work<'_> {
     fn join_parts(&mut self, before: &Before) -> Result<(), Stop>
         requires loaded { IsLoaded self.old.graph self.old before.now }
         requires inside { AreInside self.old.cone.marks.items self.old.plan.standings.items }
+        requires places { HasRoomToNote self.old }
         ensures goes { OnOk result (GoesOnOver before.now self.old self.new) }
         ensures room { OnOk result (HasRoomIn self.new.graph self.old self.new) }
         ensures known { OnOk result (StayKnownFrom self.old.graph self.new.graph self.old.records self.new.records) }
         ensures beside { KeepsRest self.old self.new }
         ensures stays { OnOk result (HasGrownAt (numbers_in before.now.edges.items) self.old.graph self.new.graph) }
         ensures answers { OnOk result (KnowsOthers (numbers_in before.now.edges.items) self.old.looks.sums.answers self.new.looks.sums.answers) }
+        ensures notes { OnOk result (NotesIfKept (numbers_in before.now.edges.items) self.old self.new) }
         ensures grown { OnErr result (HasGrownAt (numbers_in before.now.edges.items) self.old.graph self.new.graph) }
         ensures cone { OnErr result (self.new.cone ≡ self.old.cone) }
         ensures plan { OnErr result (self.new.plan ≡ self.old.plan) }
@@ -202,6 +207,8 @@ impl Work<'_> {
     fn grow(&mut self, grown: &Option<Cone>, before: &Before) -> Result<(), AllocError>
         requires marks { HasMarksFor self.old.graph (cone_then self.old.cone grown.now) }
         requires inside { AreInside self.old.cone.marks.items self.old.plan.standings.items }
+        requires places { HasRoomToNote self.old }
+        requires edges { AreEdgesIn self.old.graph (numbers_in before.now.edges.items) }
         requires may { (was : GraphOf) × MayGoOnBy was self.old.graph self.old.plan before.now }
         requires fits { length self.old.looks.seen.items ≤ length self.old.graph.manifest.paths }
         ensures graph { self.new.graph ≡ self.old.graph }
@@ -209,6 +216,7 @@ impl Work<'_> {
         ensures room { OnOk result (HasRoomIn self.old.graph self.old self.new) }
         ensures records { self.new.records ≡ self.old.records }
         ensures answers { OnOk result (KnowsOthers (numbers_in before.now.edges.items) self.old.looks.sums.answers self.new.looks.sums.answers) }
+        ensures notes { OnOk result (NotesIfStill grown.now (numbers_in before.now.edges.items) self.old self.new) }
         ensures cone { self.new.cone ≡ self.old.cone }
         ensures beside { KeepsRest self.old self.new }
         ensures plan { OnErr result (self.new.plan ≡ self.old.plan) }
@@ -224,7 +232,28 @@ impl Work<'_> {
             before,
         )?;
         self.looks.sums.answers.forget(&before.edges);
+        note_load(
+            &mut self.looks.sums.answers.dues,
+            &self.graph,
+            &self.cone,
+            grown,
+            before,
+        );
         Ok(())
+    }
+}
+
+/// The flags that are kept are to be found again of the edges that a load has changed, and of those that need what they make; none is
+/// kept over a cone that was made.
+fn note_load(dues: &mut Dues, graph: &Graph, kept: &Cone, grown: &Option<Cone>, before: &Before)
+    requires edges { AreEdgesIn graph.now (numbers_in before.now.edges.items) }
+    requires marks { HasMarksFor graph.now (cone_then kept.now grown.now) }
+    requires places { dues.old.known ≡ true → HasPlaces kept.now dues.old }
+    ensures { NotesGrownIf graph.now kept.now grown.now (numbers_in before.now.edges.items) dues.old dues.new }
+{
+    match grown {
+        Some(_) => dues.forget(),
+        None => dues.note_loaded(graph, kept, &before.edges),
     }
 }
 

@@ -82,6 +82,8 @@ impl Work<'_> {
         ensures graph { self.new.graph ≡ self.old.graph }
         ensures looks { self.new.looks ≡ self.old.looks }
         ensures records { self.new.records ≡ self.old.records }
+        ensures cone { self.new.cone ≡ self.old.cone }
+        ensures plan { self.new.plan ≡ self.old.plan }
         ensures pauses { Pauses self.old self.new halt result }
     {
         match halt {

@@ -9,7 +9,7 @@ ghost use Rattle.work.specs.Unmade.{AreSumsOf, AreMarkedOf};
 
 use crate::cut::Cut;
 use crate::state::Work;
-use judge::{answers_follow, looks_follow, sums_follow};
+use judge::{answers_follow, dues_follow, looks_follow, sums_follow};
 use paths::PathId;
 use plan::{End, Step};
 use records::log_stays;
@@ -26,7 +26,8 @@ pub enum Halt {
 
 impl Work<'_> {
     /// Takes one step of the plan, where that says one. A start changes nothing of what was seen; behind an end, where what was seen of
-    /// its outputs is forgotten, so are the sums of what commands make, and what was found of commands.
+    /// its outputs is forgotten, so are the sums of what commands make, and what was found of commands. An edge that was judged is noted,
+    /// as its flag may be another then; behind a start, which an end follows before anything else is judged, no flags are kept.
     pub(crate) fn go_on<S: Site>(&mut self, site: &mut S) -> Result<Option<Halt>, Cut>
         requires running { (S.world site.old).stopped ≡ false }
         requires going { IsGoing S.tells true self.old.graph self.old (S.world site.old) }
@@ -48,13 +49,16 @@ impl Work<'_> {
         looks_follow();
         sums_follow();
         answers_follow();
+        dues_follow();
         match self.plan.next() {
             Step::Judge(edge) => {
                 self.judge(site, edge).map_err(Cut::Other)?;
+                self.looks.sums.answers.dues.note_judged(&self.cone, edge);
                 Ok(None)
             }
             Step::Start(edge) => {
                 self.start_edge(site, edge).map_err(Cut::Other)?;
+                self.looks.sums.answers.dues.forget();
                 Ok(None)
             }
             Step::Wait => {

@@ -5,8 +5,8 @@ use Rattle.theory.proofs.Lists.{has_number-is}
 use Rattle.judge.proofs.KeptAnswers.{at, set_here, set_there, past_none}
 use Rattle.judge.proofs.answers.Answers.forget_one.Goals as goal
 
-pub returns-then-place-len : goal.returns-then-place-len
-returns-then-place-len c =
+pub returns-then-place-len-clause-others : goal.returns-then-place-len-clause-others
+returns-then-place-len-clause-others c =
     let known = c.args.self.now.known.items in
     let place = c.index-place.ensures.place in
     record {
@@ -18,8 +18,8 @@ returns-then-place-len c =
           (set_there known c.args.edge e None (λ is. false≢true (sym other ∙ or_left (c.args.edge == e) false (eq-eqb c.args.edge e (sym is)))));
     }
 
-pub returns-else-place-len : goal.returns-else-place-len
-returns-else-place-len c = record {
+pub returns-else-place-len-clause-others : goal.returns-else-place-len-clause-others
+returns-else-place-len-clause-others c = record {
   gone = λ e listed.
       subst (λ (q : ℕ). at c.args.self.now.known.items q ≡ None) (has_number-is c.args.edge e listed)
       (past_none c.args.self.now.known.items c.args.edge (omega (arith, c.if-place-len.false, c.len.ensures, c.args.self.now.known.ok.0, c.index-place.ensures.place)));

@@ -3,8 +3,8 @@ use Rattle.std.proofs.Math.ListN.{set}
 use Rattle.judge.proofs.KeptAnswers.{at, set_here, set_there}
 use Rattle.judge.proofs.answers.Answers.note.Goals as goal
 
-pub returns-then-place-len : goal.returns-then-place-len
-returns-then-place-len c =
+pub returns-then-place-len-clause-with_it : goal.returns-then-place-len-clause-with_it
+returns-then-place-len-clause-with_it c =
     let known = c.args.self.now.known.items in
     let place = c.index-place.ensures.place in
     record {
@@ -13,5 +13,5 @@ returns-then-place-len c =
       others = λ e other. subst (λ (p : ℕ). at (set known p (Some c.args.answer)) e ≡ at known e) (sym {A = ℕ} place) (set_there known c.args.edge e (Some c.args.answer) other);
     }
 
-pub returns-else-place-len : goal.returns-else-place-len
-returns-else-place-len c = record { this = inr refl; others = λ e other. refl }
+pub returns-else-place-len-clause-with_it : goal.returns-else-place-len-clause-with_it
+returns-else-place-len-clause-with_it c = record { this = inr refl; others = λ e other. refl }

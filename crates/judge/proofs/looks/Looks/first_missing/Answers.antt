@@ -9,6 +9,9 @@ use Rattle.graph.specs.Told.{declared_by}
 use Rattle.judge.proofs.Lacking.{missing_passed, missing_found}
 use Rattle.judge.proofs.NumbersAsTexts.{at_has}
 use Rattle.judge.proofs.FilesStay.{looked_then}
+use Rattle.std.proofs.lemmas.Bool.{false≢true}
+use Rattle.judge.specs.KeptDues.{IsSourceSeen, AreSourcesSeen}
+use Rattle.judge.proofs.SourcesSeen.{sources_more}
 use Rattle.judge.proofs.looks.Looks.first_missing.Goals as goal
 
 pub loop-path-init : goal.loop-path-init
@@ -17,6 +20,7 @@ loop-path-init g c = record {
   looked = looked_none g.S.Texts.tells c.args.graph.now (g.S.Texts.world c.args.site.now) c.args.self.now;
   unrefused = unrefused_none (g.S.Texts.world c.args.site.now) c.requires.running;
   none = λ told set kept seen files same sources. tt;
+  there = λ p listed. absurd (false≢true listed);
 }
 
 pub returns-in_err-is_missing-clause-looked : goal.returns-in_err-is_missing-clause-looked
@@ -39,6 +43,8 @@ loop-path-preserved g c = record {
   unrefused = unrefused_then (g.S.Texts.world c.args.site.now) (g.S.Texts.world c.loop-path.site) (g.S.Texts.world c.is_missing.new.site) c.loop-path.invariant.unrefused (unrefused_call (g.S.Texts.world c.loop-path.site) (g.S.Texts.world c.is_missing.new.site) _ c.in_ok-is_missing.ensures.cause);
   none = missing_passed c.looks_follow.ensures.follow c.looks_follow.ensures.stay g.S.Texts.tells c.args.graph.now (g.S.Texts.world c.args.site.now) (g.S.Texts.world c.loop-path.site) (g.S.Texts.world c.is_missing.new.site) c.args.self.now c.loop-path.self c.loop-path.invariant.looked c.is_missing.ensures.looked.looks c.args.paths.now c.loop-path.path-index c.path-item.result c.loop-path-test.true c.loop-path.invariant.none
       c.path-item.result c.path-item.is c.in_ok-is_missing.field-0 c.in_ok-is_missing.ensures.missing (cc);
+  there = sources_more c.args.graph.now c.loop-path.self.seen.items c.is_missing.new.self.seen.items c.is_missing.ensures.looked.stays c.args.paths.now c.loop-path.path-index c.path-item.result c.loop-path-test.true c.loop-path.invariant.there
+      (subst (λ (p : ℕ). IsSourceSeen c.args.graph.now c.is_missing.new.self.seen.items p) c.path-item.is (c.in_ok-is_missing.ensures.there (cc)));
 }
 
 pub returns-clause-first : goal.returns-clause-first
@@ -58,3 +64,6 @@ returns-in_err-is_missing-clause-sums g c = c.is_missing.ensures.sums ∙ c.loop
 
 pub returns-then-branch-clause-sums : goal.returns-then-branch-clause-sums
 returns-then-branch-clause-sums g c = c.is_missing.ensures.sums ∙ c.loop-path.invariant.sums
+
+pub returns-clause-there : goal.returns-clause-there
+returns-clause-there g c = subst (λ (l : List ℕ). AreSourcesSeen c.args.graph.now c.loop-path.self.seen.items l) (take_all c.loop-path.path-index c.args.paths.now (omega arith)) c.loop-path.invariant.there

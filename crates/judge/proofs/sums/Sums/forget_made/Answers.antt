@@ -18,4 +18,7 @@ returns-clause-lasting c graph flags seen so e inputs is =
     (no_number c.loop-edge.self.passing.items e (let none = c.in_default.ensures.cases.0 in let ok = c.loop-edge.self.passing.ok.0 in omega arith))
 
 pub returns-clause-answers : goal.returns-clause-answers
-returns-clause-answers c = c.forget_all.ensures
+returns-clause-answers c = c.forget_all.ensures.none
+
+pub returns-clause-dues : goal.returns-clause-dues
+returns-clause-dues c = c.forget_all.ensures.dues

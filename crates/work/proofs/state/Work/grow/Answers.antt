@@ -1,8 +1,11 @@
-use Rattle.std.proofs.Common.{List, refl, subst}
+use Rattle.std.proofs.Common.{◌≡◌, List, refl, sym, ◌∙◌, ap, subst}
 use Rattle.graph.specs.declared.back.LoadedEdge.{LoadedEdge}
 use Rattle.graph.specs.LoadedEdges.{numbers_in}
 use Rattle.judge.specs.Answers.{KnowsOthers}
+use Rattle.judge.specs.declared.dues.Dues.{Dues}
 use Rattle.judge.specs.declared.sums.Sums.{Sums}
+use Rattle.judge.specs.KeptDues.{HasPlaces}
+use Rattle.work.specs.Answered.{NotesStill}
 use Rattle.work.proofs.Results.{on_err}
 use Rattle.work.proofs.state.Work.grow.Goals as goal
 
@@ -35,5 +38,20 @@ returns-clause-looks c = c.grow.ensures.front
 
 pub returns-clause-answers : goal.returns-clause-answers
 returns-clause-answers c =
+    let others =
     subst (λ (l : List LoadedEdge). KnowsOthers (numbers_in l) c.args.self.now.looks.sums.answers c.forget.new.self) c.deref.ensures.value
-    (subst (λ (s : Sums). KnowsOthers (numbers_in c.deref.result.now) s.answers c.forget.new.self) c.grow.ensures.sums c.forget.ensures)
+    (subst (λ (s : Sums). KnowsOthers (numbers_in c.deref.result.now) s.answers c.forget.new.self) c.grow.ensures.sums c.forget.ensures.others) in
+    record { gone = others.gone; others = others.others }
+
+-- ---- flags that are kept
+
+pub note_load-requires-clause-places : goal.note_load-requires-clause-places
+note_load-requires-clause-places c on =
+    let same : c.forget.new.self.dues ≡ c.args.self.now.looks.sums.answers.dues = c.forget.ensures.dues ∙ ap (λ (s : Sums). s.answers.dues) c.grow.ensures.sums in
+    subst (λ (d : Dues). HasPlaces c.args.self.now.cone d) (sym {A = Dues} same) (c.requires.places (sym (ap (λ (d : Dues). d.known) same) ∙ on))
+
+pub returns-clause-notes : goal.returns-clause-notes
+returns-clause-notes c on =
+    let state = c.args.self.now in
+    let same : c.forget.new.self.dues ≡ state.looks.sums.answers.dues = c.forget.ensures.dues ∙ ap (λ (s : Sums). s.answers.dues) c.grow.ensures.sums in
+    subst (λ (d : Dues). NotesStill state.graph state.cone c.args.grown.now (numbers_in c.args.before.now.edges.items) d c.note_load.new.dues) same (c.note_load.ensures on)

@@ -85,4 +85,10 @@ returns-in-Ok-clause-left c = record {
   edges = numbers_in c.in_ok-before.before.edges.items;
   grown = has_grown_by c.requires.may.2 c.in_ok-before.ensures.before c.in_ok-before.ensures.loaded c.files_stand.ensures c.in-Ok.ensures.stays;
   forgets = c.in-Ok.ensures.answers;
+  notes = λ on.
+      let noted = c.in-Ok.ensures.notes on in
+      record { cone = noted.cone; known = noted.known; noted = noted.noted };
 }
+
+pub join_parts-requires-clause-places : goal.join_parts-requires-clause-places
+join_parts-requires-clause-places c = c.requires.places

@@ -1,11 +1,13 @@
-use Rattle.std.proofs.Common.{◌≡◌, ap, length, refl, sym, ◌∙◌, subst, arith, Option}
+use Rattle.std.proofs.Common.{◌≡◌, ◌<◌, ap, length, List, refl, sym, ◌∙◌, subst, arith, Option}
 use Rattle.std.proofs.lemmas.List.{take_all}
 use Rattle.model.specs.Records.{recorded_inputs}
 use Rattle.graph.specs.Told.{declared_by}
 use Rattle.graph.specs.declared.cone.Cone.{Cone}
 use Rattle.graph.specs.declared.graph.Graph.{Graph}
 use Rattle.graph.specs.LoadedEdges.{numbers_in}
+use Rattle.paths.specs.declared.line.Line.{Line}
 use Rattle.paths.specs.Told.{text_at}
+use Rattle.judge.specs.KeptDues.{NotesGrown}
 use Rattle.records.specs.declared.records.Records.{Records}
 use Rattle.records.specs.Known.{AreKnown}
 use Rattle.work.specs.Joined.{cone_then, MayShrink, UnjoinedOver, GoesOnWith}
@@ -111,6 +113,27 @@ grow-requires-clause-fits c =
     let j = c.requires.loaded.3 in
     let joined = c.in_ok-join_inputs.ensures.joined graph j.has.added j.has.paths store.records store.deps j.may.known (to_join j.may j.undoes j.has) in
     seen_fits j.may j.undoes j.has c.files_stand.ensures joined
+
+pub grow-requires-clause-edges : goal.grow-requires-clause-edges
+grow-requires-clause-edges c e there =
+    let j = c.requires.loaded.3 in
+    subst (λ (l : List Line). e < length l) (sym {A = List Line} c.join_inputs.ensures.grown.grown.lines) (numbers_within j.may j.undoes j.has c.files_stand.ensures e there)
+
+pub grow-requires-clause-places : goal.grow-requires-clause-places
+grow-requires-clause-places c = c.requires.places
+
+-- what the load changes of flags is noted, where the cone is the one that was
+pub returns-clause-notes : goal.returns-clause-notes
+returns-clause-notes c on =
+    let state = c.args.self.now in
+    let made : Option Cone = c.in_ok-grown.grown in
+    let still = c.in_ok-grow.ensures.notes on in
+    let put : c.put_cone.new.cone ≡ cone_then state.cone made = c.put_cone.ensures ∙ ap (λ (kept : Cone). cone_then kept made) c.grow.ensures.cone in
+    record {
+      cone = put ∙ ap (cone_then state.cone) still.none;
+      known = still.known;
+      noted = subst (λ (of : Graph). NotesGrown of state.cone (numbers_in c.args.before.now.edges.items) state.looks.sums.answers.dues c.grow.new.self.looks.sums.answers.dues) (sym {A = Graph} c.grow.ensures.graph) still.noted;
+    }
 
 pub returns-in_err-grow-clause-beside : goal.returns-in_err-grow-clause-beside
 returns-in_err-grow-clause-beside c = record {

@@ -13,6 +13,7 @@ use Rattle.judge.specs.Judged.{IsAnswer, KeepsDepfile}
 use Rattle.work.proofs.WorkLeft.{judged_less}
 use Rattle.work.proofs.Noticed.{with_looks, on_looked}
 use Rattle.work.proofs.Unmade.{sums_asked, marks_asked}
+use Rattle.work.proofs.StillKept.{told_settled}
 use Rattle.work.proofs.Judging.{judged_on, judged_command, asked_outputs}
 use Rattle.work.proofs.state.Work.judge.Goals as goal
 
@@ -100,6 +101,10 @@ returns-in_err-ask_before-clause-answers g c = ap (λ (s : Sums). s.answers) c.a
 
 pub returns-in_err-reason-clause-answers : goal.returns-in_err-reason-clause-answers
 returns-in_err-reason-clause-answers g c = c.reason.ensures.answers ∙ ap (λ (s : Sums). s.answers) c.ask_before.ensures.sums
+
+-- the plan tells of other edges what it told
+pub returns-clause-told : goal.returns-clause-told
+returns-clause-told g c = told_settled c.args.self.now.graph c.args.self.now.plan c.judged.new.self c.args.edge _ c.judged.ensures.stands
 
 pub returns-clause-answers : goal.returns-clause-answers
 returns-clause-answers g c = c.reason.ensures.answers ∙ ap (λ (s : Sums). s.answers) c.ask_before.ensures.sums

@@ -1,7 +1,8 @@
-use Rattle.std.proofs.Common.{true, inl, refl, sym, ◌∙◌, subst}
+use Rattle.std.proofs.Common.{◌≡◌, true, inl, refl, sym, ◌∙◌, subst}
 use Rattle.graph.specs.declared.graph.Graph.{Graph}
 use Rattle.judge.specs.declared.answers.Answers.{Answers}
 use Rattle.judge.specs.Answers.{AreAnswers}
+use Rattle.judge.specs.KeptDues.{AreKeptRight}
 use Rattle.judge.specs.Lasting.{AreMarked}
 use Rattle.judge.specs.Summed.{AreSums}
 use Rattle.work.specs.After.{LooksUnlessMore}
@@ -24,7 +25,10 @@ run-init g c =
       unrefused = unrefused_none now c.requires.running;
       starts = inl refl;
       graph = refl;
-      known = subst (λ (answers : Answers). AreAnswers graph state.records state.looks.seen.items answers) (sym {A = Answers} c.clear.ensures.answers) c.requires.known;
+      known = record {
+        known = subst (λ (answers : Answers). AreAnswers graph state.records state.looks.seen.items answers) (sym {A = Answers} c.clear.ensures.answers) c.requires.known.known;
+        kept = subst (λ (answers : Answers). answers.dues.known ≡ true → AreKeptRight graph state.records state.cone state.plan state.looks.seen.items answers.dues) (sym {A = Answers} c.clear.ensures.answers) c.requires.known.kept;
+      };
       summed = c.clear.ensures.summed graph state.plan.changed.items state.looks.seen.items;
       marked = c.clear.ensures.marked graph state.plan.changed.items state.looks.seen.items;
       grows = after_same g.S.Texts.tells now;

@@ -4,11 +4,9 @@ use Rattle.work.proofs.Cutting.{starts_cut, met_by}
 use Rattle.work.proofs.Ends.{ran_cut}
 use Rattle.work.proofs.After.{after_then}
 use Rattle.std.proofs.Common.{sym, subst}
-use Rattle.graph.specs.declared.graph.Graph.{Graph}
-use Rattle.judge.specs.Answers.{KnowsRight}
 use Rattle.judge.specs.declared.looks.Looks.{Looks}
-use Rattle.records.specs.declared.records.Records.{Records}
 use Rattle.work.specs.After.{LooksUnlessMore}
+use Rattle.work.proofs.StillKept.{same_answers}
 use Rattle.work.proofs.state.Work.run_plan.Goals as goal
 
 pub take_in_rest-requires-clause-many : goal.take_in_rest-requires-clause-many
@@ -48,7 +46,4 @@ returns-in-Err-clause-seen g c = c.take_in_rest.ensures.seen (g.S.Texts.world c.
 -- what is told of a pause changes nothing of that
 pub returns-in-Ok-clause-known : goal.returns-in-Ok-clause-known
 returns-in-Ok-clause-known g c =
-    let was = c.run.new.self in
-    subst (λ (graph : Graph). KnowsRight graph c.paused.new.self.records c.paused.new.self.looks) (sym {A = Graph} c.paused.ensures.graph)
-    (subst (λ (records : Records). KnowsRight was.graph records c.paused.new.self.looks) (sym {A = Records} c.paused.ensures.records)
-    (subst (λ (looks : Looks). KnowsRight was.graph was.records looks) (sym {A = Looks} c.paused.ensures.looks) c.in-Ok.ensures.known))
+    same_answers c.run.new.self c.paused.new.self c.paused.ensures.graph c.paused.ensures.records c.paused.ensures.cone c.paused.ensures.plan c.paused.ensures.looks c.in-Ok.ensures.known

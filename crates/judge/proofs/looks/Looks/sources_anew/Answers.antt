@@ -1,6 +1,11 @@
-use Rattle.std.proofs.Common.{◌≡◌, List, ℕ, Bool, true, Option, Some, None, IfSome, sym, ap, subst}
+use Rattle.std.proofs.Common.{◌≡◌, List, ℕ, Bool, true, Option, Some, None, IfSome, Vec, Global, sym, ◌∙◌, ap, subst}
+use Rattle.std.proofs.lemmas.Bool.{false≢true}
 use Rattle.model.specs.Graph.{has_number}
-use Rattle.judge.specs.Dues.{AreSourcesIn}
+use Rattle.judge.specs.Dues.{due_at, AreSourcesIn}
+use Rattle.judge.specs.Seen.{look_at}
+use Rattle.judge.specs.KeptDues.{AreSourcesSeen, AreKeptRight, HasBegunWith}
+use Rattle.judge.specs.declared.dues.Dues.{Dues}
+use Rattle.judge.specs.declared.looks.Look.{Look}
 use Rattle.judge.specs.declared.lack.Lack.{Lack}
 use Rattle.judge.specs.declared.sums.Sums.{Sums}
 use Rattle.judge.proofs.Answered.{known_kept}
@@ -8,7 +13,9 @@ use Rattle.judge.specs.Lacks.{IsFirstIn, IsFoundOfDue, IsSourceOf, IsLackOf, Nam
 use Rattle.judge.proofs.CleanEdges.{clean_first, clean_second}
 use Rattle.judge.proofs.Finding.{target_found, due_told, all_found, asked_by}
 use Rattle.judge.proofs.FilesStay.{looked_then}
-use Rattle.judge.proofs.looks.Looks.sources.Goals as goal
+use Rattle.judge.proofs.KeptSources.{looked_same, answers_kept, kept_begins}
+use Rattle.judge.proofs.SourcesSeen.{sources_stay, none_given}
+use Rattle.judge.proofs.looks.Looks.sources_anew.Goals as goal
 
 pub returns-in_err-due-in-None-clause-looked : goal.returns-in_err-due-in-None-clause-looked
 returns-in_err-due-in-None-clause-looked g c =
@@ -24,7 +31,8 @@ returns-in-Some-2-clause-looked g c =
 
 pub returns-in-None-2-clause-looked : goal.returns-in-None-2-clause-looked
 returns-in-None-2-clause-looked g c =
-    looked_then c.looks_follow.ensures.follow g.S.Texts.tells c.args.graph.now (g.S.Texts.world c.args.site.now) (g.S.Texts.world c.due_edges.new.site) (g.S.Texts.world c.lack_of_due.new.site) c.args.self.now c.due_edges.new.self c.lack_of_due.new.self (looked_then c.looks_follow.ensures.follow g.S.Texts.tells c.args.graph.now (g.S.Texts.world c.args.site.now) (g.S.Texts.world c.first_missing.new.site) (g.S.Texts.world c.due_edges.new.site) c.args.self.now c.first_missing.new.self c.due_edges.new.self c.first_missing.ensures.looked c.due_edges.ensures.looked) c.lack_of_due.ensures.looked
+    looked_same g.S.Texts.tells c.args.graph.now (g.S.Texts.world c.args.site.now) (g.S.Texts.world c.lack_of_due.new.site) c.args.self.now c.lack_of_due.new.self c.keep.new.self c.keep.ensures.seen
+    (looked_then c.looks_follow.ensures.follow g.S.Texts.tells c.args.graph.now (g.S.Texts.world c.args.site.now) (g.S.Texts.world c.due_edges.new.site) (g.S.Texts.world c.lack_of_due.new.site) c.args.self.now c.due_edges.new.self c.lack_of_due.new.self (looked_then c.looks_follow.ensures.follow g.S.Texts.tells c.args.graph.now (g.S.Texts.world c.args.site.now) (g.S.Texts.world c.first_missing.new.site) (g.S.Texts.world c.due_edges.new.site) c.args.self.now c.first_missing.new.self c.due_edges.new.self c.first_missing.ensures.looked c.due_edges.ensures.looked) c.lack_of_due.ensures.looked)
 
 pub returns-in-Some-clause-found : goal.returns-in-Some-clause-found
 returns-in-Some-clause-found g c store targets before way =
@@ -109,4 +117,48 @@ returns-in-Some-2-clause-known g c =
 
 pub returns-in-None-2-clause-known : goal.returns-in-None-2-clause-known
 returns-in-None-2-clause-known g c =
-    known_kept c.args.graph.now c.args.records.now c.due_edges.new.self c.lack_of_due.new.self c.lack_of_due.ensures.looked.stays (ap (λ (s : Sums). s.answers) c.lack_of_due.ensures.sums) c.due_edges.ensures.known
+    answers_kept c.args.graph.now c.args.records.now c.lack_of_due.new.self c.keep.new.self (λ p asked. ap (λ (v : Vec Look Global). look_at v.items p) c.keep.ensures.seen) c.keep.ensures.answers
+    (known_kept c.args.graph.now c.args.records.now c.due_edges.new.self c.lack_of_due.new.self c.lack_of_due.ensures.looked.stays (ap (λ (s : Sums). s.answers) c.lack_of_due.ensures.sums) c.due_edges.ensures.known)
+
+-- ---- flags that are kept
+
+pub returns-in_err-path-clause-kept : goal.returns-in_err-path-clause-kept
+returns-in_err-path-clause-kept g c on = absurd (false≢true (sym c.requires.anew ∙ (sym (ap (λ (s : Sums). s.answers.dues.known) c.first_missing.ensures.sums) ∙ on)))
+
+pub returns-in-Some-clause-kept : goal.returns-in-Some-clause-kept
+returns-in-Some-clause-kept g c on = absurd (false≢true (sym c.requires.anew ∙ (sym (ap (λ (s : Sums). s.answers.dues.known) c.first_missing.ensures.sums) ∙ on)))
+
+pub returns-in_err-due-in-None-clause-kept : goal.returns-in_err-due-in-None-clause-kept
+returns-in_err-due-in-None-clause-kept g c on =
+    absurd (false≢true (sym c.requires.anew ∙ (sym (ap (λ (s : Sums). s.answers.dues.known) c.first_missing.ensures.sums) ∙ (sym (ap (λ (d : Dues). d.known) c.due_edges.ensures.dues) ∙ on))))
+
+pub returns-in_err-lack-in-None-clause-kept : goal.returns-in_err-lack-in-None-clause-kept
+returns-in_err-lack-in-None-clause-kept g c on =
+    absurd (false≢true (sym c.requires.anew ∙ (sym (ap (λ (s : Sums). s.answers.dues.known) c.first_missing.ensures.sums) ∙ (sym (ap (λ (d : Dues). d.known) c.due_edges.ensures.dues) ∙ (sym (ap (λ (s : Sums). s.answers.dues.known) c.lack_of_due.ensures.sums) ∙ on)))))
+
+pub returns-in-Some-2-clause-kept : goal.returns-in-Some-2-clause-kept
+returns-in-Some-2-clause-kept g c on =
+    absurd (false≢true (sym c.requires.anew ∙ (sym (ap (λ (s : Sums). s.answers.dues.known) c.first_missing.ensures.sums) ∙ (sym (ap (λ (d : Dues). d.known) c.due_edges.ensures.dues) ∙ (sym (ap (λ (s : Sums). s.answers.dues.known) c.lack_of_due.ensures.sums) ∙ on)))))
+
+pub returns-in-None-2-clause-kept : goal.returns-in-None-2-clause-kept
+returns-in-None-2-clause-kept g c on =
+    let graph = c.args.graph.now in
+    let records = c.args.records.now in
+    let cone = c.args.cone.now in
+    let plan = c.args.plan.now in
+    let one = c.first_missing.new.self in
+    let two = c.due_edges.new.self in
+    let three = c.lack_of_due.new.self in
+    let four = c.keep.new.self in
+    let due = c.in_ok-due-in-None.due.items in
+    let begun = subst (λ (l : List Bool). HasBegunWith graph cone l four.sums.answers.dues) c.deref-in-None-2.ensures.value (c.keep.ensures.kept on) in
+    let targets : AreSourcesSeen graph one.seen.items cone.targets.items = subst (λ (l : List ℕ). AreSourcesSeen graph one.seen.items l) c.as_slice-targets.ensures.value (none_given c.in_ok-path.field-0 c.in-None.is c.in_ok-path.ensures.there) in
+    let edges = none_given c.in_ok-lack-in-None.field-0 c.in-None-2.is c.in_ok-lack-in-None.ensures.there in
+    let later = looked_then c.looks_follow.ensures.follow g.S.Texts.tells graph (g.S.Texts.world c.first_missing.new.site) (g.S.Texts.world c.due_edges.new.site) (g.S.Texts.world c.lack_of_due.new.site) one two three c.due_edges.ensures.looked c.lack_of_due.ensures.looked in
+    subst (λ (v : Vec Look Global). AreKeptRight graph records cone plan v.items four.sums.answers.dues) (sym c.keep.ensures.seen)
+    (kept_begins g.S.Texts.tells graph records cone plan (g.S.Texts.world c.first_missing.new.site) (g.S.Texts.world c.due_edges.new.site) two.seen.items three.seen.items c.lack_of_due.ensures.looked.stays due c.requires.placed c.in_ok-due-in-None.ensures.fits
+    (c.in_ok-due-in-None.ensures.ruled c.requires.placed.ordered) four.sums.answers.dues begun (sources_stay graph one.seen.items three.seen.items later.stays cone.targets.items targets)
+    (λ e is. edges e (subst (λ (l : List Bool). due_at l e ≡ true) (sym {A = List Bool} c.deref.ensures.value) is)))
+
+pub returns-in-None-2-clause-flags : goal.returns-in-None-2-clause-flags
+returns-in-None-2-clause-flags g c on = (c.keep.ensures.kept on).begins.flags ∙ c.deref-in-None-2.ensures.value
