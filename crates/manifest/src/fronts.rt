@@ -12,6 +12,9 @@ const SHORTEST: usize = 256;
 /// How many fronts are kept at once, and how many commands that have none.
 const MOST: usize = 4;
 
+/// Of how many bytes a character is at most.
+const MOST_IN_CHARACTER: usize = 4;
+
 /// What the last commands began with.
 #[derive(Drop)]
 pub struct Fronts {
@@ -78,7 +81,7 @@ impl Fronts {
             let (_, whole) = other.parts();
             let front = common(whole.as_bytes(), text.as_bytes());
             if front.len() >= SHORTEST {
-                return from_utf8(front).ok();
+                return text_in(front);
             }
         }
         None
@@ -105,13 +108,27 @@ fn rest_of<'a>(front: &Front, text: &'a str) -> Option<&'a str>
     }
 }
 
-/// What both begin with.
+/// What both begin with, where that is long, else nothing. Commands that are not alike are told by one look at their first bytes.
 fn common<'a>(one: &[u8], other: &'a [u8]) -> &'a [u8] {
+    if one.get(..SHORTEST) != other.get(..SHORTEST) {
+        return &other[..0];
+    }
     let size = one.len().min(other.len());
-    for place in 0..size {
+    for place in SHORTEST..size {
         if one[place] != other[place] {
             return &other[..place];
         }
     }
     &other[..size]
+}
+
+/// The longest text that these bytes begin with, where they end within a character at most.
+fn text_in(bytes: &[u8]) -> Option<&str> {
+    for cut in 0..MOST_IN_CHARACTER {
+        let end = bytes.len().saturating_sub(cut);
+        if let Ok(text) = from_utf8(&bytes[..end]) {
+            return Some(text);
+        }
+    }
+    None
 }

@@ -1,5 +1,5 @@
 -- How many commands are still to be started.
-use Rattle.std.specs.Prelude.{◌≡◌, ◌⊎◌, ℕ, zero, suc, Bool, true, false, List, [], ◌∷◌, ◌&&◌, if◌then◌else◌}
+use Rattle.std.specs.Prelude.{◌≡◌, ℕ, zero, suc, Bool, true, false, List, [], ◌∷◌, ◌&&◌, if◌then◌else◌}
 use Rattle.plan.specs.declared.step.Standing.{Standing}
 use Rattle.plan.specs.declared.step.Standing.TheVariants.{Outside, Unjudged, Clean, OutOfDate, Running, Well, Failed, Alias, Known}
 use Rattle.plan.specs.Standing.{standing_at}
@@ -25,6 +25,6 @@ count_from standings e (due ∷ flags) = if due && is_unstarted (standing_at sta
 abbrev pub count_unstarted : List Standing → List Bool → ℕ
 count_unstarted standings due = count_from standings 0 due
 
--- as many as were before are still to be started, or as many are as were counted now
-abbrev pub AreStillUnstarted : ℕ → List Standing → List Bool → ℕ → Type 0
-AreStillUnstarted before standings due count = (count ≡ before) ⊎ (count ≡ count_unstarted standings due)
+-- as many as are due and may still be started, where so many were due before
+abbrev pub AreStillUnstarted : ℕ → List Standing → List Bool → List Bool → ℕ → Type 0
+AreStillUnstarted known standings before due count = known ≡ count_unstarted standings before → count ≡ count_unstarted standings due

@@ -1,6 +1,6 @@
 //! How many commands are to be started.
 
-ghost use Rattle.std.specs.Prelude.{◌≡◌, length, vec_len};
+ghost use Rattle.std.specs.Prelude.{◌≡◌, true, length, vec_len};
 ghost use Rattle.work.specs.Commands.{is_unstarted, count_unstarted, AreStillUnstarted};
 
 use crate::display::Display;
@@ -18,7 +18,7 @@ pub(crate) fn still_unstarted(
 ) -> usize
     requires fits { length due.now ≡ length graph.now.manifest.lines }
     requires plan { vec_len plan.now.standings ≡ length graph.now.manifest.lines }
-    ensures { AreStillUnstarted display.now.unstarted plan.now.standings.items due.now result }
+    ensures { AreStillUnstarted display.now.unstarted plan.now.standings.items before.now due.now result }
 {
     if are_same(before, due) {
         return display.unstarted();
@@ -27,7 +27,9 @@ pub(crate) fn still_unstarted(
 }
 
 /// Whether the flags are the same.
-fn are_same(before: &[bool], due: &[bool]) -> bool {
+fn are_same(before: &[bool], due: &[bool]) -> bool
+    ensures { result ≡ true → before.now ≡ due.now }
+{
     before == due
 }
 
