@@ -7,15 +7,6 @@ returns-in-Some-clause-number c texts there are =
     number_held c.args.graph.now texts c.args.self.now.known.items c.args.path c.in-Some.number c.args.text.now are
     (ap (λ (l : List (Option ℕ)). get_or l c.args.path None) (sym c.deref.ensures.value) ∙ (sym c.number_at.ensures ∙ c.in-Some.is)) there
 
-pub returns-in_err-number-clause-grown : goal.returns-in_err-number-clause-grown
-returns-in_err-number-clause-grown c = only_same c.args.graph.now c.add_named.new.self c.in_err-number.ensures.err
-
-pub returns-in_err-note_number-clause-grown : goal.returns-in_err-note_number-clause-grown
-returns-in_err-note_number-clause-grown c = only_numbered c.args.graph.now c.add_named.new.self c.args.text.now c.in_ok-number.number c.in_ok-number.ensures.added
-
-pub returns-clause-grown : goal.returns-clause-grown
-returns-clause-grown c = only_numbered c.args.graph.now c.add_named.new.self c.args.text.now c.in_ok-number.number c.in_ok-number.ensures.added
-
 pub returns-in_err-number-clause-numbered : goal.returns-in_err-number-clause-numbered
 returns-in_err-number-clause-numbered c texts there are k n is =
     let old = c.args.graph.now in
