@@ -56,16 +56,28 @@ fn times_named(alloc: Global, graph: &Graph, records: &Records) -> Result<Vec<u3
     Ok(named)
 }
 
-/// Counts the paths once more each that the deps records in force for these outputs name.
+/// Counts the paths once more each that the deps records in force for these outputs name. A record is counted once for outputs one behind
+/// another, as it joins an edge once for them.
 fn count_outputs(
     records: &Records,
     outputs: &[PathId],
     named: &mut Vec<u32>,
 ) -> Result<(), AllocError> {
+    let mut before = None;
     for output in outputs {
-        if let Some(deps) = records.deps(*output) {
-            count_named(deps.paths.as_slice(), named)?;
+        let place = place_of(records, *output);
+        if place != before {
+            count_output(records, *output, named)?;
         }
+        before = place;
+    }
+    Ok(())
+}
+
+/// Counts the paths once more each that the deps record in force for the output names, if there is one.
+fn count_output(records: &Records, output: PathId, named: &mut Vec<u32>) -> Result<(), AllocError> {
+    if let Some(deps) = records.deps(output) {
+        count_named(deps.paths.as_slice(), named)?;
     }
     Ok(())
 }

@@ -4,15 +4,15 @@ use Rattle.model.specs.Calls.{Sees}
 use Rattle.site.specs.Files.{text_in}
 use Rattle.records.proofs.file.LogFile.read.Goals as goal
 
-pub log_of-requires : goal.log_of-requires
-log_of-requires g c =
+pub log_of-log-requires : goal.log_of-log-requires
+log_of-log-requires g c =
     let took = c.in_ok-read_into.ensures.content c.new-pieces.ensures in
     (text_in took.0, took.1)
 
 pub returns-clause-read : goal.returns-clause-read
 returns-clause-read g c =
     let took = c.in_ok-read_into.ensures.content c.new-pieces.ensures in
-    let judged = c.log_of.ensures took.0 took.1 in
+    let judged = c.log_of-log.ensures took.0 took.1 in
     let old = (g.S.Texts.world c.args.site.now).history in
     let new = (g.S.Texts.world c.read_into.new.self).history in (
       judged.0,

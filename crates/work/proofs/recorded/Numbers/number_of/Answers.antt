@@ -32,3 +32,9 @@ returns-clause-numbered c texts there are k n is =
 
 pub returns-clause-number : goal.returns-clause-number
 returns-clause-number c texts there are = has_its_number c.args.graph.now c.add_named.new.self c.args.text.now c.in_ok-number.number c.in_ok-number.ensures.added
+
+pub returns-in_err-number-clause-grown : goal.returns-in_err-number-clause-grown
+returns-in_err-number-clause-grown c = only_same c.args.graph.now c.add_named.new.self c.in_err-number.ensures.err
+
+pub returns-clause-grown : goal.returns-clause-grown
+returns-clause-grown c = only_numbered c.args.graph.now c.add_named.new.self c.args.text.now c.in_ok-number.number c.in_ok-number.ensures.added
