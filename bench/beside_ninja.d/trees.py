@@ -191,7 +191,6 @@ def modules_far(folder, edges):
     modules(folder, edges, needs=three_before)
 
 
-# How many files stand below the phony edge of `gathered`.
 def strewn(folder, edges, made=False):
     """Edges of which each ten, strewn over the whole file, name a dyndep file that no edge makes. It adds the source that they read already."""
     count = edges // OF_ONE_FILE
@@ -210,6 +209,19 @@ def strewn_made(folder, edges):
     strewn(folder, edges, made=True)
 
 
+def gathered_modules(folder, edges):
+    """Edges with a dyndep file each, which a command makes and by which each makes a module; all are named by a phony edge, and by a link."""
+    lines = ["rule copy\n  command = cp $in $out\nrule touch\n  command = : > $out; : > out/m$n\nrule link\n  command = : > $out\n"]
+    for n in range(edges):
+        lines.append(f"build files/d{n}: copy files/d{n}.in\nbuild out/o{n}: touch start || files/d{n}\n  dyndep = files/d{n}\n  n = {n}\n")
+        write(folder, f"files/d{n}.in", f"ninja_dyndep_version = 1\nbuild out/o{n} | out/m{n}: dyndep\n")
+    all_outputs = " ".join(f"out/o{n}" for n in range(edges))
+    lines.append(f"build everything: phony {all_outputs}\nbuild out/program: link {all_outputs}\n")
+    write(folder, "build.ninja", "".join(lines))
+    empty(folder, ["start"])
+
+
+# How many files stand below the phony edge of `gathered`.
 GATHERED = 10_000
 
 
@@ -220,6 +232,62 @@ def gathered(folder, edges):
     lines += [f"build out/c{n}: touch out/c{n - 1} | all_files\n" for n in range(1, edges)]
     write(folder, "build.ninja", "".join(lines))
     empty(folder, ["start", *files])
+
+
+# How many outputs an edge of `wide_told` has.
+WIDE = 40
+
+
+def wide_told(folder, edges):
+    """Edges of 40 outputs each, which tell 400 headers, the same ones."""
+    lines = ["rule wide\n  command = for it in $out; do : > $$it; done; read heads < heads; echo \"out/o$n.0: $$heads\" > $depfile\n"
+             "  depfile = out/o$n.d\n  deps = gcc\n"]
+    for n in range(edges):
+        lines.append(f"build {' '.join(f'out/o{n}.{k}' for k in range(WIDE))}: wide start\n  n = {n}\n")
+    headers = [header(n) for n in range(HEADERS)]
+    write(folder, "heads", " ".join(headers) + "\n")
+    write(folder, "build.ninja", "".join(lines))
+    empty(folder, ["start", *headers])
+
+
+# The target that `asked:` asks for.
+ONE = "one"
+
+# What a compiler's command may have in front: 5 kB.
+FLAGS = " ".join(f"-Isome/where/include/folder{n} -DSOME_MACRO_{n}=1" for n in range(100))
+
+
+def long_commands(folder, edges, told=""):
+    """Edges with commands of 5 kB, of a source each."""
+    lines = [f"flags = {FLAGS}\nrule compile\n  command = : $flags -c $in -o $out; : > $out\n{told}"]
+    lines += [f"build obj/o{n}.o: compile src/s{n}.c\n" for n in range(edges)]
+    write(folder, "build.ninja", "".join(lines))
+    empty(folder, (f"src/s{n}.c" for n in range(edges)))
+
+
+# How many kinds of commands take turns in `long_kinds`.
+KINDS = 6
+
+
+def long_kinds(folder, edges):
+    """The same of six kinds of commands, line by line, each of which begins with another word."""
+    lines = [f"flags = {FLAGS}\n", *(f"rule kind{k}\n  command = : {k} $flags -c $in -o $out; : > $out\n" for k in range(KINDS))]
+    lines += [f"build obj/o{n}.o: kind{n % KINDS} src/s{n}.c\n" for n in range(edges)]
+    write(folder, "build.ninja", "".join(lines))
+    empty(folder, (f"src/s{n}.c" for n in range(edges)))
+
+
+def long_early(folder, edges):
+    """The same with the source in front, so that no two commands begin alike."""
+    lines = [f"flags = {FLAGS}\nrule compile\n  command = : $in $flags -o $out; : > $out\n"]
+    lines += [f"build obj/o{n}.o: compile src/s{n}.c\n" for n in range(edges)]
+    write(folder, "build.ninja", "".join(lines))
+    empty(folder, (f"src/s{n}.c" for n in range(edges)))
+
+
+def long_told(folder, edges):
+    """The same with a depfile each, and one edge besides."""
+    long_commands(folder, edges, f"  depfile = $out.d\n  deps = gcc\n{TOUCH}build {ONE}: touch\n")
 
 
 # What `bare.` takes out of a build file: the lines by which edges name dyndep files and pools, pools, and a phony edge that all read.

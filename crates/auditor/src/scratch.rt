@@ -147,7 +147,7 @@ fn push_all_reported(
     let Some(log) = declared.deps else {
         return Ok(());
     };
-    for number in 0..usize::MAX {
+    for number in 0..u32::MAX {
         let Some(path) = log.path(number) else {
             return Ok(());
         };

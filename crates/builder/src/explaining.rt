@@ -8,6 +8,7 @@ ghost use Rattle.graph.specs.Told.{declared_by};
 ghost use Rattle.manifest.specs.Answer.{IsGraph};
 ghost use Rattle.paths.specs.Told.{graph_of, text_at};
 ghost use Rattle.builder.specs.Explained.{AreSaid, IsSaid, ExplainsFrom, BeginsStill, ExplainsReading, ExplainsGraph, SaysDueAt, TellsDueAt};
+ghost use Rattle.work.specs.Answered.{AreAnswersOf};
 ghost use Rattle.work.specs.Standing.{IsBeginning};
 ghost use Rattle.builder.specs.Reports.{IsLinked};
 ghost use Rattle.work.specs.After.{SeesFiles};
@@ -28,8 +29,8 @@ use site::Site;
 use std::alloc::{AllocError, Global};
 use text::{Path, Text};
 use work::{
-    Options, Report, Stop, Work, first_output, orders_stand, path_text, source_to_load,
-    sources_load,
+    Options, Report, Stop, Work, first_output, makers_stand_first, orders_stand, path_text,
+    source_to_load, sources_load,
 };
 
 /// Why commands are due that [`crate::build`] would start, by what the build files, the logs and the files say now. It takes the same
@@ -94,6 +95,7 @@ fn explain_linked<S: Site>(
 fn explain_state<S: Site>(site: &mut S, state: &mut Work<'_>) -> Result<Explained, Report>
     requires running { (S.world site.old).stopped ≡ false }
     requires begins { IsBeginning S.tells state.old (S.world site.old) }
+    requires known { AreAnswersOf state.old }
     ensures looks { OnlyLooks S.tells (S.world site.old) (S.world site.new) }
     ensures explains { ExplainsFrom S.tells S.world site.old site.new state.old result }
 {
@@ -105,8 +107,10 @@ fn explain_state<S: Site>(site: &mut S, state: &mut Work<'_>) -> Result<Explaine
 fn load_sources<S: Site>(site: &mut S, state: &mut Work<'_>) -> Result<(), Stop>
     requires running { (S.world site.old).stopped ≡ false }
     requires begins { IsBeginning S.tells state.old (S.world site.old) }
+    requires known { AreAnswersOf state.old }
     ensures looks { OnlyLooks S.tells (S.world site.old) (S.world site.new) }
     ensures running { OnOk result ((S.world site.new).stopped ≡ false) }
+    ensures known { OnOk result (AreAnswersOf state.new) }
     ensures begun { BeginsStill S.tells S.world site.old site.new state.old state.new result }
 {
     sources_load();
@@ -122,10 +126,12 @@ fn load_sources<S: Site>(site: &mut S, state: &mut Work<'_>) -> Result<(), Stop>
 fn explain_run<S: Site>(site: &mut S, state: &mut Work<'_>) -> Result<Explained, Stop>
     requires running { (S.world site.old).stopped ≡ false }
     requires begins { IsBeginning S.tells state.old (S.world site.old) }
+    requires known { AreAnswersOf state.old }
     ensures looks { OnlyLooks S.tells (S.world site.old) (S.world site.new) }
     ensures tells { TellsDueAt S.tells S.world site.old site.new state.old state.new result }
 {
     orders_stand(&state.graph);
+    makers_stand_first(&state.graph);
     let due = state.check_sources(site)?;
     let explained = explain_due(site, state, &due)?;
     Ok(explained)

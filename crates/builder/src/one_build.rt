@@ -9,9 +9,11 @@ ghost use Rattle.model.specs.Graph.{IsMadeOnce};
 ghost use Rattle.model.specs.SingleBuild.{NamesOther};
 ghost use Rattle.graph.specs.Occupying.{AreApart};
 ghost use Rattle.graph.specs.Told.{declared_by, recorded_by};
+ghost use Rattle.judge.specs.Answers.{KnowsNone};
 ghost use Rattle.judge.specs.Looking.{AreUnasked};
 ghost use Rattle.manifest.specs.Answer.{IsGraph};
 ghost use Rattle.paths.specs.Told.{graph_of, text_at};
+ghost use Rattle.work.specs.Answered.{AreAnswersOf};
 ghost use Rattle.work.specs.Ran.{AreEdgesOf};
 ghost use Rattle.builder.specs.Build.{BuildsTargets};
 ghost use Rattle.builder.specs.Parts.{BuildsReading, IsReportOfNoGraph, BuildsGraph};
@@ -26,7 +28,7 @@ use crate::reading::{Reading, read};
 use depfile::has_reading;
 use dyndep_law::has_reading as has_dyndeps;
 use graph::{Cone, ConeFault, Graph, lists_stand};
-use judge::Looks;
+use judge::{Looks, answers_follow};
 use log_text::has_format;
 use paths::Manifest;
 use plan::{Plan, task_of};
@@ -199,6 +201,7 @@ pub(crate) fn opened<'a, S: Site>(
     ensures looks { OnlyLooks S.tells (S.world site.old) (S.world site.new) }
     ensures running { OnOk result ((S.world site.new).stopped ≡ false) }
     ensures opened { IfOk result (Opens S.tells graph asked.now (S.world site.old) (S.world site.new)) }
+    ensures known { IfOk result AreAnswersOf }
     ensures refused { IfErr result (BuildsGraph S.tells S.world site.old site.new graph asked.now) }
 {
     log_begins();
@@ -242,8 +245,10 @@ fn state_of<'a>(
     ensures fresh { IfOk result (IsFresh graph asked.now) }
     ensures cone { IfOk result (λ state. IsConeRecorded graph asked.now.targets state.cone) }
     ensures records { IfOk result (λ state. state.records ≡ records) }
+    ensures known { IfOk result AreAnswersOf }
     ensures refused { IfErr result (SaysNoCone graph asked.now.given.now asked.now.targets) }
 {
+    answers_follow();
     let fresh = fresh_of(alloc, &graph, asked)?;
     let Fresh {
         cone,
@@ -272,6 +277,8 @@ fn state_of<'a>(
 fn fresh_of(alloc: Global, graph: &Graph, asked: &Asked<'_>) -> Result<Fresh, Report>
     ensures plan { IfOk result (λ fresh. IsPlanFor graph.now fresh.cone asked.now.limits fresh.plan) }
     ensures looks { IfOk result (λ fresh. AreUnasked graph.now fresh.looks) }
+    ensures answers { IfOk result (λ fresh. KnowsNone fresh.looks.sums.answers) }
+    ensures dues { IfOk result (λ fresh. fresh.looks.sums.answers.dues.known ≡ false) }
     ensures tick { IfOk result (λ fresh. fresh.tick ≡ file_in asked.now.folder tick_name) }
     ensures starts { IfOk result (λ fresh. vec_len fresh.starts ≡ length graph.now.manifest.lines) }
     ensures cone { IfOk result (λ fresh. IsConeRecorded graph.now asked.now.targets fresh.cone) }
@@ -305,6 +312,7 @@ fn tick_path(alloc: Global, asked: &Asked<'_>) -> Result<Path, AllocError>
 fn reported<S: Site>(site: &mut S, state: &mut Work<'_>) -> Report
     requires running { (S.world site.old).stopped ≡ false }
     requires begins { IsBeginning S.tells state.old (S.world site.old) }
+    requires known { AreAnswersOf state.old }
     ensures { ReportsSo S.tells S.world site.old site.new state.old state.new result }
 {
     match run_state(site, state) {
@@ -317,6 +325,7 @@ fn reported<S: Site>(site: &mut S, state: &mut Work<'_>) -> Report
 fn run_state<S: Site>(site: &mut S, state: &mut Work<'_>) -> Result<Report, Report>
     requires running { (S.world site.old).stopped ≡ false }
     requires begins { IsBeginning S.tells state.old (S.world site.old) }
+    requires known { AreAnswersOf state.old }
     ensures { ReportsSo S.tells S.world site.old site.new state.old state.new (report_in result) }
 {
     let summary = state.run_graph(site)?;

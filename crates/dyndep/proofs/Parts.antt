@@ -1,12 +1,13 @@
 -- Lists of statements and of paths, up to a place in them.
-use Rattle.std.proofs.Common.{◌≡◌, ℕ, zero, suc, ◌+◌, ◌<◌, ◌≤◌, Bool, true, false, List, [], ◌∷◌, ◌++◌, map, length, take, drop, get_or, refl, sym, ap, ◌∙◌, subst, arith, add-one, IsTrue, ◌↔◌, length-append}
+use Rattle.std.proofs.Common.{◌≡◌, ℕ, zero, suc, ◌+◌, ◌<◌, ◌≤◌, Bool, true, false, List, [], ◌∷◌, ◌++◌, map, length, take, drop, get_or, refl, sym, ap, ◌∙◌, subst, arith, add-one, IsTrue, ◌↔◌, IfSome, Option, Some, None, Bor, append-nil, length-append}
 use Rattle.std.proofs.Math.Seq.{take-suc}
 use Rattle.std.proofs.lemmas.List.{take-append-drop, map-append, length-map}
 use Rattle.std.specs.List.{AllByRecursion, AllZip}
 use Rattle.lexer.specs.declared.statement.Line.{Line}
+use Rattle.lexer.specs.declared.statement.Piece.{Piece}
 use Rattle.lexer.specs.declared.statement.Value.{Value}
-use Rattle.lexer.specs.Said.{Form, form_of, fragments_of, paths_of}
-use Rattle.dyndep.specs.Dyndep.{IsPath, ArePaths, BindsRestat, binds_restat, restat_behind, restat_of, text_of, is_nothing}
+use Rattle.lexer.specs.Said.{Form, form_of, fragment_of, fragments_of, paths_of}
+use Rattle.dyndep.specs.Dyndep.{IsPath, ArePaths, BindsRestat, binds_restat, restat_behind, restat_of, characters_of, text_of, is_nothing}
 use Rattle.dyndep.specs.declared.fault.ReadError.{ReadError}
 use Rattle.dyndep.specs.declared.fault.ReadError.TheVariants.{Memory, Fault}
 use Rattle.dyndep.specs.Refused.{RefusedWhere, NoPaths, BindsAs, forms_in, is_of_block, begins_block, block_length, IsSplit}
@@ -134,6 +135,15 @@ behind_shorter lines block behind split =
     let a = length-map lines (λ (l : Line). form_of l.statement) in
     let b = length-map behind (λ (l : Line). form_of l.statement) in
     omega arith
+
+-- what is said of a piece alone is said of the value
+pub one_text : (found : Option (Bor (List ℕ))) (pieces : List Piece) (first : Piece) (rest : List Piece) → pieces ≡ first ∷ rest → rest ≡ [] → IfSome found (λ text. characters_of (fragment_of first) ≡ text.now) → IfSome found (λ text. text_of (map fragment_of pieces) ≡ text.now)
+one_text None pieces first rest is none said = tt
+one_text (Some text) pieces first rest is none said = ap (λ (l : List Piece). text_of (map fragment_of l)) (is ∙ ap (λ (l : List Piece). first ∷ l) none) ∙ (append-nil (characters_of (fragment_of first)) ∙ said)
+
+pub nothing_left : (pieces : List Piece) → length pieces ≡ 0 → pieces ≡ []
+nothing_left [] none = refl
+nothing_left (piece ∷ pieces) none = absurd (omega arith)
 
 pub none_left : (lines : List Line) → length lines ≡ 0 → lines ≡ []
 none_left [] none = refl

@@ -21,7 +21,8 @@ pub fn additions_of<'lines, 'text>(
     ensures said { IfOk result (AreAdditions (forms_in lines.now)) }
     ensures fault { IfErr result (RefusedWhere (AreNoAdditions (forms_in lines.now))) }
 {
-    let mut additions = Items::new(alloc);
+    // each addition has a line at least
+    let mut additions = Items::from_vec(Vec::with_capacity(alloc, lines.len())?);
     // all lines, borrowed anew, so that the loop can shorten what it has
     let (_, mut left) = lines.split_at(0);
     'statements: while let Some((first, rest)) = left.split_first() {

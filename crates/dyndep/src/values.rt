@@ -1,8 +1,8 @@
 //! What values stand for.
 
-ghost use Rattle.std.specs.Prelude.{◌≡◌, IfOk, string_bytes};
-ghost use Rattle.lexer.specs.Said.{form_of, fragments_of};
-ghost use Rattle.dyndep.specs.Dyndep.{text_of, is_version, is_known_version};
+ghost use Rattle.std.specs.Prelude.{◌≡◌, IfOk, IfSome, string_bytes};
+ghost use Rattle.lexer.specs.Said.{form_of, fragment_of, fragments_of};
+ghost use Rattle.dyndep.specs.Dyndep.{characters_of, text_of, is_version, is_known_version};
 
 use lexer::{Piece, Statement, Value};
 use std::alloc::{AllocError, Global};
@@ -19,6 +19,27 @@ pub fn text_of(alloc: Global, value: &Value<'_>) -> Result<String, AllocError>
         }
     }
     Ok(text)
+}
+
+/// The text of a value of one piece, which is no name.
+pub fn only_text<'v>(value: &'v Value<'_>) -> Option<&'v str>
+    ensures { IfSome result (λ text. text_of (fragments_of value.now) ≡ text.now) }
+{
+    let (first, rest) = value.pieces.as_slice().split_first()?;
+    if !rest.is_empty() {
+        return None;
+    }
+    characters_of(first)
+}
+
+/// The characters of a piece that is no name.
+fn characters_of<'v>(piece: &'v Piece<'_>) -> Option<&'v str>
+    ensures { IfSome result (λ text. characters_of (fragment_of piece.now) ≡ text.now) }
+{
+    match piece {
+        Piece::Text(characters) => Some(*characters),
+        Piece::Name(_) => None,
+    }
 }
 
 /// Whether the statement is a version that is known.

@@ -31,6 +31,23 @@ pub err_of : {T E : Type 0} {P : Type 0} (r : Result T E) → is_err r ≡ true 
 err_of (Ok x) error is = absurd (false≢true error)
 err_of (Err e) error is = is
 
+-- an error says nothing of what was done, and no error nothing of what was not
+pub no_ok : {T E : Type 0} (P : Type 0) (r : Result T E) → is_err r ≡ true → OnOk r P
+no_ok P (Ok x) error = absurd (false≢true error)
+no_ok P (Err e) error = tt
+
+pub no_err : {T E : Type 0} (P : Type 0) (r : Result T E) → is_err r ≡ false → OnErr r P
+no_err P (Ok x) no_error = tt
+no_err P (Err e) no_error = absurd (true≢false no_error)
+
+pub on_ok : {T E : Type 0} {P : Type 0} (r : Result T E) → P → OnOk r P
+on_ok (Ok x) p = p
+on_ok (Err e) p = tt
+
+pub some_err : {T E : Type 0} {P : Type 0} (r : Result T E) → P → OnErr r P
+some_err (Ok x) p = tt
+some_err (Err e) p = p
+
 pub all_take : (P : ℕ → Type 0) (n : ℕ) (xs : List ℕ) → AllByRecursion P xs → AllByRecursion P (take n xs)
 all_take P zero xs all = tt
 all_take P (suc n) [] all = tt
@@ -53,7 +70,7 @@ take_but xs e = let long : length (xs ++ e ∷ []) - 1 ≡ length xs = shorter (
     front [] = refl
     front (y ∷ ys) = ap (λ (l : List ℕ). y ∷ l) (front ys)
 
-pop_push : (users : List (List ℕ)) (p e : ℕ) → p < length users → set (push_at users p e) p (take (length (list_at (push_at users p e) p) - 1) (list_at (push_at users p e) p)) ≡ users
+pub pop_push : (users : List (List ℕ)) (p e : ℕ) → p < length users → set (push_at users p e) p (take (length (list_at (push_at users p e) p) - 1) (list_at (push_at users p e) p)) ≡ users
 pop_push users p e lt =
     ap (λ (l : List ℕ). set (push_at users p e) p (take (length l - 1) l)) (push_same users p e lt)
     ∙ (ap (set (push_at users p e) p) (take_but (list_at users p) e) ∙ set_back users p (list_at users p ++ e ∷ []))

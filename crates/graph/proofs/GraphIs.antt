@@ -67,7 +67,7 @@ module _ (graph : Graph) where
         ∙ (has_append (inputs (edge_at (declared_by graph).edges (suc e))) (recorded_by graph (suc e)) p
         ∙ (ap (λ (b : Bool). has (inputs (edge_at (declared_by graph).edges (suc e))) p || b) (sym (same (suc e) p))
         ∙ sym (has_append (inputs (edge_at (declared_by graph).edges (suc e))) (recorded (suc e)) p)));
-    makers = λ p lt. maker_is graph.manifest graph.makers.items graph.making graph.apart p lt;
+    makers = λ p lt. maker_is graph.manifest graph.makers graph.making graph.apart p lt;
     validated = λ e k lt. validation_within e (slice_index ((links_of graph).validations e) k) (has_at ((links_of graph).validations e) k lt);
     validations = λ e. sym (validations_are e);
   }

@@ -219,7 +219,7 @@ module _ (old new : Graph) (earlier later : ℕ → List (List ℕ)) (edges : Li
   linked_new = links_are many later new.manifest.paths (links_of new) (graph_is new later grown.are)
 
   still_made : (p : List ℕ) (i : ℕ) → maker few p ≡ Some i → maker many p ≡ Some i
-  still_made p i made = maker_still few many has_grown (none_twice new.manifest new.makers.items new.making new.apart) p i made
+  still_made p i made = maker_still few many has_grown (none_twice new.manifest new.makers new.making new.apart) p i made
 
   listed_there : (d : ℕ) → is_listed (mark_at cone.marks.items d) ≡ true → has_number order d ≡ true
   listed_there d listed = sym (was.marked d) ∙ listed
@@ -290,7 +290,7 @@ module _ (old new : Graph) (earlier later : ℕ → List (List ℕ)) (edges : Li
       ]
         where
           maker_was : (i : ℕ) → has (outputs (edge_at few i)) p ≡ true → maker few p ≡ Some i
-          maker_was i makes = maker_is few p i (none_twice old.manifest old.makers.items old.making old.apart) makes
+          maker_was i makes = maker_is few p i (none_twice old.manifest old.makers old.making old.apart) makes
 
   still_needed : (j : ℕ) (p : List ℕ) → has (needs few earlier j) p ≡ true → has (needs many later j) p ≡ true
   still_needed j p need = elim (has-cases (inputs (edge_at few j)) (earlier j) p need) [

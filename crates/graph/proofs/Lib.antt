@@ -37,3 +37,5 @@ pub mod Keeping
 pub mod Same
 pub mod Laying
 pub mod Beside
+pub mod Fronts
+pub mod Losing

@@ -45,6 +45,10 @@ pub on_ok_then : {T E P Q : Type 0} (r : Result T E) → OnOk r P → (P → Q) 
 on_ok_then (Ok x) p f = f p
 on_ok_then (Err e) p f = tt
 
+pub on_ok_both : {T E P Q R : Type 0} (r : Result T E) → OnOk r P → OnOk r Q → (P → Q → R) → OnOk r R
+on_ok_both (Ok x) p q f = f p q
+on_ok_both (Err e) p q f = tt
+
 pub if_ok_both : {T E : Type 0} {P Q R : T → Type 0} (r : Result T E) → IfOk r P → IfOk r Q → ((x : T) → P x → Q x → R x) → IfOk r R
 if_ok_both (Ok x) p q f = f x p q
 if_ok_both (Err e) p q f = tt

@@ -103,13 +103,13 @@ module _ (graph : Graph) where
   alias_text p j lt is =
       let parts = alias_parts p j is in
       record {
-        made = maker_is graph.manifest graph.makers.items graph.making graph.apart p lt ∙ ap later_number parts.0;
+        made = maker_is graph.manifest graph.makers graph.making graph.apart p lt ∙ ap later_number parts.0;
         phony = phony_is j ∙ parts.1;
       }
 
   text_alias : (p i : ℕ) → p < length graph.manifest.paths → IsAlias (declared_by graph).edges (text_at graph.manifest.paths p) i → (j : ℕ) × (suc j ≡ i) × (alias_at (links_of graph) p ≡ Some j)
   text_alias p i lt alias =
-      let made = later_some ((links_of graph).maker p) i (sym (maker_is graph.manifest graph.makers.items graph.making graph.apart p lt) ∙ alias.made) in
+      let made = later_some ((links_of graph).maker p) i (sym (maker_is graph.manifest graph.makers graph.making graph.apart p lt) ∙ alias.made) in
       let phony : (links_of graph).phony made.0 ≡ true = sym (phony_is made.0) ∙ subst (λ (n : ℕ). (edge_at (declared_by graph).edges n).phony ≡ true) (sym made.2) alias.phony in
       (made.0, made.2, ap (if_phony (links_of graph)) made.1 ∙ ap (λ (b : Bool). cond b (Some made.0) None) phony)
 

@@ -1,5 +1,5 @@
 -- Manifests and graphs that have the same parts.
-use Rattle.std.proofs.Common.{◌≡◌, ℕ, ◌<◌, ◌≤◌, ◌^◌, true, List, Option, Vec, Global, length, get_or, sym, ap, subst}
+use Rattle.std.proofs.Common.{◌≡◌, ℕ, ◌<◌, ◌≤◌, ◌^◌, true, List, Option, length, get_or, sym, ap, subst}
 use Rattle.std.proofs.Math.Bridge.{le_prop}
 use Rattle.std.proofs.Math.Nat.{ℕ_set}
 use Rattle.std.proofs.Math.Bool.{Bool-set}
@@ -109,13 +109,13 @@ pub record HaveSameGraph (a b : Graph) : Type 0 where
 
 pub record GraphParts : Type 0 where
   pub manifest : Manifest
-  pub makers : Vec (Option ℕ) Global
+  pub makers : List (Option ℕ)
   pub recorded : List (List ℕ)
   pub users : List (List ℕ)
 
 pub record GraphHolds (x : GraphParts) : Type 0 where
   pub apart : HaveOnePlace x.manifest.paths
-  pub making : AreMakers x.manifest x.makers.items
+  pub making : AreMakers x.manifest x.makers
   pub dyndeps : DyndepsAreInputs x.manifest
   pub recording : AreRecorded x.manifest x.recorded
   pub using : AreUsers x.manifest x.recorded x.users
@@ -142,7 +142,7 @@ graph_made x h = record {
 apart_prop : (x : GraphParts) → IsProp (HaveOnePlace x.manifest.paths)
 apart_prop x = hlevel (ℕ_set)
 
-making_prop : (x : GraphParts) → IsProp (AreMakers x.manifest x.makers.items)
+making_prop : (x : GraphParts) → IsProp (AreMakers x.manifest x.makers)
 making_prop x = hlevel (props, le_prop, ℕ_set, Bool-set)
 
 dyndeps_prop_of : (x : GraphParts) → IsProp (DyndepsAreInputs x.manifest)

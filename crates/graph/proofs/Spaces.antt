@@ -312,11 +312,11 @@ pub unsaturated : (sum size : ℕ) → size ≡ min sum 18446744073709551615 →
 unsaturated sum size is low = omega (arith, is, low)
 
 -- a move into more room
-pub moved_over : (old wide new : List ℕ) (start stop count size e at : ℕ) → start ≤ stop → stop ≤ length old → count ≡ stop - start → size ≡ length old + count + 1 + count
+pub moved_over : (old wide new : List ℕ) (start stop count extra size e at : ℕ) → start ≤ stop → stop ≤ length old → count ≡ stop - start → size ≡ length old + count + 1 + extra
     → wide ≡ take size old ++ replicate (size - length old) e → new ≡ take (length old) wide ++ (between wide start stop ++ drop (length old + count) wide)
     → at ≡ length old + count + 1 → IsMoved old new (between old start stop ++ e ∷ []) at
-moved_over old wide new start stop count size e at order fits is_count is_size is_wide is_new is_at = record {
-  more = replicate count e;
+moved_over old wide new start stop count extra size e at order fits is_count is_size is_wide is_new is_at = record {
+  more = replicate extra e;
   grows = is_new ∙ (ap (λ (l : List ℕ). l ++ (between wide start stop ++ drop (length old + count) wide)) front ∙ ap (λ (l : List ℕ). old ++ l) behind);
   at = let list = length-append (between old start stop) (e ∷ []) in let long = length-between old start stop fits in is_at ∙ omega (arith, list, long, is_count);
 }
@@ -330,17 +330,17 @@ moved_over old wide new start stop count size e at order fits is_count is_size i
     front : take (length old) wide ≡ old
     front = ap (take (length old)) grown ∙ take-append_seam old fill
 
-    left : (size - length old) - count ≡ suc count
+    left : (size - length old) - count ≡ suc extra
     left = omega (arith, is_size)
 
-    rest : drop (length old + count) wide ≡ e ∷ replicate count e
+    rest : drop (length old + count) wide ≡ e ∷ replicate extra e
     rest = ap (drop (length old + count)) grown ∙ (drop-append-add old fill count ∙ (drop-replicate count (size - length old) e ∙ ap (λ (n : ℕ). replicate n e) left))
 
-    behind : between wide start stop ++ drop (length old + count) wide ≡ (between old start stop ++ e ∷ []) ++ replicate count e
+    behind : between wide start stop ++ drop (length old + count) wide ≡ (between old start stop ++ e ∷ []) ++ replicate extra e
     behind =
         ap (λ (l : List ℕ). between l start stop ++ drop (length old + count) wide) grown
         ∙ (ap (λ (l : List ℕ). l ++ drop (length old + count) wide) (between_more old fill start stop order fits)
-        ∙ (ap (λ (l : List ℕ). between old start stop ++ l) rest ∙ sym (append_assoc (between old start stop) (e ∷ []) (replicate count e))))
+        ∙ (ap (λ (l : List ℕ). between old start stop ++ l) rest ∙ sym (append_assoc (between old start stop) (e ∷ []) (replicate extra e))))
 
 -- the first of a list, at the end
 pub first_moved : (old new : List ℕ) (start stop e at : ℕ) → stop ≤ start → new ≡ old ++ e ∷ [] → at ≡ length new → IsMoved old new (between old start stop ++ e ∷ []) at

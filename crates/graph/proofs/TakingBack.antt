@@ -1,9 +1,9 @@
 -- How the load of a dyndep file is taken back.
-use Rattle.std.proofs.Common.{◌≡◌, ◌⊎◌, inl, inr, ℕ, zero, suc, ◌<◌, ◌≤◌, ◌^◌, ◌||◌, Bool, true, false, List, [], ◌∷◌, ◌++◌, Option, Some, None, map, length, get_or, slice_get, take, drop, refl, sym, ◌∙◌, ap, subst, arith, append_assoc}
+use Rattle.std.proofs.Common.{◌≡◌, ◌⊎◌, inl, inr, ℕ, zero, suc, ◌+◌, ◌-◌, ◌<◌, ◌≤◌, ◌^◌, ◌||◌, Bool, true, false, List, [], ◌∷◌, ◌++◌, Option, Some, None, map, length, get_or, slice_get, take, drop, refl, sym, ◌∙◌, ap, subst, arith, append_assoc, length-append}
 use Rattle.std.specs.Option.{is_some}
 use Rattle.std.proofs.Math.Seq.{take-append_seam}
 use Rattle.std.proofs.lemmas.Bool.{cases_Bool, cases_lt, false≢true, false_from_ne_true}
-use Rattle.std.proofs.lemmas.List.{get_or_past}
+use Rattle.std.proofs.lemmas.List.{ext_get_or, get_or_past, get_or-take}
 use Rattle.model.specs.Graph.{has_number, edge_at, Addition}
 use Rattle.paths.specs.declared.line.Line.{Line}
 use Rattle.paths.specs.declared.manifest.Action.{Action}
@@ -11,20 +11,27 @@ use Rattle.paths.specs.declared.manifest.Action.TheVariants.{Alias, Command}
 use Rattle.paths.specs.declared.manifest.Command.{Command as Does}
 use Rattle.paths.specs.declared.manifest.Manifest.{Manifest}
 use Rattle.paths.specs.Commands.{no_action}
+use Rattle.paths.specs.Lists.{line_at, line_inputs, Extends}
 use Rattle.paths.specs.Told.{text_at}
 use Rattle.graph.specs.declared.back.Before.{Before}
 use Rattle.graph.specs.declared.back.LoadedEdge.{LoadedEdge}
 use Rattle.graph.specs.declared.choice.Choice.{Choice}
 use Rattle.graph.specs.declared.graph.Graph.{Graph}
 use Rattle.graph.specs.declared.loaded.Gain.{Gain}
-use Rattle.graph.specs.Held.{list_at, dyndep_of}
+use Rattle.graph.specs.Fronts.{AreCut, recorded_times}
+use Rattle.graph.specs.Gains.{gained_times, gained_outputs, AreFreed}
+use Rattle.graph.specs.Held.{list_at, times, dyndep_of}
 use Rattle.graph.specs.Extended.{dyndep_at}
-use Rattle.graph.specs.InTurn.{AreGivenTo}
+use Rattle.graph.specs.InTurn.{AreGivenTo, AreInputsBelow, AreOutputsBelow}
 use Rattle.graph.specs.LoadedEdges.{numbers_in}
 use Rattle.graph.specs.Statements.{is_place, action_at, action_with, loaded_action, addition_at, owner_in, owners_of, IsChoice, IsFirstOf, AreChosen, AreLoadedActions, HasMore}
 use Rattle.graph.specs.Told.{declared_by}
 use Rattle.graph.specs.Back.{has_restat, undone, IsLoadedEdge, AreLoadedEdges, AreUndoneBy, IsManifestBefore, Undoes, HasGainedAt, MayBeTakenBack}
 use Rattle.graph.proofs.Choosing.{owner_some, is_at, place_is, names_number, named_within}
+use Rattle.graph.proofs.Fronts.{GrewBy, grew_then, grew_back, cut_then, length_cut, recorded_counted}
+use Rattle.graph.proofs.Gaining.{more_length}
+use Rattle.graph.proofs.Lists.{times-append, times_of_has}
+use Rattle.graph.proofs.Losing.{freed_front}
 use Rattle.graph.proofs.Naming.{namer_within}
 use Rattle.graph.proofs.Places.{map_get}
 use Rattle.graph.proofs.Undoing.{number_there, number_at, forgotten_is}
@@ -148,3 +155,117 @@ module _ (old loaded now : Graph) (before : Before) (may : MayBeTakenBack old lo
   recorded_back edges is recorded size gone kept = forgotten_is edges now.recorded recorded old.recorded size gone kept (sym as_many)
       (λ e absent. may.gained.others e (sym (ap (λ (l : List LoadedEdge). has_number (numbers_in l) e) is) ∙ absent) ∙ ap (λ (l : List (List ℕ)). list_at l e) may.undoes.recorded)
       (λ e has. may.none e (sym (ap (λ (l : List LoadedEdge). has_number (numbers_in l) e) is) ∙ has))
+
+  -- ---- users
+
+  -- what joined a list since the load are the edges that recorded the path since then
+  since_then : (p : ℕ) → p < length old.manifest.paths → GrewBy (recorded_times now.recorded (numbers_in before.edges.items) p) (list_at loaded.users p) (list_at now.users p)
+  since_then p low = record { more = more; grows = grows; long = recorded_counted now.recorded more edges p may.undoes.once each same }
+    where
+      edges : List ℕ
+      edges = numbers_in before.edges.items
+
+      front : Extends (list_at loaded.users p) (list_at now.users p)
+      front = may.gained.users p
+
+      more : List ℕ
+      more = front.more
+
+      grows : list_at now.users p ≡ list_at loaded.users p ++ more
+      grows = front.grows
+
+      in_loaded : p < length loaded.manifest.paths
+      in_loaded = let long = more_length old.manifest.paths loaded.manifest.paths may.undoes.manifest.more in omega (arith, low, long)
+
+      in_now : p < length now.manifest.paths
+      in_now = let long = more_length loaded.manifest.paths now.manifest.paths may.gained.paths in let first = in_loaded in omega (arith, first, long)
+
+      -- an edge stands there as often as it recorded the path since then
+      counted : (e : ℕ) → times more e + times (list_at loaded.recorded e) p ≡ times (list_at now.recorded e) p
+      counted e =
+          let before_then = loaded.using.counted p e in_loaded in
+          let at_last = now.using.counted p e in_now in
+          let one = times-append (line_inputs (line_at loaded.manifest.lines e)) (list_at loaded.recorded e) p in
+          let two = times-append (line_inputs (line_at now.manifest.lines e)) (list_at now.recorded e) p in
+          let lines = ap (λ (l : List Line). times (line_inputs (line_at l e)) p) may.gained.lines in
+          let list = ap (λ (l : List ℕ). times l e) grows in
+          let sum = times-append (list_at loaded.users p) more e in
+          omega (arith, before_then, at_last, one, two, lines, list, sum)
+
+      each : (e : ℕ) → has_number more e ≡ true → has_number edges e ≡ true
+      each e there = elim (cases_Bool (has_number edges e)) [
+        | inl has ↦ has
+        | inr absent ↦
+            let some = times_of_has more e there in
+            let kept = ap (λ (l : List ℕ). times l p) (may.gained.others e absent) in
+            let all = counted e in
+            absurd (omega (arith, some, kept, all))
+      ]
+
+      same : (e : ℕ) → has_number edges e ≡ true → times more e ≡ times (list_at now.recorded e) p
+      same e has =
+          let none = ap (λ (l : List ℕ). times l p) (ap (λ (l : List (List ℕ)). list_at l e) may.undoes.recorded ∙ may.none e has) in
+          let all = counted e in
+          let nothing : times [] p ≡ 0 = refl in
+          omega (arith, none, all, nothing)
+
+  -- and by the load those that gained it
+  by_load : (p : ℕ) → GrewBy (gained_times before.gains.items before.chosen.items p) (list_at old.users p) (list_at loaded.users p)
+  by_load p =
+      let front = may.undoes.users.fronts p in
+      let long = may.undoes.users.long p in
+      let size = ap length front.grows in
+      let sum = length-append (list_at old.users p) front.more in
+      record { more = front.more; grows = front.grows; long = omega (arith, long, size, sum) }
+
+  pub inputs_within : (users : List (List ℕ)) → length users ≡ length now.users → AreInputsBelow (length users) before.gains.items
+  inputs_within users fits k p h =
+      let low = may.undoes.inputs k p h in
+      let long = more_length loaded.manifest.paths now.manifest.paths may.gained.paths in
+      let all = now.using.fits in
+      omega (arith, low, long, all, fits)
+
+  pub outputs_within : (makers : List (Option ℕ)) → makers ≡ now.makers → AreOutputsBelow (length makers) before.gains.items
+  outputs_within makers is = subst (λ (l : List (Option ℕ)). AreOutputsBelow (length l) before.gains.items) (sym (is ∙ may.gained.makers)) may.undoes.outputs
+
+  pub users_back : (one two last : List (List ℕ)) → AreCut (recorded_times now.recorded (numbers_in before.edges.items)) now.users one → AreCut (gained_times before.gains.items before.chosen.items) one two → last ≡ take before.paths two → last ≡ old.users
+  users_back one two last first second is = is ∙ ext_get_or [] (take before.paths two) old.users sizes (λ p low. get_or-take before.paths two p [] (inside p low) ∙ (cut.each p ∙ back p (within p low)))
+    where
+      r : ℕ → ℕ
+      r = recorded_times now.recorded (numbers_in before.edges.items)
+
+      g : ℕ → ℕ
+      g = gained_times before.gains.items before.chosen.items
+
+      cut : AreCut (λ p. g p + r p) now.users two
+      cut = cut_then r g (λ p. g p + r p) now.users one two (λ p. omega arith) first second
+
+      sizes : length (take before.paths two) ≡ length old.users
+      sizes =
+          let count = may.undoes.manifest.paths in
+          let a = more_length old.manifest.paths loaded.manifest.paths may.undoes.manifest.more in
+          let b = more_length loaded.manifest.paths now.manifest.paths may.gained.paths in
+          let fits = cut.fits in
+          let all = now.using.fits in
+          let whole = old.using.fits in
+          length_cut before.paths two (omega (arith, count, a, b, fits, all)) ∙ omega (arith, count, whole)
+
+      within : (p : ℕ) → p < length (take before.paths two) → p < length old.manifest.paths
+      within p low = let size = sizes in let whole = old.using.fits in omega (arith, low, size, whole)
+
+      inside : (p : ℕ) → p < length (take before.paths two) → p < before.paths
+      inside p low = let below = within p low in let count = may.undoes.manifest.paths in omega (arith, below, count)
+
+      back : (p : ℕ) → p < length old.manifest.paths → take (length (list_at now.users p) - (g p + r p)) (list_at now.users p) ≡ list_at old.users p
+      back p low = grew_back (g p + r p) (list_at old.users p) (list_at now.users p) (grew_then (list_at old.users p) (list_at loaded.users p) (list_at now.users p) (g p) (r p) (by_load p) (since_then p low))
+
+  -- ---- makers
+
+  pub makers_back : (freed last : List (Option ℕ)) → AreFreed (gained_outputs before.gains.items before.chosen.items) now.makers freed → last ≡ take before.makers freed → last ≡ old.makers
+  makers_back freed last are is =
+      let outs = gained_outputs before.gains.items before.chosen.items in
+      let still : AreFreed outs loaded.makers freed = subst (λ (l : List (Option ℕ)). AreFreed outs l freed) may.gained.makers are in
+      let count = may.undoes.makers in
+      let longer = may.undoes.gained.longer in
+      let fits = still.fits in
+      is ∙ freed_front outs old.makers loaded.makers freed before.makers count may.undoes.gained still (length_cut before.makers freed (omega (arith, count, longer, fits)) ∙ count)

@@ -3,11 +3,11 @@ use Rattle.std.proofs.Common.{◌≡◌, ◌≢◌, ◌⊎◌, inl, inr, ℕ, ze
 use Rattle.std.specs.Option.{is_some}
 use Rattle.std.proofs.Math.ListN.{set}
 use Rattle.std.proofs.Math.Seq.{take-append_seam}
-use Rattle.std.proofs.lemmas.Bool.{cases_Bool, cases_eq, cases_lt, eqb-true, eq-eqb, false≢true, false_from_ne_true, or_left, or_right}
+use Rattle.std.proofs.lemmas.Bool.{cases_Bool, cases_eq, cases_lt, eqb-true, eq-eqb, false≢true, false_from_ne_true, or_cases, or_left, or_right}
 use Rattle.std.proofs.lemmas.List.{ext_get_or, get_or-set_same, get_or-set_other, get_or_past, append-nil, length-set, map-append}
 use Rattle.std.proofs.lemmas.Option.{slice_get-get_or, slice_get_within}
 use Rattle.model.specs.Graph.{has_number, Addition}
-use Rattle.theory.proofs.Lists.{has_number-left, has_number-right, has_number-push}
+use Rattle.theory.proofs.Lists.{has_number-is, has_number-left, has_number-right, has_number-push}
 use Rattle.paths.specs.declared.manifest.Action.{Action}
 use Rattle.paths.specs.declared.manifest.Action.TheVariants.{Alias, Command}
 use Rattle.paths.specs.declared.manifest.Command.{Command as Does}
@@ -17,14 +17,15 @@ use Rattle.paths.specs.Told.{text_at}
 use Rattle.graph.specs.declared.back.LoadedEdge.{LoadedEdge}
 use Rattle.graph.specs.declared.choice.Choice.{Choice}
 use Rattle.graph.specs.declared.graph.Graph.{Graph}
-use Rattle.graph.specs.Held.{list_at, dyndep_of}
+use Rattle.graph.specs.Held.{list_at, dyndep_of, StandOnce}
 use Rattle.graph.specs.Extended.{dyndep_at}
 use Rattle.graph.specs.LoadedEdges.{numbers_in}
 use Rattle.graph.specs.Statements.{action_at}
 use Rattle.graph.specs.Chosen.{chosen_edges, choice_in, AreRising}
 use Rattle.graph.specs.Back.{has_restat, loaded_by, loaded_all, undone, AreLoadedEdges, AreUndoneBy}
-use Rattle.graph.proofs.Chosen.{no_choice, choice_here, choice_past, choice_at}
+use Rattle.graph.proofs.Chosen.{no_choice, rising_tail, rising_absent, choice_here, choice_past, choice_at}
 use Rattle.graph.proofs.Choosing.{owner_some, is_at, place_is, names_number, named_within}
+use Rattle.graph.proofs.Lists.{once_none, once_push, once_append}
 use Rattle.graph.proofs.Places.{map_get}
 
 -- ---- edges by place and by number
@@ -226,3 +227,31 @@ loaded_each actions chosen rising = record {
       };
   all = listed actions chosen;
 }
+
+-- each of them stands once
+loaded_chosen : (actions : List Action) (chosen : List Choice) (e : ℕ) → has_number (numbers_in (loaded_all actions chosen)) e ≡ true → has_number (chosen_edges chosen) e ≡ true
+loaded_chosen actions [] e has = absurd (false≢true has)
+loaded_chosen actions (c ∷ cs) e has = by c.statement (loaded_chosen actions cs e) (subst (λ (l : List ℕ). has_number l e ≡ true) (numbers_more (loaded_by c.edge (action_at actions c.edge) c.statement) (loaded_all actions cs)) has)
+  where
+    by : (o : Option ℕ) → (has_number (numbers_in (loaded_all actions cs)) e ≡ true → has_number (chosen_edges cs) e ≡ true) → has_number (numbers_in (loaded_by c.edge (action_at actions c.edge) o) ++ numbers_in (loaded_all actions cs)) e ≡ true
+        → has_number (chosen_edges (c ∷ cs)) e ≡ true
+    by None rest there = or_right (c.edge == e) (has_number (chosen_edges cs) e) (rest there)
+    by (Some k) rest there = elim (or_cases (c.edge == e) (has_number (numbers_in (loaded_all actions cs)) e) there) [
+      | inl here ↦ or_left (c.edge == e) (has_number (chosen_edges cs) e) here
+      | inr later ↦ or_right (c.edge == e) (has_number (chosen_edges cs) e) (rest later)
+    ]
+
+pub loaded_once : (actions : List Action) (chosen : List Choice) → AreRising (chosen_edges chosen) → StandOnce (numbers_in (loaded_all actions chosen))
+loaded_once actions [] rising = once_none
+loaded_once actions (c ∷ cs) rising =
+    subst StandOnce (sym (numbers_more (loaded_by c.edge (action_at actions c.edge) c.statement) (loaded_all actions cs))) (by c.statement (loaded_once actions cs (rising_tail c.edge (chosen_edges cs) rising)))
+  where
+    rest : List ℕ
+    rest = numbers_in (loaded_all actions cs)
+
+    absent : has_number rest c.edge ≡ false
+    absent = false_from_ne_true (has_number rest c.edge) (λ there. false≢true (sym (rising_absent c.edge (chosen_edges cs) rising) ∙ loaded_chosen actions cs c.edge there))
+
+    by : (o : Option ℕ) → StandOnce rest → StandOnce (numbers_in (loaded_by c.edge (action_at actions c.edge) o) ++ rest)
+    by None later = later
+    by (Some k) later = once_append (c.edge ∷ []) rest (once_push [] c.edge once_none refl) later (λ n here. subst (λ (m : ℕ). has_number rest m ≡ false) (has_number-is c.edge n here) absent)

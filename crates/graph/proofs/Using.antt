@@ -28,7 +28,7 @@ length-more lists count fits =
     let rest = length-replicate {A = List ℕ} (count - length lists) [] in
     omega (arith, sum, rest, fits)
 
-front_list : (lists : List (List ℕ)) (count p : ℕ) → p < length lists → list_at (more_lists lists count) p ≡ list_at lists p
+pub front_list : (lists : List (List ℕ)) (count p : ℕ) → p < length lists → list_at (more_lists lists count) p ≡ list_at lists p
 front_list lists count p low = get_or_append_left lists (replicate (count - length lists) []) [] p low
 
 -- an empty list, whichever is asked for
@@ -37,7 +37,7 @@ empty_at zero k = get_or_past [] k [] (omega arith)
 empty_at (suc n) zero = refl
 empty_at (suc n) (suc k) = empty_at n k
 
-back_list : (lists : List (List ℕ)) (count p : ℕ) → length lists ≤ p → list_at (more_lists lists count) p ≡ []
+pub back_list : (lists : List (List ℕ)) (count p : ℕ) → length lists ≤ p → list_at (more_lists lists count) p ≡ []
 back_list lists count p past = get_or-append_right lists (replicate (count - length lists) []) (length lists) p [] refl past ∙ empty_at (count - length lists) (p - length lists)
 
 -- ---- edges that gained inputs
@@ -49,6 +49,10 @@ length-used_with gains users e (Some k) = length-pushed users (gain_at gains k).
 pub length-used : (gains : List Gain) (users : List (List ℕ)) (cs : List Choice) → length (users_given gains users cs) ≡ length users
 length-used gains users [] = refl
 length-used gains users (c ∷ cs) = length-used gains (users_with gains users c.edge c.statement) cs ∙ length-used_with gains users c.edge c.statement
+
+pub used_push : (gains : List Gain) (users : List (List ℕ)) (cs : List Choice) (x : Choice) → users_given gains users (cs ++ x ∷ []) ≡ users_with gains (users_given gains users cs) x.edge x.statement
+used_push gains users [] x = refl
+used_push gains users (c ∷ cs) x = used_push gains (users_with gains users c.edge c.statement) cs x
 
 none_more : (b : Bool) → ◌≡◌ {A = ℕ} (cond b 0 0) 0
 none_more true = refl

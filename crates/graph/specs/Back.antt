@@ -9,10 +9,12 @@ use Rattle.graph.specs.declared.back.LoadedEdge.{LoadedEdge}
 use Rattle.graph.specs.declared.choice.Choice.{Choice}
 use Rattle.graph.specs.declared.graph.Graph.{Graph}
 use Rattle.graph.specs.declared.loaded.Gain.{Gain}
-use Rattle.graph.specs.Held.{list_at}
+use Rattle.graph.specs.Fronts.{FrontsStay}
+use Rattle.graph.specs.Gains.{HaveGainedBy, HaveGrown}
+use Rattle.graph.specs.Held.{list_at, StandOnce}
 use Rattle.graph.specs.LoadedEdges.{numbers_in}
 use Rattle.graph.specs.Extended.{dyndep_at}
-use Rattle.graph.specs.InTurn.{AreGivenTo}
+use Rattle.graph.specs.InTurn.{AreGivenTo, AreInputsBelow, AreOutputsBelow}
 use Rattle.graph.specs.Statements.{is_place, action_at, HasMore}
 
 -- ---- edges whose file was loaded
@@ -76,8 +78,12 @@ WasManifest was now before = IsManifestBefore was now before.gains.items before.
 pub record Undoes (old loaded : Graph) (file : ℕ) (before : Before) : Type 0 where
   pub manifest : WasManifest old.manifest loaded.manifest before
   pub of : before.file ≡ file
-  pub makers : before.makers ≡ old.makers
-  pub users : before.users ≡ old.users
+  pub makers : before.makers ≡ length old.makers
+  pub gained : HaveGainedBy before.gains.items before.chosen.items old.makers loaded.makers
+  pub outputs : AreOutputsBelow (length loaded.makers) before.gains.items
+  pub users : HaveGrown before.gains.items before.chosen.items old.users loaded.users
+  pub inputs : AreInputsBelow (length loaded.manifest.paths) before.gains.items
+  pub once : StandOnce (numbers_in before.edges.items)
   pub recorded : loaded.recorded ≡ old.recorded
   pub edges : (e : ℕ) → has_number (numbers_in before.edges.items) e ≡ is_place (dyndep_at old e) file
 
@@ -91,6 +97,8 @@ pub record HasGainedAt (edges : List ℕ) (old new : Graph) : Type 0 where
   pub builddir : new.manifest.builddir ≡ old.manifest.builddir
   pub lines : new.manifest.lines ≡ old.manifest.lines
   pub others : (e : ℕ) → has_number edges e ≡ false → list_at new.recorded e ≡ list_at old.recorded e
+  pub makers : new.makers ≡ old.makers
+  pub users : FrontsStay old.users new.users
 
 -- the graph became this one by a load that this undoes, of edges without recorded inputs, and only these got any since then
 pub record MayBeTakenBack (old loaded now : Graph) (before : Before) : Type 0 where

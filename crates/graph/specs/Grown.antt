@@ -4,6 +4,7 @@ use Rattle.model.specs.Graph.{has_number}
 use Rattle.paths.specs.Numbers.{IsAdded}
 use Rattle.graph.specs.declared.graph.Graph.{Graph}
 use Rattle.graph.specs.Held.{list_at, StandOnce}
+use Rattle.graph.specs.Fronts.{FrontsStay}
 use Rattle.graph.specs.Told.{declared_by}
 
 -- the path has a number, and nothing else is changed: no build line names more than before
@@ -25,3 +26,4 @@ pub record HasGained (old new : Graph) (edge : ℕ) (inputs : List ℕ) : Type 0
   pub gained : (p : ℕ) → has_number (list_at new.recorded edge) p ≡ (has_number (list_at old.recorded edge) p || has_number inputs p)
   pub once : StandOnce (list_at new.recorded edge)
   pub others : (e : ℕ) → e ≢ edge → list_at new.recorded e ≡ list_at old.recorded e
+  pub users : FrontsStay old.users new.users

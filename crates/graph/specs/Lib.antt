@@ -24,3 +24,6 @@ pub mod Alias
 pub mod ReadingOf
 pub mod Occupying
 pub mod Namings
+pub mod Fronts
+pub mod Gains
+pub mod Used

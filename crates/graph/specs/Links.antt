@@ -39,7 +39,7 @@ links_of graph = record {
   recorded = λ e. list_at graph.recorded e;
   validations = λ e. (line_at graph.manifest.lines e).validations;
   phony = λ e. is_alias (get_or graph.manifest.actions e no_action);
-  maker = λ p. maker_in graph.makers.items p;
+  maker = λ p. maker_in graph.makers p;
 }
 
 -- the edges that name a path as one of their inputs or recorded inputs

@@ -133,7 +133,7 @@ impl Graph {
     fn stored_maker(&self, path: PathId) -> Option<EdgeId>
         ensures { result ≡ (links_of self.now).maker path }
     {
-        self.makers.get(path.index()).copied().flatten()
+        self.makers.as_slice().get(path.index()).copied().flatten()
     }
 
     /// The edges that name the path as an input or a recorded input, an edge as often as it names the path.

@@ -1,11 +1,16 @@
 //! A dyndep file that was loaded is taken back.
 
-ghost use Rattle.std.specs.Prelude.{◌≡◌, ◌<◌, ◌++◌, List, All, length, IfOk, OnOk};
+ghost use Rattle.std.specs.Prelude.{◌≡◌, ◌<◌, ◌++◌, ℕ, true, List, All, length, IfOk, OnOk};
+ghost use Rattle.model.specs.Graph.{has_number};
+ghost use Rattle.graph.specs.Fronts.{AreCut, recorded_times};
+ghost use Rattle.graph.specs.Held.{list_at};
+ghost use Rattle.graph.specs.LoadedEdges.{numbers_in, EachLoaded};
 ghost use Rattle.graph.specs.Back.{has_restat, undone, loaded_by, loaded_all, AreUndoneBy, WasManifest, MayBeTakenBack};
 
 use crate::choice::Choice;
 use crate::graph::Graph;
-use crate::loaded::{Gain, shrink_lines};
+use crate::loaded::{Gain, free_gains, shrink_lines, unuse_gains};
+use crate::recorded::Recorded;
 use crate::users::Users;
 use paths::{Action, EdgeId, Manifest, PathId};
 use std::alloc::{AllocError, Global};
@@ -20,16 +25,15 @@ pub struct LoadedEdge {
     pub restat: bool,
 }
 
-/// What undoes the load of a dyndep file: what edges gained, the parts of the graph that were put in other ones' place, and how the
-/// edges that named the file were before.
+/// What undoes the load of a dyndep file: what edges gained, and how the edges that named the file were before.
 #[derive(Drop)]
 pub struct Before {
     /// The edges that named the file, and their statements.
     pub chosen: Vec<Choice>,
     /// What each statement adds.
     pub gains: Vec<Gain>,
-    pub makers: Vec<Option<EdgeId>>,
-    pub users: Users,
+    /// Of how many paths it was told which edge makes them.
+    pub makers: usize,
     /// The edges that named the file.
     pub edges: Vec<LoadedEdge>,
     pub file: PathId,
@@ -39,15 +43,31 @@ pub struct Before {
 
 impl Graph {
     /// Makes the graph what it was before a dyndep file was loaded. Paths that it got since then go, and recorded inputs that
-    /// joined the edges of the file. It takes no memory, and a time of the order of the paths that go and of the edges of the file.
+    /// joined the edges of the file. It takes no memory, and a time of the order of the paths that go and of what the edges of the file name.
     pub fn take_back(&mut self, alloc: Global, before: Before)
         requires { (old : Graph) × ((loaded : Graph) × MayBeTakenBack old loaded self.old before) }
         ensures { (old loaded : Graph) → MayBeTakenBack old loaded self.old before → self.new ≡ old }
     {
+        unuse_recorded(&mut self.users, &self.recorded, &before.edges);
+        unuse_gains(&mut self.users, &before.chosen, &before.gains);
+        self.users.truncate(before.paths);
+        let mut makers = mem::replace(&mut self.makers, Items::new(alloc)).into_vec();
+        free_gains(&mut makers, &before.chosen, &before.gains);
+        makers.truncate(before.makers);
+        self.makers = Items::from_vec(makers);
         self.recorded.forget(&before.edges);
         restore(alloc, &mut self.manifest, &before);
-        self.makers = before.makers;
-        self.users = before.users;
+    }
+}
+
+/// Takes an edge from behind those that name a path, for each time that the path is a recorded input of one of these edges.
+fn unuse_recorded(users: &mut Users, recorded: &Recorded, edges: &[LoadedEdge])
+    requires edges { EachLoaded edges.now (λ edge. edge < length recorded.now) }
+    requires within { (e p : ℕ) → has_number (list_at recorded.now e) p ≡ true → p < length users.old }
+    ensures { AreCut (recorded_times recorded.now (numbers_in edges.now)) users.old users.new }
+{
+    for loaded in edges {
+        users.pop_all(recorded.at(loaded.edge));
     }
 }
 

@@ -19,6 +19,7 @@ use crate::side_files::{fault_at, first_occupied, stop_at};
 use crate::users::Users;
 use paths::{EdgeId, Manifest, PathId};
 use std::alloc::{AllocError, Global};
+use text::Items;
 
 impl Graph {
     /// The graph of what build files declare, which it takes over. Nothing is recorded. The folder is that of the program's own
@@ -62,7 +63,7 @@ fn graph_with(
     let users = users_of(alloc, &manifest, &counts)?;
     Ok(Graph {
         manifest,
-        makers,
+        makers: Items::from_vec(makers),
         recorded,
         users,
     })

@@ -119,24 +119,6 @@ impl Cone {
         })
     }
 
-    /// The same cone, in memory of its own.
-    pub fn copied(&self, alloc: Global) -> Result<Cone, AllocError>
-        ensures order { IfOk result (λ cone. cone.order.items ≡ self.now.order.items) }
-        ensures marks { IfOk result (λ cone. cone.marks.items ≡ self.now.marks.items) }
-        ensures targets { IfOk result (λ cone. cone.targets.items ≡ self.now.targets.items) }
-    {
-        let order = self.order.as_slice().to_vec(alloc)?;
-        let marks = self.marks.as_slice().to_vec(alloc)?;
-        let places = self.places.as_slice().to_vec(alloc)?;
-        let targets = self.targets.as_slice().to_vec(alloc)?;
-        Ok(Cone {
-            order,
-            marks,
-            places,
-            targets,
-        })
-    }
-
     /// Whether the edge is in the cone.
     pub fn has(&self, edge: EdgeId) -> bool
         requires { edge < vec_len self.now.marks }

@@ -8,16 +8,18 @@ ghost use Rattle.graph.specs.Extended.{HasTaken, HasRefused};
 use crate::back::{Before, loaded_edges};
 use crate::fault::ExtendFault;
 use crate::graph::Graph;
-use crate::loaded::{Kept, load};
+use crate::loaded::{Parts, load};
+use crate::users::Users;
 use dyndep::Addition;
 use paths::PathId;
 use std::alloc::Global;
 use std::mem;
+use text::Items;
 
 impl Graph {
     /// Gives each edge that names the file what its statement adds: outputs, inputs, and whether outputs may stay as they were.
     /// The file is loaded then, and no edge names it any more (manual: "Dynamic Dependencies"). What is recorded stays. It takes
-    /// a time of the order of the whole graph.
+    /// a time of the order of what the statements and their edges name.
     ///
     /// `Unfit` where the statements do not fit: it tells of the lowest edge that names the file and has no statement, else of the
     /// first statement that is of no such edge, or of one that has a statement before. `MadeTwice` tells, where they fit, of
@@ -39,22 +41,26 @@ impl Graph {
         let chosen = self.statements(alloc, additions, file)?;
         let edges = loaded_edges(alloc, self.manifest.actions.as_slice(), &chosen)?;
         let known = self.manifest.paths.len();
-        let kept = Kept {
-            makers: self.makers.as_slice(),
-            recorded: &self.recorded,
-            users: &self.users,
-        };
-        match load(alloc, &mut self.manifest, kept, additions, &chosen) {
-            Ok(loaded) => Ok(Before {
-                chosen,
-                gains: loaded.gains,
-                makers: mem::replace(&mut self.makers, loaded.makers),
-                users: mem::replace(&mut self.users, loaded.users),
-                edges,
-                file,
-                paths: known,
-            }),
+        let made = self.makers.len();
+        let makers = mem::replace(&mut self.makers, Items::new(alloc));
+        let users = mem::replace(&mut self.users, Users::empty(alloc));
+        let mut parts = Parts { makers, users };
+        match load(alloc, &mut self.manifest, &mut parts, additions, &chosen) {
+            Ok(gains) => {
+                self.makers = parts.makers;
+                self.users = parts.users;
+                Ok(Before {
+                    chosen,
+                    gains,
+                    makers: made,
+                    edges,
+                    file,
+                    paths: known,
+                })
+            }
             Err(fault) => {
+                self.makers = parts.makers;
+                self.users = parts.users;
                 self.manifest.paths.truncate(known);
                 Err(fault)
             }

@@ -3,16 +3,13 @@
 ghost use Rattle.std.specs.Prelude.{◌≡◌, ◌<◌, ◌++◌, [], ℕ, List, All, take, slice_set, ◌≤◌, length, IfOk, OnOk, OnErr, nat_eq};
 ghost use Rattle.indexmap.specs.IndexSet.{insert_all};
 ghost use Rattle.graph.specs.Held.{list_at, StandOnce};
+ghost use Rattle.graph.specs.Fronts.{FrontsStay};
 ghost use Rattle.graph.specs.Grown.{HasNumbered, HasGained};
 
 use crate::graph::Graph;
 use crate::path_set::PathSet;
 use paths::{EdgeId, PathId};
 use std::alloc::{AllocError, Global};
-
-/// For each input that is recorded, or that a dyndep file says, so many places are reserved for who names it: lists that grow leave
-/// room behind.
-pub(crate) const USERS_ROOM: usize = 3;
 
 impl Graph {
     /// The number of a path, which gets one where it has none. No build line names more than before: the path gets a
@@ -29,12 +26,36 @@ impl Graph {
         added
     }
 
-    /// Room for so many more recorded inputs of edges.
+    /// The same, where so many edges are to name the path as a recorded input: unless memory is refused, there is room for them in one place.
+    pub fn add_named(
+        &mut self,
+        alloc: Global,
+        path: &str,
+        named: usize,
+    ) -> Result<PathId, AllocError>
+        ensures added { IfOk result (HasNumbered self.old self.new path.now) }
+        ensures err { OnErr result (self.new ≡ self.old) }
+    {
+        let number = self.add_path(alloc, path)?;
+        self.make_room(number, named);
+        Ok(number)
+    }
+
+    /// Makes room for so many more edges that name the path, unless memory is refused.
+    fn make_room(&mut self, path: PathId, named: usize)
+        ensures { self.new ≡ self.old }
+    {
+        if named > 1 {
+            self.users.widen(path, named - 1);
+        }
+    }
+
+    /// Room for so many more recorded inputs of edges, where it is known of each path how many edges are to name it (`add_named`).
     pub fn reserve_inputs(&mut self, inputs: usize) -> Result<(), AllocError>
         ensures { self.new ≡ self.old }
     {
         self.recorded.reserve(inputs)?;
-        self.users.reserve(inputs.saturating_mul(USERS_ROOM))
+        self.users.reserve(inputs)
     }
 
     /// No paths, in a room that the graph lends until `add_set`.
@@ -111,6 +132,7 @@ impl Graph {
         ensures recorded { OnOk result (self.new.recorded ≡ slice_set self.old.recorded edge inputs.now) }
         ensures manifest { self.new.manifest ≡ self.old.manifest }
         ensures makers { self.new.makers ≡ self.old.makers }
+        ensures users { OnOk result (FrontsStay self.old.users self.new.users) }
         ensures err { OnErr result (self.new ≡ self.old) }
     {
         let fresh = &inputs[held..];

@@ -9,6 +9,7 @@ mod cone;
 mod defaults;
 mod extend;
 mod fault;
+mod few;
 mod graph;
 mod grow;
 mod laws;

@@ -1,21 +1,23 @@
 //! A manifest whose edges have what a dyndep file says.
 
-ghost use Rattle.std.specs.Prelude.{◌≡◌, ◌<◌, ◌≤◌, ℕ, List, All, true, Some, map, length, IfSome, IfOk, IfErr, OnOk, OnErr};
+ghost use Rattle.std.specs.Prelude.{◌≡◌, ◌<◌, ◌≤◌, ℕ, List, All, true, false, Some, map, length, IfSome, IfOk, IfErr, OnOk, OnErr};
 ghost use Rattle.paths.specs.Numbers.{HaveOnePlace};
 ghost use Rattle.paths.specs.Told.{graph_of};
 ghost use Rattle.graph.specs.Chosen.{chosen_edges, choice_in, AreRising, IsWithin};
 ghost use Rattle.paths.specs.declared.line.Line.{Line};
 ghost use Rattle.graph.specs.InTurn.{lines_with, lines_given, lines_without, AreGivenTo, users_with, users_given, AreInputsBelow, AreOutputsBelow, AreGrownFrom, ClaimsWith, ClaimsGains, AreUsersGiven, IsLoadedBy, actions_given};
-ghost use Rattle.graph.specs.Making.{HaveClaimed, IsMakingFault};
-ghost use Rattle.graph.specs.Held.{maker_in, AreMakers, DyndepsAreInputs, AreRecorded, AreUsers};
+ghost use Rattle.graph.specs.Making.{IsMakingFault};
+ghost use Rattle.graph.specs.Held.{more_lists, times, AreMakers, DyndepsAreInputs};
+ghost use Rattle.graph.specs.Fronts.{AreCut};
+ghost use Rattle.graph.specs.Gains.{gained_times, gained_outputs, HaveGrown, HaveGainedBy, AreFreed};
+ghost use Rattle.graph.specs.Used.{IfYes, IfNo, IsUsedBy, StayUsed};
 ghost use Rattle.graph.specs.Extended.{addition_of};
-ghost use Rattle.graph.specs.Statements.{HasMore, AreNumbersIn, AreGainsIn, action_with, loaded_action, HasOnlyMore, IsLoadFault, IsPartsFault, extend_fault_of};
+ghost use Rattle.graph.specs.Statements.{gain_of, HasMore, AreNumbersIn, AreGainsIn, action_with, loaded_action, HasOnlyMore, IsLoadFault, IsPartsFault, extend_fault_of};
 
 use crate::choice::Choice;
 use crate::fault::{ExtendFault, GraphFault};
-use crate::grow::USERS_ROOM;
-use crate::makers::{claim, makers_of};
-use crate::recorded::Recorded;
+use crate::few::Few;
+use crate::makers::{claim_free, free, makers_of};
 use crate::users::Users;
 use dyndep::Addition;
 use paths::{Action, EdgeId, Lines, Manifest, PathId, Paths};
@@ -26,70 +28,54 @@ use text::{Items, Path};
 /// What a statement adds, in numbers.
 #[derive(Drop)]
 pub struct Gain {
-    pub outputs: Items<PathId>,
-    pub inputs: Items<PathId>,
+    pub outputs: Few,
+    pub inputs: Few,
 }
 
-/// What a graph keeps beside its manifest, before a load.
-#[derive(Clone, Copy)]
-pub struct Kept<'g> {
-    pub makers: &'g [Option<EdgeId>],
-    pub recorded: &'g Recorded,
-    pub users: &'g Users,
-}
-
-/// Which edge makes each path, and for each path the edges that name it.
+/// What a graph keeps beside its manifest: which edge makes each path, and for each path the edges that name it.
 #[derive(Drop)]
 pub struct Parts {
-    pub makers: Vec<Option<EdgeId>>,
+    pub makers: Items<Option<EdgeId>>,
     pub users: Users,
 }
 
-/// What loaded edges gained, and what follows from that.
-#[derive(Drop)]
-pub struct Loaded {
-    pub gains: Vec<Gain>,
-    pub makers: Vec<Option<EdgeId>>,
-    pub users: Users,
-}
-
-/// Gives edges what the statements add that were chosen for them, whose dyndep file is loaded then; what they gained, and the parts of
-/// the graph that follow from it. Lines grow where they are.
+/// Gives edges what the statements add that were chosen for them, whose dyndep file is loaded then; what they gained. Lines, makers and
+/// users grow where they are.
 ///
 /// Where it is refused, the manifest has more paths at most.
 pub fn load(
     alloc: Global,
     manifest: &mut Manifest,
-    kept: Kept<'_>,
+    parts: &mut Parts,
     additions: &[Addition],
     chosen: &[Choice],
-) -> Result<Loaded, ExtendFault>
-    requires makers { AreMakers manifest.old kept.makers.now }
-    requires recorded { AreRecorded manifest.old kept.recorded.now }
-    requires users { AreUsers manifest.old kept.recorded.now kept.users.now }
+) -> Result<Vec<Gain>, ExtendFault>
+    requires makers { AreMakers manifest.old parts.old.makers }
+    requires users { IsUsedBy manifest.old parts.old.users }
     requires dyndeps { DyndepsAreInputs manifest.old }
     requires rising { AreRising (chosen_edges chosen.now) }
     requires within { All (IsWithin (length manifest.old.lines) (length additions.now)) chosen.now }
     ensures loaded { OnOk result (IsLoadedBy manifest.old manifest.new additions.now chosen.now) }
-    ensures given { IfOk result (λ loaded. AreGivenTo loaded.gains.items chosen.now manifest.old.lines manifest.new.lines) }
-    ensures makers { IfOk result (λ loaded. AreMakers manifest.new loaded.makers.items) }
-    ensures users { IfOk result (λ loaded. AreUsers manifest.new kept.entry.recorded.now loaded.users) }
+    ensures given { IfOk result (λ gains. AreGivenTo gains.items chosen.now manifest.old.lines manifest.new.lines) }
+    ensures makers { OnOk result (AreMakers manifest.new parts.new.makers) }
+    ensures users { OnOk result (StayUsed manifest.old manifest.new parts.old.users parts.new.users) }
+    ensures gained { IfOk result (λ gains. HaveGainedBy gains.items chosen.now parts.old.makers parts.new.makers) }
+    ensures grown { IfOk result (λ gains. HaveGrown gains.items chosen.now parts.old.users parts.new.users) }
+    ensures inputs { IfOk result (λ gains. AreInputsBelow (length manifest.new.paths) gains.items) }
+    ensures outputs { IfOk result (λ gains. AreOutputsBelow (length parts.new.makers) gains.items) }
     ensures apart { OnOk result (HaveOnePlace manifest.new.paths) }
+    ensures kept { OnErr result (parts.new ≡ parts.old) }
     ensures err { OnErr result (HasOnlyMore manifest.old manifest.new) }
     ensures fault { IfErr result (IsLoadFault manifest.old (map addition_of additions.now) (choice_in chosen.now)) }
 {
     let gains = gains_of(alloc, &mut manifest.paths, additions)?;
     grow_lines(&mut manifest.lines, chosen, &gains)?;
-    match parts_of(alloc, manifest, kept, chosen, &gains) {
-        Ok(parts) => {
+    match grow_parts(alloc, manifest, parts, chosen, &gains) {
+        Ok(()) => {
             let mut actions = mem::replace(&mut manifest.actions, Items::new(alloc)).into_vec();
             load_actions(&mut actions, additions, chosen);
             manifest.actions = Items::from_vec(actions);
-            Ok(Loaded {
-                gains,
-                makers: parts.makers,
-                users: parts.users,
-            })
+            Ok(gains)
         }
         Err(fault) => {
             shrink_lines(&mut manifest.lines, chosen, &gains);
@@ -117,11 +103,11 @@ fn gains_of(
     Ok(gains)
 }
 
-fn numbers_of(alloc: Global, paths: &mut Paths, texts: &[Path]) -> Result<Items<PathId>, AllocError>
+fn numbers_of(alloc: Global, paths: &mut Paths, texts: &[Path]) -> Result<Few, AllocError>
     ensures more { HasMore paths.old paths.new }
     ensures numbers { IfOk result (λ numbers. AreNumbersIn paths.new texts.now numbers) }
 {
-    let mut numbers = Items::from_vec(Vec::with_capacity(alloc, texts.len())?);
+    let mut numbers = Few::new(alloc);
     for text in texts {
         numbers.push(paths.add(alloc, text.as_str())?)?;
     }
@@ -184,84 +170,138 @@ fn grow_line(lines: &mut Lines, choice: Choice, gains: &[Gain]) -> Result<(), Al
     }
 }
 
-/// The makers and the users of the paths of a manifest: those of before, and the edges that gained an output or an input.
-fn parts_of(
+/// The edges that gained an output make it, and those that gained an input are among its users. Where that is refused, nothing is
+/// changed.
+fn grow_parts(
     alloc: Global,
     manifest: &Manifest,
-    kept: Kept<'_>,
+    parts: &mut Parts,
     chosen: &[Choice],
     gains: &[Gain],
-) -> Result<Parts, ExtendFault>
-    requires makers { length kept.makers.now ≤ length manifest.now.paths }
-    requires grown { AreGrownFrom gains.now chosen.now kept.makers.now manifest.now.lines }
-    requires users { length kept.users.now ≤ length manifest.now.paths }
+) -> Result<(), ExtendFault>
+    requires makers { length parts.old.makers ≤ length manifest.now.paths }
+    requires grown { AreGrownFrom gains.now chosen.now parts.old.makers manifest.now.lines }
+    requires users { length parts.old.users ≤ length manifest.now.paths }
     requires outputs { AreOutputsBelow (length manifest.now.paths) gains.now }
     requires inputs { AreInputsBelow (length manifest.now.paths) gains.now }
-    ensures makers { IfOk result (λ parts. AreMakers manifest.now parts.makers.items) }
-    ensures users { IfOk result (λ parts. AreUsersGiven gains.now manifest.now kept.entry.users.now chosen.now parts.users) }
+    ensures makers { OnOk result (AreMakers manifest.now parts.new.makers) }
+    ensures fits { OnOk result (length parts.new.makers ≡ length manifest.now.paths) }
+    ensures gained { OnOk result (HaveGainedBy gains.now chosen.now parts.old.makers parts.new.makers) }
+    ensures users { OnOk result (AreUsersGiven gains.now manifest.now parts.old.users chosen.now parts.new.users) }
+    ensures grown { OnOk result (HaveGrown gains.now chosen.now parts.old.users parts.new.users) }
     ensures apart { OnOk result (HaveOnePlace manifest.now.paths) }
+    ensures kept { OnErr result (parts.new ≡ parts.old) }
     ensures fault { IfErr result (IsPartsFault manifest.now) }
 {
-    let makers = match grown_makers(alloc, manifest, kept.makers, chosen, gains) {
-        Ok(makers) => makers,
-        Err(fault) => return Err(extend_fault(fault)),
-    };
+    let known = parts.users.len();
     let paths = manifest.paths.len();
-    let mut grown = kept.users.copied(alloc, paths, gained_places(gains))?;
-    use_gains(&mut grown, chosen, gains)?;
-    Ok(Parts {
-        makers,
-        users: grown,
-    })
+    grow_users(&mut parts.users, paths, chosen, gains)?;
+    match grow_makers(alloc, manifest, &mut parts.makers, chosen, gains) {
+        Ok(()) => Ok(()),
+        Err(fault) => {
+            unuse_gains(&mut parts.users, chosen, gains);
+            parts.users.truncate(known);
+            Err(extend_fault(fault))
+        }
+    }
 }
 
-/// The makers of the paths of a manifest: those of before, and the edges that gained an output. Where one of these has a maker, all
-/// edges are gone through, for the first fault in reading order.
-fn grown_makers(
+/// Makes each edge the maker of the outputs that it gained. Where one of these has a maker, all edges are gone through, for the first
+/// fault in reading order, and nothing is changed.
+fn grow_makers(
     alloc: Global,
     manifest: &Manifest,
-    makers: &[Option<EdgeId>],
+    makers: &mut Items<Option<EdgeId>>,
     chosen: &[Choice],
     gains: &[Gain],
-) -> Result<Vec<Option<EdgeId>>, GraphFault>
-    requires fits { length makers.now ≤ length manifest.now.paths }
-    requires grown { AreGrownFrom gains.now chosen.now makers.now manifest.now.lines }
+) -> Result<(), GraphFault>
+    requires fits { length makers.old ≤ length manifest.now.paths }
+    requires grown { AreGrownFrom gains.now chosen.now makers.old manifest.now.lines }
     requires outputs { AreOutputsBelow (length manifest.now.paths) gains.now }
-    ensures makers { IfOk result (λ makers. AreMakers manifest.now makers.items) }
+    ensures makers { OnOk result (AreMakers manifest.now makers.new) }
+    ensures fits { OnOk result (length makers.new ≡ length manifest.now.paths) }
+    ensures gained { OnOk result (HaveGainedBy gains.now chosen.now makers.old makers.new) }
+    ensures kept { OnErr result (makers.new ≡ makers.old) }
     ensures fault { IfErr result (IsMakingFault (graph_of manifest.now).edges (length manifest.now.lines)) }
 {
-    let mut grown = longer_makers(alloc, makers, manifest.paths.len())?;
-    if claim_gains(&mut grown, chosen, gains) {
-        return Ok(grown);
+    if claim_more(alloc, makers, manifest.paths.len(), chosen, gains)? {
+        return Ok(());
     }
-    makers_of(alloc, manifest)
+    Err(first_fault(alloc, manifest))
 }
 
-/// These makers, for so many paths, where those behind have none.
-fn longer_makers(
-    alloc: Global,
-    makers: &[Option<EdgeId>],
-    paths: usize,
-) -> Result<Vec<Option<EdgeId>>, AllocError>
-    requires { length makers.now ≤ paths }
-    ensures fits { IfOk result (λ longer. length longer.items ≡ paths) }
-    ensures same { IfOk result (λ longer. (p : ℕ) → maker_in longer.items p ≡ maker_in makers.now p) }
+/// The first fault in reading order of edges that do not each make their outputs alone.
+fn first_fault(alloc: Global, manifest: &Manifest) -> GraphFault
+    ensures { IsMakingFault (graph_of manifest.now).edges (length manifest.now.lines) result }
 {
-    let mut longer = Vec::with_capacity(alloc, paths)?;
-    longer.extend_from_slice(makers)?;
-    longer.resize(paths, None)?;
-    Ok(longer)
+    match makers_of(alloc, manifest) {
+        Err(fault) => fault,
+        // never: an output that has a maker already is found there, too
+        Ok(_) => GraphFault::Memory,
+    }
 }
 
-/// Makes each edge the maker of the outputs that it gained. Whether none of them had one.
+/// There may be makers of so many paths, and each edge makes the outputs that it gained, if none of these has a maker. Whether it is
+/// so; else nothing is changed.
+fn claim_more(
+    alloc: Global,
+    makers: &mut Items<Option<EdgeId>>,
+    paths: usize,
+    chosen: &[Choice],
+    gains: &[Gain],
+) -> Result<bool, AllocError>
+    requires fits { length makers.old ≤ paths }
+    requires outputs { AreOutputsBelow paths gains.now }
+    requires within { (lines : ℕ) × All (IsWithin lines (length gains.now)) chosen.now }
+    ensures fits { IfYes result (length makers.new ≡ paths) }
+    ensures made { IfYes result (ClaimsGains gains.now chosen.now makers.old makers.new) }
+    ensures gained { IfYes result (HaveGainedBy gains.now chosen.now makers.old makers.new) }
+    ensures kept { IfNo result (makers.new ≡ makers.old) }
+    ensures err { OnErr result (makers.new ≡ makers.old) }
+{
+    let mut grown = mem::replace(makers, Items::new(alloc)).into_vec();
+    let claimed = claim_within(&mut grown, paths, chosen, gains);
+    *makers = Items::from_vec(grown);
+    claimed
+}
+
+/// The same, of a list.
+fn claim_within(
+    makers: &mut Vec<Option<EdgeId>>,
+    paths: usize,
+    chosen: &[Choice],
+    gains: &[Gain],
+) -> Result<bool, AllocError>
+    requires fits { length makers.old.items ≤ paths }
+    requires outputs { AreOutputsBelow paths gains.now }
+    requires within { (lines : ℕ) × All (IsWithin lines (length gains.now)) chosen.now }
+    ensures fits { IfYes result (length makers.new.items ≡ paths) }
+    ensures made { IfYes result (ClaimsGains gains.now chosen.now makers.old.items makers.new.items) }
+    ensures gained { IfYes result (HaveGainedBy gains.now chosen.now makers.old.items makers.new.items) }
+    ensures kept { IfNo result (makers.new.items ≡ makers.old.items) }
+    ensures err { OnErr result (makers.new.items ≡ makers.old.items) }
+{
+    let known = makers.len();
+    makers.resize(paths, None)?;
+    if claim_gains(makers.as_mut_slice(), chosen, gains) {
+        return Ok(true);
+    }
+    makers.truncate(known);
+    Ok(false)
+}
+
+/// Makes each edge the maker of the outputs that it gained, if none of them had one. Whether it is so; else nothing is changed.
 fn claim_gains(makers: &mut [Option<EdgeId>], chosen: &[Choice], gains: &[Gain]) -> bool
     requires outputs { AreOutputsBelow (length makers.old) gains.now }
     requires within { (lines : ℕ) × All (IsWithin lines (length gains.now)) chosen.now }
     ensures fits { length makers.new ≡ length makers.old }
     ensures made { result ≡ true → ClaimsGains gains.now chosen.now makers.old makers.new }
+    ensures gained { result ≡ true → HaveGainedBy gains.now chosen.now makers.old makers.new }
+    ensures kept { result ≡ false → makers.new ≡ makers.old }
 {
-    for choice in chosen {
+    for (done, choice) in chosen.iter().enumerate() {
         if !claim_gain(makers, *choice, gains) {
+            free_gains(makers, &chosen[..done], gains);
             return false;
         }
     }
@@ -274,32 +314,72 @@ fn claim_gain(makers: &mut [Option<EdgeId>], choice: Choice, gains: &[Gain]) -> 
     requires within { IfSome choice.statement (λ k. k < length gains.now) }
     ensures fits { length makers.new ≡ length makers.old }
     ensures claimed { result ≡ true → ClaimsWith gains.now makers.old makers.new choice.edge choice.statement }
+    ensures kept { result ≡ false → makers.new ≡ makers.old }
 {
     match choice.statement {
-        Some(statement) => claim_outputs(makers, &gains[statement], choice.edge),
+        Some(statement) => claim_free(makers, gains[statement].outputs.as_slice(), choice.edge),
         None => true,
     }
 }
 
-fn claim_outputs(makers: &mut [Option<EdgeId>], gain: &Gain, edge: EdgeId) -> bool
-    requires { All (λ p. p < length makers.old) gain.now.outputs }
-    ensures fits { length makers.new ≡ length makers.old }
-    ensures claimed { result ≡ true → HaveClaimed makers.old makers.new gain.now.outputs edge }
+/// Takes from each edge the outputs that it gained: they have no maker any more.
+pub(crate) fn free_gains(makers: &mut [Option<EdgeId>], chosen: &[Choice], gains: &[Gain])
+    requires outputs { AreOutputsBelow (length makers.old) gains.now }
+    requires within { (lines : ℕ) × All (IsWithin lines (length gains.now)) chosen.now }
+    ensures { AreFreed (gained_outputs gains.now chosen.now) makers.old makers.new }
 {
-    match claim(makers, gain.outputs.as_slice(), edge) {
-        Ok(()) => true,
-        Err(_) => false,
+    for choice in chosen {
+        free_gain(makers, *choice, gains);
     }
 }
 
-/// Puts each edge behind those that name the inputs that it gained.
+/// The same for one edge.
+fn free_gain(makers: &mut [Option<EdgeId>], choice: Choice, gains: &[Gain])
+    requires outputs { AreOutputsBelow (length makers.old) gains.now }
+    requires within { IfSome choice.statement (λ k. k < length gains.now) }
+    ensures { AreFreed (gain_of gains.now choice.statement).outputs makers.old makers.new }
+{
+    match choice.statement {
+        Some(statement) => free(makers, gains[statement].outputs.as_slice()),
+        None => {}
+    }
+}
+
+/// There are lists of users for so many paths, and each edge stands behind those that name the inputs that it gained. Where memory is
+/// refused, nothing is changed.
+fn grow_users(
+    users: &mut Users,
+    paths: usize,
+    chosen: &[Choice],
+    gains: &[Gain],
+) -> Result<(), AllocError>
+    requires longer { length users.old ≤ paths }
+    requires inputs { AreInputsBelow paths gains.now }
+    requires within { (lines : ℕ) × All (IsWithin lines (length gains.now)) chosen.now }
+    ensures ok { OnOk result (users.new ≡ users_given gains.now (more_lists users.old paths) chosen.now) }
+    ensures err { OnErr result (users.new ≡ users.old) }
+{
+    let known = users.len();
+    users.lengthen(paths)?;
+    let used = use_gains(users, chosen, gains);
+    if used.is_err() {
+        users.truncate(known);
+    }
+    used
+}
+
+/// Puts each edge behind those that name the inputs that it gained. Where memory is refused, nothing is changed.
 fn use_gains(users: &mut Users, chosen: &[Choice], gains: &[Gain]) -> Result<(), AllocError>
     requires inputs { AreInputsBelow (length users.old) gains.now }
     requires within { (lines : ℕ) × All (IsWithin lines (length gains.now)) chosen.now }
-    ensures { OnOk result (users.new ≡ users_given gains.now users.old chosen.now) }
+    ensures ok { OnOk result (users.new ≡ users_given gains.now users.old chosen.now) }
+    ensures err { OnErr result (users.new ≡ users.old) }
 {
-    for choice in chosen {
-        use_gain(users, *choice, gains)?;
+    for (done, choice) in chosen.iter().enumerate() {
+        if use_gain(users, *choice, gains).is_err() {
+            unuse_gains(users, &chosen[..done], gains);
+            return Err(AllocError);
+        }
     }
     Ok(())
 }
@@ -308,7 +388,8 @@ fn use_gains(users: &mut Users, chosen: &[Choice], gains: &[Gain]) -> Result<(),
 fn use_gain(users: &mut Users, choice: Choice, gains: &[Gain]) -> Result<(), AllocError>
     requires inputs { AreInputsBelow (length users.old) gains.now }
     requires within { IfSome choice.statement (λ k. k < length gains.now) }
-    ensures { OnOk result (users.new ≡ users_with gains.now users.old choice.edge choice.statement) }
+    ensures ok { OnOk result (users.new ≡ users_with gains.now users.old choice.edge choice.statement) }
+    ensures err { OnErr result (users.new ≡ users.old) }
 {
     match choice.statement {
         Some(statement) => {
@@ -319,13 +400,27 @@ fn use_gain(users: &mut Users, choice: Choice, gains: &[Gain]) -> Result<(), All
     }
 }
 
-/// How many places are asked for besides, for the inputs that edges gain.
-fn gained_places(gains: &[Gain]) -> usize {
-    let mut count = 0usize;
-    for gain in gains {
-        count = count.saturating_add(gain.inputs.len());
+/// Takes an edge from behind those that name a path, for each time that an edge gained the path as an input.
+pub(crate) fn unuse_gains(users: &mut Users, chosen: &[Choice], gains: &[Gain])
+    requires inputs { AreInputsBelow (length users.old) gains.now }
+    requires within { (lines : ℕ) × All (IsWithin lines (length gains.now)) chosen.now }
+    ensures { AreCut (gained_times gains.now chosen.now) users.old users.new }
+{
+    for choice in chosen {
+        unuse_gain(users, *choice, gains);
     }
-    count.saturating_mul(USERS_ROOM)
+}
+
+/// The same for one edge.
+fn unuse_gain(users: &mut Users, choice: Choice, gains: &[Gain])
+    requires inputs { AreInputsBelow (length users.old) gains.now }
+    requires within { IfSome choice.statement (λ k. k < length gains.now) }
+    ensures { AreCut (times (gain_of gains.now choice.statement).inputs) users.old users.new }
+{
+    match choice.statement {
+        Some(statement) => users.pop_all(gains[statement].inputs.as_slice()),
+        None => {}
+    }
 }
 
 /// The fault of a graph whose dyndep files are inputs: an edge keeps its inputs.

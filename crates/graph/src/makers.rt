@@ -1,10 +1,11 @@
 //! Which edge makes each path.
 
-ghost use Rattle.std.specs.Prelude.{◌≡◌, ◌<◌, ◌≤◌, ◌++◌, All, length, None, IfOk, IfErr, OnOk, IfSome, MatchOption};
+ghost use Rattle.std.specs.Prelude.{◌≡◌, ◌<◌, ◌≤◌, ◌++◌, true, false, All, length, None, IfOk, IfErr, OnOk, IfSome, MatchOption};
 ghost use Rattle.model.specs.Graph.{has_number};
 ghost use Rattle.paths.specs.Numbers.{HaveOnePlace};
 ghost use Rattle.paths.specs.Told.{graph_of, text_at};
 ghost use Rattle.graph.specs.Held.{AreMakers, DyndepsAreInputs, DyndepIsInput};
+ghost use Rattle.graph.specs.Gains.{AreFreed};
 ghost use Rattle.graph.specs.Making.{IsFirstFlaw, IsFlawBelow, IsMakingFault, AreMakersBelow, HaveDyndepsBelow, HaveClaimed, IsClaimedTwice, IsOtherDyndep, IsFaultFor};
 
 use crate::fault::GraphFault;
@@ -103,6 +104,33 @@ pub(crate) fn claim(
         makers[output.index()] = Some(edge);
     }
     Ok(())
+}
+
+/// Makes the edge the maker of these outputs, if none of them has one and none stands twice. Whether it is so; else nothing is changed.
+pub(crate) fn claim_free(makers: &mut [Option<EdgeId>], outputs: &[PathId], edge: EdgeId) -> bool
+    requires { All (λ p. p < length makers.old) outputs.now }
+    ensures fits { length makers.new ≡ length makers.old }
+    ensures claimed { result ≡ true → HaveClaimed makers.old makers.new outputs.now edge }
+    ensures kept { result ≡ false → makers.new ≡ makers.old }
+{
+    for (done, path) in outputs.iter().enumerate() {
+        if makers[path.index()].is_some() {
+            free(makers, &outputs[..done]);
+            return false;
+        }
+        makers[path.index()] = Some(edge);
+    }
+    true
+}
+
+/// Leaves these paths without a maker.
+pub(crate) fn free(makers: &mut [Option<EdgeId>], paths: &[PathId])
+    requires { All (λ p. p < length makers.old) paths.now }
+    ensures { AreFreed paths.now makers.old makers.new }
+{
+    for path in paths {
+        makers[path.index()] = None;
+    }
 }
 
 /// `NoDyndepInput` where the edge names a dyndep file that is none of its inputs.

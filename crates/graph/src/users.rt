@@ -4,7 +4,8 @@ ghost use Rattle.std.specs.Prelude.{◌≡◌, ◌<◌, ◌+◌, ◌++◌, ◌�
 ghost use Rattle.std.proofs.Math.ListN.{replicate};
 ghost use Rattle.paths.specs.Lists.{between, Extends};
 ghost use Rattle.graph.specs.Rooms.{IsMoved, AreLaid};
-ghost use Rattle.graph.specs.Held.{list_at, more_lists, push_at, pushed, pop_at};
+ghost use Rattle.graph.specs.Held.{list_at, more_lists, times, push_at, pushed, pop_at};
+ghost use Rattle.graph.specs.Fronts.{AreCut, HaveEmptyBehind};
 
 use paths::{EdgeId, PathId};
 use std::alloc::{AllocError, Global};
@@ -33,7 +34,7 @@ impl Room {
 }
 
 /// The edges that name each path, which contracts see as one list for each path. A path takes 24 bytes, and 4 to 16 for
-/// each edge that its list had when it was longest: a list without room moves to the end, into twice the room.
+/// each edge that its list had when it was longest: a list without room moves to the end, into twice the room, unless `widen` made some.
 #[derive(Drop)]
 pub struct Users {
     edges: Vec<EdgeId>,
@@ -76,36 +77,34 @@ impl Users {
         Ok(Users { edges, rooms })
     }
 
-    /// The same lists for so many paths, where those behind have none, with places for so many edges more. What lists left when they moved
-    /// is copied as well: each moved into more than twice what it left.
-    pub(crate) fn copied(
-        &self,
-        alloc: Global,
-        paths: usize,
-        more: usize,
-    ) -> Result<Users, AllocError>
-        requires { length self.now ≤ paths }
-        ensures { IfOk result (λ users. users ≡ more_lists self.now paths) }
+    /// No paths, without memory.
+    pub(crate) fn empty(alloc: Global) -> Users
+        ensures { result ≡ [] }
     {
-        let mut users = self.same(alloc, paths, more)?;
-        users.add_paths(paths - self.len())?;
-        Ok(users)
+        Users {
+            edges: Vec::new(alloc),
+            rooms: Vec::new(alloc),
+        }
     }
 
-    /// The same lists, with room for so many paths in all and for so many edges more.
-    fn same(&self, alloc: Global, paths: usize, more: usize) -> Result<Users, AllocError>
-        ensures { IfOk result (λ users. users ≡ self.now) }
+    /// So many paths in all: no edge names those behind. Where memory is refused, nothing is changed.
+    pub(crate) fn lengthen(&mut self, paths: usize) -> Result<(), AllocError>
+        requires { length self.old ≤ paths }
+        ensures ok { OnOk result (self.new ≡ more_lists self.old paths) }
+        ensures err { OnErr result (self.new ≡ self.old) }
     {
-        let mut edges = Vec::with_capacity(alloc, self.edges.len().saturating_add(more))?;
-        edges.extend_from_slice(&self.edges)?;
-        let mut rooms = Vec::with_capacity(alloc, paths)?;
-        rooms.extend_from_slice(&self.rooms)?;
-        Ok(Users { edges, rooms })
+        let known = self.len();
+        let added = self.add_paths(paths - known);
+        if added.is_err() {
+            self.truncate(known);
+        }
+        added
     }
 
-    /// So many more paths, which no edge names.
+    /// So many more paths, which no edge names. Where memory is refused, some of them may be there.
     fn add_paths(&mut self, count: usize) -> Result<(), AllocError>
-        ensures { OnOk result (self.new ≡ self.old ++ replicate count []) }
+        ensures ok { OnOk result (self.new ≡ self.old ++ replicate count []) }
+        ensures err { OnErr result (HaveEmptyBehind self.old self.new) }
     {
         for _done in 0..count {
             self.add_path()?;
@@ -180,7 +179,7 @@ impl Users {
         let place = path.index();
         let room = self.rooms[place];
         if room.stop > room.start {
-            return self.push_moved(path, edge);
+            return self.push_moved(path, edge, room.stop - room.start);
         }
         let start = self.edges.len();
         self.edges.push(edge)?;
@@ -193,9 +192,9 @@ impl Users {
         Ok(())
     }
 
-    /// Moves the list of a path to the end, into twice the room, and puts an edge behind it.
+    /// Moves the list of a path to the end, and puts an edge behind it, with room for so many more.
     #[inline(never)]
-    fn push_moved(&mut self, path: PathId, edge: EdgeId) -> Result<(), AllocError>
+    fn push_moved(&mut self, path: PathId, edge: EdgeId, more: usize) -> Result<(), AllocError>
         requires { path < length self.old }
         ensures ok { OnOk result (self.new ≡ push_at self.old path edge) }
         ensures err { OnErr result (self.new ≡ self.old) }
@@ -203,13 +202,27 @@ impl Users {
         let place = path.index();
         let room = self.rooms[place];
         let start = self.edges.len();
-        let stop = append_moved(&mut self.edges, room.start, room.stop, edge)?;
+        let stop = append_moved(&mut self.edges, room.start, room.stop, edge, more)?;
         self.rooms[place] = Room {
             start,
             stop,
             end: self.edges.len(),
         };
         Ok(())
+    }
+
+    /// Makes room in one place for so many more edges, and one, behind those that name the path: its list moves to the end once, and not
+    /// each time that it is full. Where memory is refused, it has the room that it had.
+    pub(crate) fn widen(&mut self, path: PathId, more: usize)
+        ensures { self.new ≡ self.old }
+    {
+        if path.index() >= self.len() {
+            return;
+        }
+        match self.push_moved(path, EdgeId::at_below(0), more) {
+            Ok(()) => self.pop(path),
+            Err(_) => {}
+        }
     }
 
     /// Puts an edge behind those that name each of these paths. Where memory is refused, nothing is changed.
@@ -254,10 +267,11 @@ impl Users {
         }
     }
 
-    /// Takes back what was put behind those that name these paths.
+    /// Takes back what was put behind those that name these paths: each list loses as many edges as the path stands among these.
     pub fn pop_all(&mut self, paths: &[PathId])
         requires { All (λ p. p < length self.old) paths.now }
-        ensures { (users : List (List ℕ)) (edge : ℕ) → self.old ≡ pushed users paths.now edge → self.new ≡ users }
+        ensures back { (users : List (List ℕ)) (edge : ℕ) → self.old ≡ pushed users paths.now edge → self.new ≡ users }
+        ensures cut { AreCut (times paths.now) self.old self.new }
     {
         let (_, mut left) = paths.split_at(0);
         while let Some((last, front)) = left.split_last() {
@@ -325,13 +339,14 @@ fn lay_room(rooms: &mut Vec<Room>, end: usize, places: usize) -> Result<usize, A
     Ok(next)
 }
 
-/// Copies what stands between two places to the end, puts an edge behind it, and makes as many places again. Gives the
-/// place behind the edge.
+/// Copies what stands between two places to the end, puts an edge behind it, and makes so many places more. Gives the place behind the
+/// edge.
 fn append_moved(
     edges: &mut Vec<EdgeId>,
     start: usize,
     stop: usize,
     edge: EdgeId,
+    more: usize,
 ) -> Result<usize, AllocError>
     requires order { start ≤ stop }
     requires within { stop ≤ length edges.old.items }
@@ -340,7 +355,7 @@ fn append_moved(
 {
     let end = edges.len();
     let count = stop - start;
-    edges.resize((end + count + 1).saturating_add(count), edge)?;
+    edges.resize((end + count + 1).saturating_add(more), edge)?;
     copy_behind(edges.as_mut_slice(), start, stop, end);
     Ok(end + count + 1)
 }

@@ -1,10 +1,11 @@
 //! Real files, as a site needs them.
 
-ghost use Rattle.std.specs.Prelude.{◌≡◌, ◌<◌, true, false, IsTrue};
+ghost use Rattle.std.specs.Prelude.{◌≡◌, ◌<◌, true, false, IsTrue, OnOk};
+ghost use Rattle.text.specs.Handed.{TakesMore};
 ghost use Rattle.std.specs.Fs.{asks_append, asks_truncate};
 
 use crate::clock::Touches;
-use crate::content::content_of;
+use crate::content::{content_of, hand_content};
 use crate::held::rest;
 use crate::logs::{Logs, is_log, unless_lost};
 use locks::Identity;
@@ -14,7 +15,7 @@ use std::io::{ErrorKind, Write};
 use std::os::unix::fs::{FileExt, MetadataExt};
 use std::time::{Duration, Instant};
 use std::{fs, io, thread};
-use text::Bytes;
+use text::{Bytes, Takes};
 
 /// How many files that are appended to are kept open.
 const MOST_KEPT: usize = 4;
@@ -105,7 +106,23 @@ impl<'a> Disk<'a> {
         }
     }
 
-    /// The same, and what stands there, by one look at the file that is read. A log is looked at by its path, once it was read.
+    /// Hands what the file at the path holds to the taker, piece by piece, and nothing where there is no file. The lock of a build log is as
+    /// with `read`.
+    pub fn read_into<T: Takes>(&mut self, path: &str, taker: &mut T) -> io::Result<()>
+        ensures { OnOk result (TakesMore T.Took taker.old taker.new) }
+    {
+        if is_log(path) {
+            self.logs.read_into(path, taker)?;
+            return Ok(());
+        }
+        let Some(file) = unless_absent(File::open(self.rt, path))? else {
+            return Ok(());
+        };
+        hand_content(self.alloc, &file, taker)?;
+        Ok(())
+    }
+
+    /// The same as `read`, and what stands there, by one look at the file that is read. A log is looked at by its path, once it was read.
     pub fn read_found(&mut self, path: &str) -> io::Result<Option<Found>> {
         if !is_log(path) {
             return unless_absent(self.found(path));

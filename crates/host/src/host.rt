@@ -24,7 +24,7 @@ use std::io::{ErrorKind, Write};
 use std::time::{SystemTime, UNIX_EPOCH};
 use std::{fmt, io};
 use terminal::{Look, Names, Terminal};
-use text::Bytes;
+use text::{Bytes, Takes};
 
 /// What is told where the clock did not go on.
 const STANDS: &str =
@@ -237,12 +237,10 @@ impl<'a, W: Write> Host<'a, W> {
         // where the clock stands still for seconds there is nothing more to do about it
         let _ = self.wait_for_clock();
         self.put_response(act)?;
-        let ran = self.jobs.run_apart(
-            self.rt,
-            act.command.as_str(),
-            &mut self.watch,
-            &mut self.screen,
-        );
+        let line = act.command.to_text(self.alloc)?;
+        let ran = self
+            .jobs
+            .run_apart(self.rt, line.as_str(), &mut self.watch, &mut self.screen);
         let ok = self.noted(SHELL, ran)?;
         if ok {
             self.remove_response(act)?;
@@ -261,9 +259,8 @@ impl<'a, W: Write> Host<'a, W> {
         if path.is_empty() {
             return Ok(());
         }
-        let done = self
-            .disk
-            .write(path, act.response_content.as_str().as_bytes());
+        let content = act.response_content.to_text(self.alloc)?;
+        let done = self.disk.write(path, content.as_str().as_bytes());
         self.noted(path, done)
     }
 
@@ -410,6 +407,11 @@ impl<'a, W: Write> Texts for Host<'a, W> {
     fn read(&mut self, path: &str) -> Result<Option<Bytes>, SiteFault> {
         let found = self.disk.read(path);
         self.noted(path, found)
+    }
+
+    fn read_into<T: Takes>(&mut self, path: &str, taker: &mut T) -> Result<(), SiteFault> {
+        let handed = self.disk.read_into(path, taker);
+        self.noted(path, handed)
     }
 
     fn failures(&self) -> u64 {

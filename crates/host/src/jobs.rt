@@ -95,19 +95,14 @@ impl Jobs {
         ensures ok { OnOk result (self.new ≡ with_start job act.now stamp self.old) }
         ensures err { OnErr result (self.new ≡ self.old) }
     {
+        let line = act.command.to_text(self.alloc)?;
         let event = started(job, act, stamp)?;
         reserve(&mut self.events, self.commands.len() + 2)?;
         reserve(&mut self.commands, 1)?;
         read_once(self.alloc, &mut self.environment)?;
         let environment = known(&self.environment);
         set_beside(opened, self.commands.len());
-        let command = commands::start(
-            &self.tracing,
-            job,
-            act.command.as_str(),
-            environment,
-            opened,
-        )?;
+        let command = commands::start(&self.tracing, job, line.as_str(), environment, opened)?;
         push_reserved(&mut self.events, event);
         push_reserved(&mut self.commands, command);
         Ok(())

@@ -5,9 +5,10 @@
 //! Records are put behind each log by one call each, and whoever reads them takes them from any build. Contracts tell nothing of that: of
 //! files and locks they do not speak.
 
-ghost use Rattle.std.specs.Prelude.{◌≡◌, ◌<◌, IfSome, Some, None, vec_len};
+ghost use Rattle.std.specs.Prelude.{◌≡◌, ◌<◌, IfSome, OnOk, Some, None, vec_len};
+ghost use Rattle.text.specs.Handed.{TakesMore};
 
-use crate::content::content_of;
+use crate::content::{content_of, hand_content};
 use crate::disk::unless_absent;
 use crate::held::{
     Alone, FEW_LOOKS, Held, Lock, MOST_LOOKS, lock_alone, make_alone, open_held, rest,
@@ -18,6 +19,7 @@ use std::fs::{File, Metadata};
 use std::io::Write;
 use std::os::unix::fs::FileExt;
 use std::{fs, io};
+use text::Takes;
 
 /// The last part of the path of a build log.
 const LOG: &str = ".nj_log";
@@ -118,29 +120,53 @@ impl<'a> Logs<'a> {
 
     /// What the log at the path holds. A build log is locked before, together with others, and is so until it is read or replaced again.
     pub fn read(&mut self, path: &str) -> io::Result<Vec<u8>> {
-        self.forget(path);
-        if is_named(path, LOG) {
-            return self.read_guarded(path);
-        }
-        let file = File::open(self.rt, path)?;
-        let metadata = file.metadata()?;
-        let content = content_of(self.alloc, &file, metadata.len())?;
-        self.keep(path, &metadata, content.len())?;
+        let held = self.open(path)?;
+        let content = content_of(self.alloc, &held.file, held.metadata.len())?;
+        self.settle(path, held, content.len() as u64)?;
         Ok(content)
     }
 
-    /// What the build log at the path holds. One that is empty is as one that is absent: others may be about to replace it.
-    fn read_guarded(&mut self, path: &str) -> io::Result<Vec<u8>> {
-        let looks = self.looks();
-        let held = open_held(self.rt, path, looks)?;
-        let content = content_of(self.alloc, &held.file, held.metadata.len())?;
-        if content.is_empty() {
-            self.guard = None;
-            return Ok(content);
+    /// Hands what the log at the path holds to the taker, piece by piece, and nothing where there is none. The lock is as with `read`.
+    pub fn read_into<T: Takes>(&mut self, path: &str, taker: &mut T) -> io::Result<()>
+        ensures { OnOk result (TakesMore T.Took taker.old taker.new) }
+    {
+        let Some(held) = unless_absent(self.open(path))? else {
+            return Ok(());
+        };
+        let length = hand_content(self.alloc, &held.file, taker)?;
+        self.settle(path, held, length)?;
+        Ok(())
+    }
+
+    /// Opens the log at the path. A build log is locked, together with others; no other log has a lock.
+    fn open(&mut self, path: &str) -> io::Result<Held> {
+        self.forget(path);
+        if is_named(path, LOG) {
+            let looks = self.looks();
+            return open_held(self.rt, path, looks);
         }
-        self.keep(path, &held.metadata, content.len())?;
+        let file = File::open(self.rt, path)?;
+        let metadata = file.metadata()?;
+        Ok(Held {
+            file,
+            metadata,
+            lock: Lock::Missing,
+        })
+    }
+
+    /// Keeps in mind which file was read, and how long it was, and the lock of a build log. One that is empty is as one that is absent: others
+    /// may be about to replace it.
+    fn settle(&mut self, path: &str, held: Held, length: u64) -> Result<(), AllocError> {
+        if !is_named(path, LOG) {
+            return self.keep(path, &held.metadata, length);
+        }
+        if length == 0 {
+            self.guard = None;
+            return Ok(());
+        }
+        self.keep(path, &held.metadata, length)?;
         self.guard_by(held);
-        Ok(content)
+        Ok(())
     }
 
     /// How often it is looked whether another lets go.
@@ -161,11 +187,11 @@ impl<'a> Logs<'a> {
     }
 
     /// Keeps in mind which file was read, and how long it was.
-    fn keep(&mut self, path: &str, metadata: &Metadata, length: usize) -> Result<(), AllocError> {
+    fn keep(&mut self, path: &str, metadata: &Metadata, length: u64) -> Result<(), AllocError> {
         let log = Log {
             path: String::from_str(self.alloc, path)?,
             identity: Identity::of(metadata),
-            length: length as u64,
+            length,
         };
         self.read.push(log).map_err(AllocError::from)
     }

@@ -50,7 +50,7 @@ impl Desk {
     pub fn build(&mut self, digest: &mut Digest) -> Result<(), AllocError> {
         let report = build_alone(self.alloc, &mut self.site, &self.options);
         add_report(self.alloc, &report, digest)?;
-        self.add_events(digest);
+        self.add_events(digest)?;
         self.add_shown(digest);
         self.add_file(".nj_log", digest);
         self.add_file(".nj_deps", digest);
@@ -69,13 +69,14 @@ impl Desk {
     }
 
     /// Takes in what was started and what ended since the last build.
-    fn add_events(&mut self, digest: &mut Digest) {
+    fn add_events(&mut self, digest: &mut Digest) -> Result<(), AllocError> {
         let events = self.site.events();
         digest.count(events.len());
         for event in events.get(self.events..).unwrap_or(&[]) {
-            add_event(event, digest);
+            add_event(self.alloc, event, digest)?;
         }
         self.events = events.len();
+        Ok(())
     }
 
     /// Takes in what was shown since the last build.
@@ -115,26 +116,28 @@ pub fn add_report(alloc: Global, report: &Report, digest: &mut Digest) -> Result
     Ok(())
 }
 
-fn add_event(event: &Event, digest: &mut Digest) {
+fn add_event(alloc: Global, event: &Event, digest: &mut Digest) -> Result<(), AllocError> {
     match event {
         Event::Start { job, act, stamp } => {
             digest.number(1);
             digest.count(*job);
             digest.number(*stamp);
-            add_act(act, digest);
+            add_act(alloc, act, digest)
         }
         Event::Finish { job, ok } => {
             digest.number(0);
             digest.count(*job);
             digest.number(u64::from(*ok));
+            Ok(())
         }
     }
 }
 
 /// Takes in a command, and the files that go with it.
-pub fn add_act(act: &Act, digest: &mut Digest) {
-    digest.text(act.command.as_str());
+pub fn add_act(alloc: Global, act: &Act, digest: &mut Digest) -> Result<(), AllocError> {
+    digest.text(act.command.to_text(alloc)?.as_str());
     digest.text(act.depfile.as_str());
     digest.text(act.response_path.as_str());
-    digest.text(act.response_content.as_str());
+    digest.text(act.response_content.to_text(alloc)?.as_str());
+    Ok(())
 }

@@ -214,8 +214,7 @@ fn add_outcome(
     match outcome {
         Ok(reading) => {
             digest.number(1);
-            add_manifest(&reading.manifest, digest);
-            Ok(())
+            add_manifest(alloc, &reading.manifest, digest)
         }
         Err(report) => {
             digest.number(0);
@@ -225,14 +224,15 @@ fn add_outcome(
 }
 
 /// Takes in all that the build files declare.
-fn add_manifest(manifest: &Manifest, digest: &mut Digest) {
+fn add_manifest(alloc: Global, manifest: &Manifest, digest: &mut Digest) -> Result<(), AllocError> {
     add_paths(&manifest.paths, digest);
     digest.count(manifest.named);
     add_lines(manifest, digest);
-    add_actions(manifest.actions.as_slice(), digest);
+    add_actions(alloc, manifest.actions.as_slice(), digest)?;
     add_pools(manifest.pools.as_slice(), digest);
     add_numbers(manifest.defaults.as_slice(), digest);
     digest.text(manifest.builddir.as_str());
+    Ok(())
 }
 
 /// Takes in the texts of all paths, in the order of their numbers.
@@ -279,21 +279,22 @@ fn add_numbers(paths: &[PathId], digest: &mut Digest) {
 }
 
 /// Takes in what each edge does.
-fn add_actions(actions: &[Action], digest: &mut Digest) {
+fn add_actions(alloc: Global, actions: &[Action], digest: &mut Digest) -> Result<(), AllocError> {
     digest.count(actions.len());
     for action in actions {
         match action {
             Action::Alias => digest.number(0),
             Action::Command(command) => {
                 digest.number(1);
-                add_command(command, digest);
+                add_command(alloc, command, digest)?;
             }
         }
     }
+    Ok(())
 }
 
-fn add_command(command: &Command, digest: &mut Digest) {
-    add_act(&command.act, digest);
+fn add_command(alloc: Global, command: &Command, digest: &mut Digest) -> Result<(), AllocError> {
+    add_act(alloc, &command.act, digest)?;
     digest.text(command.description.as_str());
     digest.number(match command.deps {
         Deps::Unset => 0,
@@ -314,6 +315,7 @@ fn add_command(command: &Command, digest: &mut Digest) {
         }
         None => digest.number(0),
     }
+    Ok(())
 }
 
 fn add_pools(pools: &[Pool], digest: &mut Digest) {

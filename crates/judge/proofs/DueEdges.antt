@@ -1,8 +1,8 @@
 -- Which edges are due, one more after another in the order of a cone.
-use Rattle.std.proofs.Common.{◌≡◌, ◌↔◌, inl, inr, ℕ, zero, suc, ◌+◌, ◌<◌, Bool, true, false, List, [], ◌∷◌, ◌++◌, Some, map, length, take, get_or, refl, sym, ◌∙◌, ap, subst, arith, append_assoc}
+use Rattle.std.proofs.Common.{◌≡◌, ◌↔◌, inl, inr, ℕ, zero, suc, ◌+◌, ◌<◌, Bool, true, false, List, [], ◌∷◌, ◌++◌, Some, map, length, take, get_or, refl, sym, ◌∙◌, subst, arith, append_assoc}
 use Rattle.std.proofs.Math.ListN.{set, replicate}
 use Rattle.std.proofs.lemmas.Bool.{false≢true}
-use Rattle.std.proofs.lemmas.List.{append-nil, take_more, get_or-set_same, get_or-set_other}
+use Rattle.std.proofs.lemmas.List.{append-nil, get_or-set_other}
 use Rattle.model.specs.declared.event.Moment.{Moment}
 use Rattle.model.specs.declared.graph.Edge.{Edge}
 use Rattle.model.specs.World.{view_of}
@@ -12,15 +12,15 @@ use Rattle.model.specs.Reading.{needs}
 use Rattle.model.specs.Records.{Store, recorded_inputs}
 use Rattle.model.specs.Schedule.{Step, IsSettled}
 use Rattle.theory.specs.Order.{AreMakersFirst}
-use Rattle.theory.proofs.Lists.{has-left, has-right, has-cases, has_number-push, has_number-push_other}
+use Rattle.theory.proofs.Lists.{has-left, has-right, has-cases}
 use Rattle.theory.proofs.Nothing.{ReadsAre, reads_where_settled}
 use Rattle.theory.proofs.Turns.{settled_by_order, makers_within}
-use Rattle.judge.specs.Dues.{AreDue, AreListed, AreMakersKnown, due_at}
+use Rattle.judge.specs.Dues.{AreListed, AreMakersKnown, due_at}
 use Rattle.judge.proofs.NumbersAsTexts.{same_or_other, at_has, has_suc, suc_has}
 
 -- ---- the makers of what an edge needs stand before it
 
-first_at : (edges : List Edge) (recorded : ℕ → List (List ℕ)) (before order : List ℕ) → AreMakersFirst edges recorded before (map suc order) → (k : ℕ) → k < length order
+pub first_at : (edges : List Edge) (recorded : ℕ → List (List ℕ)) (before order : List ℕ) → AreMakersFirst edges recorded before (map suc order) → (k : ℕ) → k < length order
     → (p : List ℕ) (j : ℕ) → has (needs edges recorded (suc (get_or order k 0))) p ≡ true → maker edges p ≡ Some j → has_number (before ++ map suc (take k order)) j ≡ true
 first_at edges recorded before [] first k lt p j need is = absurd (omega (arith, lt))
 first_at edges recorded before (e ∷ order) first zero lt p j need is = subst (λ (l : List ℕ). has_number l j ≡ true) (sym (append-nil before)) (first.0 p j need is)
@@ -52,12 +52,10 @@ module _ (edges : List Edge) (store : Store) (before : List Step) (files : List 
     ]),
   )
 
-  module _ (k : ℕ) (within : k < length order) (due : List Bool) (so_far : AreDue edges store before files (take k order) due) where
-    abbrev edge : ℕ
-    edge = get_or order k 0
-
-    known : (p : List ℕ) (m : ℕ) → has (needs edges (recorded_inputs store edges) (suc edge)) p ≡ true → maker edges p ≡ Some (suc m) → (due_at due m ≡ true) ↔ IsDue edges store before files (suc m)
-    known p m need made = ((λ is. ((so_far m).0 is).1), (λ is. (so_far m).1 (listed, is)))
+  -- of the makers of what the edge at a place needs it is known, where it is of each edge before it
+  module _ (k : ℕ) (within : k < length order) (due : List Bool) (so_far : (q : ℕ) → has_number (take k order) q ≡ true → (due_at due q ≡ true) ↔ IsDue edges store before files (suc q)) where
+    known : (p : List ℕ) (m : ℕ) → has (needs edges (recorded_inputs store edges) (suc (get_or order k 0))) p ≡ true → maker edges p ≡ Some (suc m) → (due_at due m ≡ true) ↔ IsDue edges store before files (suc m)
+    known p m need made = so_far m listed
       where
         found : (q : ℕ) × (suc q ≡ suc m) × (has_number (take k order) q ≡ true)
         found = suc_has (take k order) (suc m) (first_at edges (recorded_inputs store edges) [] order first k within p (suc m) need made)
@@ -65,46 +63,17 @@ module _ (edges : List Edge) (store : Store) (before : List Step) (files : List 
         listed : has_number (take k order) m ≡ true
         listed = let same : found.0 ≡ m = omega (arith, found.1) in subst (λ (q : ℕ). has_number (take k order) q ≡ true) same found.2
 
-    pub makers_known : AreMakersKnown edges store before files due (suc edge)
-    makers_known =
-        let reading = reads edge (at_has order k 0 within) in
-        record { makers = known; read = reading.paths ++ recorded_inputs store edges (suc edge); counted = counts (suc edge) reading }
+    pub makers_known_by : AreMakersKnown edges store before files due (suc (get_or order k 0))
+    makers_known_by =
+        let reading = reads (get_or order k 0) (at_has order k 0 within) in
+        record { makers = known; read = reading.paths ++ recorded_inputs store edges (suc (get_or order k 0)); counted = counts (suc (get_or order k 0)) reading }
 
-    -- ---- one edge more
-
-    pub due_one_more : edge < length due → (is : Bool) → (is ≡ true) ↔ IsDue edges store before files (suc edge) → AreDue edges store before files (take (k + 1) order) (set due edge is)
-    due_one_more fits is decided x = elim (same_or_other edge x) [
-      | inl here ↦ subst (λ (q : ℕ). (due_at (set due edge is) q ≡ true) ↔ ((has_number (take (k + 1) order) q ≡ true) × IsDue edges store before files (suc q))) (sym here) at_edge
-      | inr other ↦ elsewhere other
-    ]
-      where
-        longer : take (k + 1) order ≡ take k order ++ edge ∷ []
-        longer = take_more order k 0 within
-
-        written : due_at (set due edge is) edge ≡ is
-        written = get_or-set_same due edge is false fits
-
-        at_edge : (due_at (set due edge is) edge ≡ true) ↔ ((has_number (take (k + 1) order) edge ≡ true) × IsDue edges store before files (suc edge))
-        at_edge = (
-          (λ h. (ap (λ (l : List ℕ). has_number l edge) longer ∙ has_number-push (take k order) edge, decided.0 (sym written ∙ h))),
-          (λ both. written ∙ decided.1 both.1),
-        )
-
-        elsewhere : (x ≡ edge → ⊥) → (due_at (set due edge is) x ≡ true) ↔ ((has_number (take (k + 1) order) x ≡ true) × IsDue edges store before files (suc x))
-        elsewhere other =
-            let kept : due_at (set due edge is) x ≡ due_at due x = get_or-set_other due edge x is false other in
-            let same : has_number (take (k + 1) order) x ≡ has_number (take k order) x = ap (λ (l : List ℕ). has_number l x) longer ∙ has_number-push_other (take k order) edge x (λ h. other (sym h)) in
-            ((λ h. let was = (so_far x).0 (sym kept ∙ h) in (same ∙ was.0, was.1)), (λ both. kept ∙ (so_far x).1 (sym same ∙ both.0, both.1)))
+-- ---- none but listed edges
 
 never : (n x : ℕ) → due_at (replicate n false) x ≡ false
 never zero x = refl
 never (suc n) zero = refl
 never (suc n) (suc x) = never n x
-
-pub none_due : (edges : List Edge) (store : Store) (before : List Step) (files : List Moment) (n : ℕ) → AreDue edges store before files [] (replicate n false)
-none_due edges store before files n x = ((λ h. absurd (false≢true (sym (never n x) ∙ h))), (λ both. absurd (false≢true both.0)))
-
--- ---- none but listed edges
 
 pub none_listed : (listed : List ℕ) (n : ℕ) → AreListed listed (replicate n false)
 none_listed listed n e is = absurd (false≢true (sym (never n e) ∙ is))

@@ -1,8 +1,7 @@
 -- What calls tell of the files at the paths of a set, one call after another, and where all files were the same.
-use Rattle.std.proofs.Common.{◌≡◌, ℕ, ◌+◌, ◌<◌, ◌||◌, zero, suc, Bool, true, false, IsTrue, List, [], ◌∷◌, ◌++◌, Option, Some, None, bytes_eq, get_or, length, take, refl, sym, ◌∙◌, ap, arith}
-use Rattle.std.specs.List.{AllByRecursion, list_any}
+use Rattle.std.proofs.Common.{◌≡◌, ℕ, ◌<◌, zero, suc, Bool, true, IsTrue, List, [], ◌∷◌, Option, Some, None, bytes_eq, get_or, length, refl, sym, ◌∙◌, ap, arith}
+use Rattle.std.specs.List.{AllByRecursion}
 use Rattle.std.specs.Option.{is_none}
-use Rattle.std.proofs.lemmas.List.Folds.{list_any_at, list_any_more}
 use Rattle.model.specs.declared.event.Moment.{Moment}
 use Rattle.model.specs.declared.graph.Edge.{Edge}
 use Rattle.model.specs.World.{World, File, file_at, stamp_of}
@@ -103,35 +102,11 @@ module _ (tells : Bool) (graph : Graph) (a b : World) (looks : Looks) where
         → IfStill tells graph a b looks So → IfQuiet tells graph store targets before a b looks To
     quiet_of So To to so keeps told set kept seen has files alike = to set files has (so told set kept seen files alike.paths)
 
--- ---- a test of each element, by a call
+-- ---- what is so of each element
 
 pub all_at : {X : Type 0} (P : X → Type 0) (xs : List X) (k : ℕ) (d : X) → k < length xs → AllByRecursion P xs → P (get_or xs k d)
 all_at P [] k d lt all = absurd (omega (arith, lt))
 all_at P (x ∷ xs) zero d lt all = all.0
 all_at P (x ∷ xs) (suc k) d lt all = all_at P xs k d (omega (arith, lt)) all.1
-
-module _ (follow : Follow) (stay : Stay) (tells : Bool) (graph : Graph) (a b c : World) (first_looks second_looks : Looks) (first : HasLooked tells graph a b first_looks second_looks) (second : OnlyLooks tells b c)
-    {X : Type 0} (Fits : (List ℕ → Bool) → X → Type 0) (test : List Moment → X → Bool) (xs : List X) (k : ℕ) (d : X) (within : k < length xs)
-    (so_far : IfStill tells graph a b first_looks (λ set files. AllByRecursion (Fits set) xs → list_any (test files) (take k xs) ≡ false))
-    (is : Bool) (now : IfStill tells graph b c second_looks (λ set files. Fits set (get_or xs k d) → is ≡ test files (get_or xs k d)))
-  where
-    after : IfStill tells graph a c first_looks (λ set files. Fits set (get_or xs k d) → is ≡ test files (get_or xs k d))
-    after = still_second follow stay tells graph a b c first_looks second_looks first second (λ set files. Fits set (get_or xs k d) → is ≡ test files (get_or xs k d)) now
-
-    pub passed_by : is ≡ false → IfStill tells graph a c first_looks (λ set files. AllByRecursion (Fits set) xs → list_any (test files) (take (k + 1) xs) ≡ false)
-    passed_by not_so told set kept seen files same all =
-        list_any_more (test files) xs k d within
-        ∙ (ap (λ (b : Bool). b || test files (get_or xs k d))
-        (still_first follow stay tells graph a b c first_looks second_looks first second (λ set files. AllByRecursion (Fits set) xs → list_any (test files) (take k xs) ≡ false) so_far told set kept seen files same all)
-        ∙ (sym (after told set kept seen files same (all_at (Fits set) xs k d within all)) ∙ not_so))
-
-    pub found_one : is ≡ true → IfStill tells graph a c first_looks (λ set files. AllByRecursion (Fits set) xs → true ≡ list_any (test files) xs)
-    found_one so told set kept seen files same all =
-        sym (list_any_at (test files) xs k d within (sym (after told set kept seen files same (all_at (Fits set) xs k d within all)) ∙ so))
-
-pub none_found : {X : Type 0} (tells : Bool) (graph : Graph) (a b : World) (looks : Looks) (Fits : (List ℕ → Bool) → X → Type 0) (test : List Moment → X → Bool) (xs : List X) (k : ℕ)
-    → IfStill tells graph a b looks (λ set files. AllByRecursion (Fits set) xs → list_any (test files) (take k xs) ≡ false) → take k xs ≡ xs
-    → IfStill tells graph a b looks (λ set files. AllByRecursion (Fits set) xs → false ≡ list_any (test files) xs)
-none_found tells graph a b looks Fits test xs k none all told set kept seen files same fit = sym (none told set kept seen files same fit) ∙ ap (list_any (test files)) all
 
 -- ---- where all files stay, each set of paths keeps its files

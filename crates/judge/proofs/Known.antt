@@ -17,7 +17,7 @@ use Rattle.judge.specs.Summaries.{TakesOutput}
 use Rattle.judge.specs.Facts.{AreKnownOf}
 
 -- a path in front keeps its text where others are put behind
-text_in_front : (first more : List (List ℕ)) (p : ℕ) → p < length first → text_at (first ++ more) p ≡ text_at first p
+pub text_in_front : (first more : List (List ℕ)) (p : ℕ) → p < length first → text_at (first ++ more) p ≡ text_at first p
 text_in_front [] more p lt = absurd (omega (arith, lt))
 text_in_front (x ∷ first) more zero lt = refl
 text_in_front (x ∷ first) more (suc p) lt = text_in_front first more p (omega (arith, lt))

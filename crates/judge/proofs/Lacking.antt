@@ -184,7 +184,7 @@ module _ (graph : Graph) (stands : StandFor (declared_by graph).edges graph.mani
 
 -- ---- the cone
 
-listed_within : (marks : List Mark) (e : ℕ) → is_listed (mark_at marks e) ≡ true → e < length marks
+pub listed_within : (marks : List Mark) (e : ℕ) → is_listed (mark_at marks e) ≡ true → e < length marks
 listed_within marks e listed = by_place (λ past. false≢true (sym (ap is_listed (get_or_past marks e Unseen past)) ∙ listed))
   where
     by_place : (length marks ≤ e → ⊥) → e < length marks

@@ -87,14 +87,14 @@ pub taken_back : (old more pushed back : List ℕ) (n : ℕ) → n ≡ length ol
 taken_back old more pushed back n len more_are back_are =
     back_are ∙ (ap (λ (k : ℕ). take k pushed) len ∙ (ap (take (length old)) more_are ∙ take-append_seam old more))
 
-asked_stays : (seen new : List Look) → Stays seen new → (ns : List ℕ) → AreAsked seen ns → AreAsked new ns
+pub asked_stays : (seen new : List Look) → Stays seen new → (ns : List ℕ) → AreAsked seen ns → AreAsked new ns
 asked_stays seen new stays [] asked = tt
 asked_stays seen new stays (n ∷ ns) asked = (ap is_asked (stays n asked.0) ∙ asked.0, asked_stays seen new stays ns asked.1)
 
 module _ (graph : Graph) (flags : List Bool) where
   -- ---- one list of paths and another
 
-  inputs_same : (always : Bool) (seen new : List Look) → Stays seen new → (ns : List ℕ) → AreAsked seen ns → seen_inputs graph flags always seen ns ≡ seen_inputs graph flags always new ns
+  pub inputs_same : (always : Bool) (seen new : List Look) → Stays seen new → (ns : List ℕ) → AreAsked seen ns → seen_inputs graph flags always seen ns ≡ seen_inputs graph flags always new ns
   inputs_same always seen new stays [] asked = refl
   inputs_same always seen new stays (n ∷ ns) asked =
       ap (λ (look : Look). one_input graph flags always n (seen_stamp look) ++ seen_inputs graph flags always seen ns) (sym (stays n asked.0))
@@ -296,21 +296,12 @@ module _ (graph : Graph) (flags : List Bool) where
 
   -- ---- by the files that were seen
 
-  seen_are : (always : Bool) (set : List ℕ → Bool) (files : List Moment) (seen : List Look) → AreSeenOf set graph.manifest.paths files seen → (ns : List ℕ) → AreAsked seen ns → AreIn set graph.manifest.paths ns
+  pub seen_are : (always : Bool) (set : List ℕ → Bool) (files : List Moment) (seen : List Look) → AreSeenOf set graph.manifest.paths files seen → (ns : List ℕ) → AreAsked seen ns → AreIn set graph.manifest.paths ns
       → seen_inputs graph flags always seen ns ≡ all_inputs graph flags always files ns
   seen_are always set files seen are [] asked within = refl
   seen_are always set files seen are (n ∷ ns) asked within =
       ap (λ (s : Option ℕ). one_input graph flags always n s ++ seen_inputs graph flags always seen ns) (stamp_by (stamp_at graph.manifest.paths files n) (look_at seen n) (are n asked.0 within.0))
       ∙ ap (λ (l : List InputFacts). one_input graph flags always n (stamp_at graph.manifest.paths files n) ++ l) (seen_are always set files seen are ns asked.1 within.1)
-
-  -- what is read, then what is recorded
-  pub has_all : (set : List ℕ → Bool) (files : List Moment) (seen : List Look) → AreSeenOf set graph.manifest.paths files seen → (ns ms : List ℕ) (none read all : Inputs) → AreInputs [] none
-      → HasTaken graph flags false seen ns none read → HasTaken graph flags true seen ms read all → AreIn set graph.manifest.paths ns → AreIn set graph.manifest.paths ms
-      → AreInputs (all_inputs graph flags false files ns ++ all_inputs graph flags true files ms) all
-  has_all set files seen are ns ms none read all of first second in_ns in_ms =
-      subst (λ (l : List InputFacts). AreInputs (l ++ all_inputs graph flags true files ms) all) (seen_are false set files seen are ns first.asked in_ns)
-      (subst (λ (l : List InputFacts). AreInputs (seen_inputs graph flags false seen ns ++ l) all) (seen_are true set files seen are ms second.asked in_ms)
-      (second.takes (seen_inputs graph flags false seen ns) (first.takes [] of)))
 
 -- ---- what no command makes
 

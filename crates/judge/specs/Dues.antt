@@ -10,7 +10,7 @@ use Rattle.model.specs.Calls.{OnlyLooks}
 use Rattle.model.specs.Graph.{has, has_number, maker}
 use Rattle.model.specs.Reading.{needs}
 use Rattle.model.specs.Records.{Store, recorded_inputs}
-use Rattle.model.specs.Schedule.{Step, judged_in}
+use Rattle.model.specs.Schedule.{Step}
 use Rattle.model.specs.OutOfDate.{IsDue, ListsCounted}
 use Rattle.theory.specs.Order.{IsOrderly}
 use Rattle.paths.specs.Told.{text_at}
@@ -23,11 +23,10 @@ use Rattle.plan.specs.declared.step.Standing.TheVariants.{Unjudged}
 use Rattle.plan.specs.Standing.{standing_at}
 use Rattle.records.specs.declared.records.Records.{Records}
 use Rattle.judge.specs.declared.looks.Looks.{Looks}
-use Rattle.judge.specs.Facts.{AreIn}
 use Rattle.judge.specs.Judged.{IsReasonFound}
 use Rattle.judge.specs.Stores.{IsStoreOf}
 use Rattle.judge.specs.Quiet.{StillFinds, OfSteps, IfQuietAt}
-use Rattle.judge.specs.UnderWay.{IsUnjudged, IsUnderWay}
+use Rattle.judge.specs.UnderWay.{IsUnderWay}
 
 -- ---- by the numbers
 
@@ -77,19 +76,6 @@ HasAllSources set graph = (e : ℕ) → AreSourcesIn set graph ((links_of graph)
 abbrev pub IsAbsentAt : Graph → ℕ → Bool → (List ℕ → Bool) → List Moment → Type 0
 IsAbsentAt graph p is set files = set (text_at graph.manifest.paths p) ≡ true → is ≡ is_absent graph.manifest.paths files p
 
-abbrev pub IsAnyAbsent : Graph → List ℕ → Bool → (List ℕ → Bool) → List Moment → Type 0
-IsAnyAbsent graph ps is set files = AreIn set graph.manifest.paths ps → is ≡ list_any (is_absent graph.manifest.paths files) ps
-
-abbrev pub IsDuePath : Graph → List Bool → ℕ → Bool → (List ℕ → Bool) → List Moment → Type 0
-IsDuePath graph due p is set files = IsSourceIn set graph p → is ≡ is_due_path graph.manifest.paths (links_of graph) files due p
-
-abbrev pub IsAnyDuePath : Graph → List Bool → List ℕ → Bool → (List ℕ → Bool) → List Moment → Type 0
-IsAnyDuePath graph due ps is set files = AreSourcesIn set graph ps → is ≡ list_any (is_due_path graph.manifest.paths (links_of graph) files due) ps
-
-abbrev pub IsDueAlias : Graph → List Bool → ℕ → Bool → (List ℕ → Bool) → List Moment → Type 0
-IsDueAlias graph due e is set files =
-    AreIn set graph.manifest.paths ((links_of graph).outputs e) → AreSourcesIn set graph ((links_of graph).regular e) → is ≡ is_due_alias graph.manifest.paths (links_of graph) files due e
-
 -- ---- in the words of the model
 
 -- of each maker of what edge i needs it is known whether it is due; what edge i reads can be listed
@@ -133,48 +119,15 @@ AreFoundClean tells graph records plan old new seen listed due =
 abbrev pub FindsAbsent : {S E : Type 0} → Bool → (S → World) → S → S → Graph → Looks → ℕ → Result Bool E → Type 0
 FindsAbsent tells world old new graph seen p result = StillFinds tells world old new graph seen result (IsAbsentAt graph p)
 
--- whether one of these is
-abbrev pub FindsAnyAbsent : {S E : Type 0} → Bool → (S → World) → S → S → Graph → Looks → List ℕ → Result Bool E → Type 0
-FindsAnyAbsent tells world old new graph seen ps result = StillFinds tells world old new graph seen result (IsAnyAbsent graph ps)
-
--- whether a due edge makes the path, or it is an absent source
-abbrev pub FindsDuePath : {S E : Type 0} → Bool → (S → World) → S → S → Graph → Looks → List Bool → ℕ → Result Bool E → Type 0
-FindsDuePath tells world old new graph seen due p result = StillFinds tells world old new graph seen result (IsDuePath graph due p)
-
--- whether one of these is such a path
-abbrev pub FindsAnyDue : {S E : Type 0} → Bool → (S → World) → S → S → Graph → Looks → List Bool → List ℕ → Result Bool E → Type 0
-FindsAnyDue tells world old new graph seen due ps result = StillFinds tells world old new graph seen result (IsAnyDuePath graph due ps)
-
--- whether the phony edge is due
-abbrev pub FindsDueAlias : {S E : Type 0} → Bool → (S → World) → S → S → Graph → Looks → List Bool → ℕ → Result Bool E → Type 0
-FindsDueAlias tells world old new graph seen due e result = StillFinds tells world old new graph seen result (IsDueAlias graph due e)
-
 -- what is said of steps that may be, where these are the records that were read
 abbrev pub OfBuild : Graph → Records → (Store → List (List ℕ) → List Step → Type 0) → Type 0
 OfBuild graph records P =
     OfSteps (λ store targets before. IsStoreOf graph records store → IsOrderly (declared_by graph).edges before → P store targets before)
 
--- after such steps this is whether the edge is due
-abbrev pub IsDueAt : {S : Type 0} → Bool → (S → World) → S → S → Graph → Store → List (List ℕ) → List Step → Looks → List Bool → ℕ → Bool → Type 0
-IsDueAt tells world old new graph store targets before seen due e is =
-    IfQuietAt tells world old new graph store targets before seen (λ files. IsDueEdge graph store before due e files is)
-
--- whether the command, which was not judged, is due
-abbrev pub FindsDueCommand : {S E : Type 0} → Bool → (S → World) → S → S → Graph → Records → Looks → List Bool → ℕ → Result Bool E → Type 0
-FindsDueCommand tells world old new graph records seen due e result =
-    IfOk result (λ is. OfBuild graph records (λ store targets before.
-    has_number (judged_in before) (suc e) ≡ false → IsDueAt tells world old new graph store targets before seen due e is))
-
 -- where it is not, no reason was found
 abbrev pub FindsCleanCommand : {S E : Type 0} → Bool → (S → World) → S → S → Graph → Records → Looks → ℕ → Result Bool E → Type 0
 FindsCleanCommand tells world old new graph records seen e result =
     IfOk result (λ is. is ≡ false → IsFoundClean tells graph records (world old) (world new) seen e)
-
--- whether the edge, which was not judged, is due
-abbrev pub FindsDue : {S E : Type 0} → Bool → (S → World) → S → S → Graph → Records → Looks → List Bool → ℕ → Result Bool E → Type 0
-FindsDue tells world old new graph records seen due e result =
-    IfOk result (λ is. OfBuild graph records (λ store targets before.
-    IsUnjudged graph before e → IsDueAt tells world old new graph store targets before seen due e is))
 
 -- where it has a command and is not, no reason was found
 abbrev pub FindsClean : {S E : Type 0} → Bool → (S → World) → S → S → Graph → Records → Looks → ℕ → Result Bool E → Type 0

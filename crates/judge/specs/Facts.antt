@@ -1,5 +1,5 @@
 -- What the judgement of an edge reads, by the numbers of paths.
-use Rattle.std.specs.Prelude.{◌≡◌, ◌≢◌, ◌<◌, ◌↔◌, ◌||◌, not, ℕ, suc, Bool, true, false, IsTrue, IfOk, List, [], ◌∷◌, ◌++◌, if◌then◌else◌, map, length, get_or, Option, Some, None, is_some, Result, bytes_eq}
+use Rattle.std.specs.Prelude.{◌≡◌, ◌≢◌, ◌<◌, ◌↔◌, ◌⊎◌, ◌||◌, not, ℕ, suc, Bool, true, false, IsTrue, IfOk, IsSome, List, [], ◌∷◌, ◌++◌, if◌then◌else◌, map, length, get_or, Option, Some, None, is_some, Result, bytes_eq}
 use Rattle.std.specs.List.{AllByRecursion, flat_map}
 use Rattle.model.specs.declared.act.Act.{Act}
 use Rattle.model.specs.declared.event.Moment.{Moment}
@@ -23,8 +23,7 @@ use Rattle.graph.specs.Told.{declared_by}
 use Rattle.judge.specs.declared.looks.Look.{Look}
 use Rattle.judge.specs.declared.looks.Look.TheVariants.{Unasked, Absent, Stamp}
 use Rattle.judge.specs.declared.looks.Looks.{Looks}
-use Rattle.judge.specs.Seen.{look_at, is_asked, AreKept, IfKept}
-use Rattle.judge.specs.Looking.{IfKeptAt}
+use Rattle.judge.specs.Seen.{look_at, is_asked, AreKept}
 use Rattle.judge.specs.declared.input_facts.Inputs.{Inputs}
 use Rattle.judge.specs.declared.output_facts.Outputs.{Outputs}
 use Rattle.judge.specs.Summaries.{AreOutputs, AreInputs}
@@ -81,21 +80,26 @@ HasDepfile act deps is files = act.depfile ≢ [] → deps ≡ Unset → is ≡ 
 abbrev pub TakesOne : Graph → List Bool → Bool → ℕ → Option ℕ → Inputs → Inputs → Type 0
 TakesOne graph flags always p stamp old new = (inputs : List InputFacts) → AreInputs inputs old → AreInputs (inputs ++ one_input graph flags always p stamp) new
 
--- these are all inputs of an edge that reads what these edges name
+-- these are all inputs of an edge that reads these paths, as far as they count
 abbrev pub HasInputs : Graph → List Bool → List ℕ → ℕ → Inputs → (List ℕ → Bool) → List Moment → Type 0
-HasInputs graph flags edges e inputs set files =
-    AreIn set graph.manifest.paths (flat_map (links_of graph).regular edges) → AreIn set graph.manifest.paths ((links_of graph).recorded e)
-    → AreInputs (all_inputs graph flags false files (flat_map (links_of graph).regular edges) ++ all_inputs graph flags true files ((links_of graph).recorded e)) inputs
+HasInputs graph flags numbers e inputs set files =
+    AreIn set graph.manifest.paths numbers → AreIn set graph.manifest.paths ((links_of graph).recorded e)
+    → AreInputs (all_inputs graph flags false files numbers ++ all_inputs graph flags true files ((links_of graph).recorded e)) inputs
 
 -- just what the edge reads is named by these edges and counts, in each view
 abbrev pub IsReadBy : Graph → ℕ → List ℕ → Type 0
 IsReadBy graph e edges = (view : View) (p : List ℕ) → IsRead (declared_by graph).edges view (suc e) p ↔ IsCountedIn graph edges view p
 
--- the inputs of the edge
-pub record AreInputsOf (graph : Graph) (tells : Bool) (flags : List Bool) (e : ℕ) (old new : World) (seen : List Look) (inputs : Inputs) : Type 0 where
-  pub edges : List ℕ
-  pub read : IsReadBy graph e edges
-  pub all : IfKept tells graph.manifest.paths old new seen (HasInputs graph flags edges e inputs)
+-- in this view the path is one of these, and counts
+pub record IsCountedAmong (graph : Graph) (numbers : List ℕ) (view : View) (p : List ℕ) : Type 0 where
+  pub path : ℕ
+  pub listed : has_number numbers path ≡ true
+  pub text : text_at graph.manifest.paths path ≡ p
+  pub counts : (counts_if_present (links_of graph) path ≡ false) ⊎ IsSome (view p)
+
+-- just what the edge reads is one of these paths and counts, in each view
+abbrev pub IsReadAmong : Graph → ℕ → List ℕ → Type 0
+IsReadAmong graph e numbers = (view : View) (p : List ℕ) → IsRead (declared_by graph).edges view (suc e) p ↔ IsCountedAmong graph numbers view p
 
 -- ---- by what was seen of paths
 
@@ -125,17 +129,6 @@ abbrev pub FindsDepfile : {S E : Type 0} → Bool → (S → World) → S → S 
 FindsDepfile tells world old new command result =
     IfOk result (λ is. IsTrue tells → (command.act.depfile ≢ [] → AreKept (bytes_eq command.act.depfile) (world old).history (world new).history)
     → HasDepfile command.act command.deps is (world new).history)
-
--- the answer is of the paths of these numbers, as outputs of an edge that does this, by whatever records are known
-abbrev pub FindsMade : {S E : Type 0} → Bool → (S → World) → S → S → Graph → Records → Looks → Act → List ℕ → Result Outputs E → Type 0
-FindsMade tells world old new graph records before act numbers result =
-    IfOk result (λ outputs. (rs : List Record) (ds : List DepsRecord) → AreKnownOf graph.manifest.paths numbers rs ds records
-    → IfKeptAt tells world old new graph before (HasOutputs graph act rs ds numbers outputs))
-
--- the answer is of the inputs of the edge
-abbrev pub FindsInputs : {S E : Type 0} → Bool → (S → World) → S → S → Graph → Looks → List Bool → ℕ → Result Inputs E → Type 0
-FindsInputs tells world old new graph before flags e result =
-    IfOk result (λ inputs. AreInputsOf graph tells flags e (world old) (world new) before.seen.items inputs)
 
 -- these paths were taken in after others, as they were seen
 abbrev pub TakesPaths : Graph → List Bool → Bool → Looks → List ℕ → Inputs → Inputs → Type 0

@@ -4,10 +4,13 @@ pub mod Seen
 pub mod Looking
 pub mod Facts
 pub mod Judged
+pub mod Answers
 pub mod Lasting
 pub mod Summed
 pub mod Stores
 pub mod Quiet
 pub mod UnderWay
 pub mod Dues
+pub mod Ruled
+pub mod KeptDues
 pub mod Lacks

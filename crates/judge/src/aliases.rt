@@ -1,10 +1,11 @@
 //! Phony edges that are due, and paths that are absent.
 
-ghost use Rattle.std.specs.Prelude.{◌≡◌, ◌<◌, All, length, true, false};
+ghost use Rattle.std.specs.Prelude.{◌≡◌, ◌<◌, All, IfOk, length, true, false};
 ghost use Rattle.model.specs.Calls.{HasCause};
 ghost use Rattle.graph.specs.Links.{links_of};
 ghost use Rattle.judge.specs.Looking.{HasLookedAt};
-ghost use Rattle.judge.specs.Dues.{FindsAbsent, FindsAnyAbsent, FindsDuePath, FindsAnyDue, FindsDueAlias};
+ghost use Rattle.judge.specs.Dues.{FindsAbsent};
+ghost use Rattle.judge.specs.Ruled.{IsAbsentAsked, IsDueAsked, IsAnyAbsentAsked, IsAnyDueAsked, IsAliasRuled};
 
 use crate::laws::looks_follow;
 use crate::looks::Looks;
@@ -31,7 +32,7 @@ impl Looks {
         ensures looked { HasLookedAt S.tells S.world site.old site.new graph.now self.old self.new }
         ensures cause { HasCause (S.world site.old) (S.world site.new) result }
         ensures sums { self.new.sums ≡ self.old.sums }
-        ensures due { FindsDueAlias S.tells S.world site.old site.new graph.now self.old due.now edge result }
+        ensures ruled { IfOk result (IsAliasRuled (links_of graph.now) self.new.seen.items due.now edge) }
     {
         lists_stand(graph);
         if graph.inputs(edge).is_empty() {
@@ -54,7 +55,7 @@ impl Looks {
         ensures looked { HasLookedAt S.tells S.world site.old site.new graph.now self.old self.new }
         ensures cause { HasCause (S.world site.old) (S.world site.new) result }
         ensures sums { self.new.sums ≡ self.old.sums }
-        ensures has { FindsAnyAbsent S.tells S.world site.old site.new graph.now self.old paths.now result }
+        ensures has { IfOk result (IsAnyAbsentAsked self.new.seen.items paths.now) }
     {
         looks_follow();
         for path in paths {
@@ -78,9 +79,11 @@ impl Looks {
         ensures looked { HasLookedAt S.tells S.world site.old site.new graph.now self.old self.new }
         ensures cause { HasCause (S.world site.old) (S.world site.new) result }
         ensures sums { self.new.sums ≡ self.old.sums }
+        ensures seen { IfOk result (IsAbsentAsked self.new.seen.items path) }
         ensures absent { FindsAbsent S.tells S.world site.old site.new graph.now self.old path result }
     {
-        Ok(self.stamp(site, graph, path)?.is_none())
+        let stamp = self.stamp_of(site, graph, path)?;
+        Ok(stamp.is_none())
     }
 
     /// Whether one of these paths is made by a due edge, or is an absent source.
@@ -98,7 +101,7 @@ impl Looks {
         ensures looked { HasLookedAt S.tells S.world site.old site.new graph.now self.old self.new }
         ensures cause { HasCause (S.world site.old) (S.world site.new) result }
         ensures sums { self.new.sums ≡ self.old.sums }
-        ensures has { FindsAnyDue S.tells S.world site.old site.new graph.now self.old due.now paths.now result }
+        ensures has { IfOk result (IsAnyDueAsked (links_of graph.now) self.new.seen.items due.now paths.now) }
     {
         looks_follow();
         for path in paths {
@@ -124,7 +127,7 @@ impl Looks {
         ensures looked { HasLookedAt S.tells S.world site.old site.new graph.now self.old self.new }
         ensures cause { HasCause (S.world site.old) (S.world site.new) result }
         ensures sums { self.new.sums ≡ self.old.sums }
-        ensures due { FindsDuePath S.tells S.world site.old site.new graph.now self.old due.now path result }
+        ensures due { IfOk result (IsDueAsked (links_of graph.now) self.new.seen.items due.now path) }
     {
         match graph.maker(path) {
             Some(edge) => Ok(due[edge.index()]),

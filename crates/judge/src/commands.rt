@@ -4,10 +4,14 @@ ghost use Rattle.std.specs.Prelude.{◌≡◌, ◌||◌, ◌<◌, [], length, fa
 ghost use Rattle.std.specs.List.{list_any};
 ghost use Rattle.model.specs.Calls.{HasCause};
 ghost use Rattle.graph.specs.Links.{links_of};
+ghost use Rattle.judge.specs.Answers.{KnowsRight};
 ghost use Rattle.judge.specs.Looking.{HasLookedAt};
-ghost use Rattle.judge.specs.Dues.{is_made_due, reads_due, FindsDueCommand, FindsCleanCommand};
+ghost use Rattle.judge.specs.Dues.{is_made_due, reads_due, FindsCleanCommand};
+ghost use Rattle.judge.specs.Ruled.{FindsCommandRuled};
 ghost use Rattle.judge.specs.Summed.{AreSums};
 
+use crate::answers::Answer;
+use crate::judgement::{Asked, depfile_of};
 use crate::laws::looks_follow;
 use crate::looks::Looks;
 use graph::{Graph, lists_stand};
@@ -18,7 +22,8 @@ use site::Site;
 
 impl Looks {
     /// Whether the command, which was not judged, is due, where it is known which edges before it are: it reads what a due edge
-    /// makes, or it is out of date. Where the first is so no file is looked at: a command that runs may be writing it.
+    /// makes, or it is out of date. Where the first is so no file is looked at: a command that runs may be writing it. What was found of it
+    /// before is not found again, and what is found now is kept, but for its depfile, which is asked for each time.
     pub(crate) fn is_command_due<S: Site>(
         &mut self,
         site: &mut S,
@@ -33,10 +38,13 @@ impl Looks {
         requires due { length due.now ≡ length graph.now.manifest.lines }
         requires command { (links_of graph.now).phony edge ≡ false }
         requires summed { AreSums graph.now [] self.old.seen.items self.old.sums }
+        requires known { KnowsRight graph.now records.now self.old }
         ensures looked { HasLookedAt S.tells S.world site.old site.new graph.now self.old self.new }
         ensures cause { HasCause (S.world site.old) (S.world site.new) result }
         ensures summed { AreSums graph.now [] self.new.seen.items self.new.sums }
-        ensures due { FindsDueCommand S.tells S.world site.old site.new graph.now records.now self.old due.now edge result }
+        ensures known { KnowsRight graph.now records.now self.new }
+        ensures dues { self.new.sums.answers.dues ≡ self.old.sums.answers.dues }
+        ensures ruled { FindsCommandRuled S.tells S.world site.old site.new graph.now records.now self.new due.now edge result }
         ensures clean { FindsCleanCommand S.tells S.world site.old site.new graph.now records.now self.old edge result }
     {
         looks_follow();
@@ -44,8 +52,18 @@ impl Looks {
         if reads_due(graph, due, edge) {
             return Ok(true);
         }
-        let found = self.reason(site, graph, records, &[], edge)?;
-        Ok(found.is_some())
+        let depfile = depfile_of(site, graph, edge)?;
+        if let Some(known) = self.sums.answers.get(edge, depfile) {
+            return Ok(known);
+        }
+        let found = self.reason_by(site, graph, records, &[], Asked { edge, depfile })?;
+        let stale = found.is_some();
+        let answer = Answer {
+            depfile,
+            due: stale,
+        };
+        self.sums.answers.note(edge, answer);
+        Ok(stale)
     }
 }
 

@@ -5,7 +5,8 @@ ghost use Rattle.model.specs.Calls.{HasCause};
 ghost use Rattle.model.specs.Graph.{has_number};
 ghost use Rattle.graph.specs.ReadingOf.{edges_in};
 ghost use Rattle.judge.specs.Looking.{HasLookedAt};
-ghost use Rattle.judge.specs.Facts.{FindsInputs, TakesPaths, TakesEdges, TakesOne, flag_at};
+ghost use Rattle.judge.specs.Answers.{FindsInputs};
+ghost use Rattle.judge.specs.Facts.{TakesPaths, TakesEdges, TakesOne, flag_at};
 ghost use Rattle.judge.specs.Lasting.{IsLasting, MarksStay};
 ghost use Rattle.judge.specs.Summed.{AreSums, JoinsSeen, IsSum};
 
@@ -20,7 +21,7 @@ use site::Site;
 use std::slice;
 
 impl Looks {
-    /// The facts of what the edge reads, through phony edges too, and of its recorded inputs.
+    /// The facts of what the edge reads, through phony edges too, and of its recorded inputs, as they are seen.
     pub(crate) fn inputs_of<S: Site>(
         &mut self,
         site: &mut S,
@@ -36,7 +37,8 @@ impl Looks {
         ensures cause { HasCause (S.world site.old) (S.world site.new) result }
         ensures summed { AreSums graph.now changed.now self.new.seen.items self.new.sums }
         ensures marked { MarksStay graph.now changed.now self.old self.new }
-        ensures inputs { FindsInputs S.tells S.world site.old site.new graph.now self.old changed.now edge result }
+        ensures answers { self.new.sums.answers ≡ self.old.sums.answers }
+        ensures inputs { FindsInputs graph.now self.new changed.now edge result }
     {
         looks_follow();
         lists_stand(graph);
@@ -66,6 +68,7 @@ impl Looks {
         ensures cause { HasCause (S.world site.old) (S.world site.new) result }
         ensures summed { AreSums graph.now changed.now self.new.seen.items self.new.sums }
         ensures marked { MarksStay graph.now changed.now self.old self.new }
+        ensures answers { self.new.sums.answers ≡ self.old.sums.answers }
         ensures joined { OnOk result (JoinsSeen graph.now changed.now self.new paths.now inputs.old inputs.new) }
     {
         looks_follow();
@@ -91,6 +94,7 @@ impl Looks {
         ensures cause { HasCause (S.world site.old) (S.world site.new) result }
         ensures summed { AreSums graph.now changed.now self.new.seen.items self.new.sums }
         ensures marked { MarksStay graph.now changed.now self.old self.new }
+        ensures answers { self.new.sums.answers ≡ self.old.sums.answers }
         ensures joined { OnOk result (JoinsSeen graph.now changed.now self.new (path ∷ []) inputs.old inputs.new) }
     {
         looks_follow();
@@ -117,6 +121,7 @@ impl Looks {
         ensures cause { HasCause (S.world site.old) (S.world site.new) result }
         ensures summed { AreSums graph.now changed.now self.new.seen.items self.new.sums }
         ensures marked { MarksStay graph.now changed.now self.old self.new }
+        ensures answers { self.new.sums.answers ≡ self.old.sums.answers }
         ensures sum { IfOk result (IsSum graph.now changed.now self.new.seen.items edge) }
     {
         looks_follow();

@@ -1,7 +1,9 @@
-//! Laws of calls that ask for paths, and of sums.
+//! Laws of calls that ask for paths, of sums, and of what was found of commands.
 
 ghost use Rattle.std.specs.Prelude.{Bool};
 ghost use Rattle.model.specs.World.{World};
+ghost use Rattle.judge.specs.Answers.{AnswersFollow};
+ghost use Rattle.judge.specs.KeptDues.{DuesFollow};
 ghost use Rattle.judge.specs.Lasting.{SumsFollow};
 ghost use Rattle.judge.specs.Looking.{FilesStay, LooksFollow};
 
@@ -16,4 +18,16 @@ pub fn looks_follow()
 /// command.
 pub fn sums_follow()
     ensures { SumsFollow }
+{}
+
+/// A law, which runs nothing: what was found of commands is right where what was seen stays, and after the load of a dyndep file, of
+/// edges that did not name it.
+pub fn answers_follow()
+    ensures { AnswersFollow }
+{}
+
+/// A law, which runs nothing: flags that are kept are right where what was seen stays and the records and the plan tell the same, where an
+/// edge that is judged is noted, and after the load of a dyndep file, where that is noted which it changes.
+pub fn dues_follow()
+    ensures { DuesFollow }
 {}

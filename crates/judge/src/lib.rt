@@ -2,10 +2,13 @@
 //! which edges are due, and which source is missing.
 #![tactic(auto)]
 
+mod again;
 mod aliases;
+mod answers;
 mod commands;
 mod depfile;
 mod due;
+mod dues;
 mod input_facts;
 mod inputs;
 mod judgement;
@@ -20,9 +23,11 @@ mod reason_table;
 mod stamp;
 mod sums;
 
+pub use answers::{Answer, Answers};
+pub use dues::Dues;
 pub use input_facts::Inputs;
 pub use lack::{Found, Lack};
-pub use laws::{looks_follow, sums_follow};
+pub use laws::{answers_follow, dues_follow, looks_follow, sums_follow};
 pub use looks::{Look, Looks};
 pub use model::Reason;
 pub use output_facts::{OutputFacts, Outputs};

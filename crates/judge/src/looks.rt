@@ -4,6 +4,7 @@ ghost use Rattle.std.specs.Prelude.{◌≡◌, ◌<◌, ◌≤◌, ℕ, take, If
 ghost use Rattle.model.specs.Calls.{OnlyLooks, HasCause};
 ghost use Rattle.model.specs.Graph.{has_number};
 ghost use Rattle.judge.specs.declared.looks.Look.TheVariants.{Unasked};
+ghost use Rattle.judge.specs.Answers.{KnowsNone};
 ghost use Rattle.judge.specs.Looking.{HasLookedAt, StaysRight, FindsStamp, was_asked, AreUnasked, IsNoted, NotesStamp};
 ghost use Rattle.judge.specs.Looking.{KeepsAsked, HasAsked, KeepsAll, KeepsAllBut, StaysSeenIn, HasForgotten, KeepsOthers};
 ghost use Rattle.judge.specs.Seen.{look_at, look_of};
@@ -31,18 +32,21 @@ pub enum Look {
 #[derive(Drop)]
 pub struct Looks {
     pub seen: Vec<Look>,
-    /// What the inputs of phony edges come to by that.
+    /// What was found of edges by that.
     pub sums: Sums,
 }
 
 impl Looks {
     /// Nothing was asked for.
     pub fn new(alloc: Global, graph: &Graph) -> Result<Looks, AllocError>
-        ensures { IfOk result (λ looks. AreUnasked graph.now looks) }
+        ensures unasked { IfOk result (λ looks. AreUnasked graph.now looks) }
+        ensures answers { IfOk result (λ looks. KnowsNone looks.sums.answers) }
+        ensures dues { IfOk result (λ looks. looks.sums.answers.dues.known ≡ false) }
     {
+        let sums = Sums::new(alloc)?;
         Ok(Looks {
             seen: vec![in alloc; Look::Unasked; graph.paths()]?,
-            sums: Sums::new(alloc),
+            sums,
         })
     }
 
@@ -109,6 +113,7 @@ impl Looks {
         ensures same { OnOk result (KeepsAll self.old self.new) }
         ensures seen { OnOk result (StaysSeenIn graph.now self.old self.new) }
         ensures front { take (length self.old.seen.items) self.new.seen.items ≡ self.old.seen.items }
+        ensures sums { self.new.sums ≡ self.old.sums }
         ensures err { OnErr result (self.new.seen.items ≡ self.old.seen.items) }
     {
         self.seen.resize(graph.paths(), Look::Unasked)?;

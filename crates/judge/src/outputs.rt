@@ -4,7 +4,8 @@ ghost use Rattle.std.specs.Prelude.{◌≡◌, ◌<◌, ℕ, true, false, length
 ghost use Rattle.model.specs.Calls.{HasCause};
 ghost use Rattle.model.specs.Graph.{has_number};
 ghost use Rattle.judge.specs.Looking.{HasLookedAt};
-ghost use Rattle.judge.specs.Facts.{FindsMade, IsDepsStart};
+ghost use Rattle.judge.specs.Answers.{FindsMade};
+ghost use Rattle.judge.specs.Facts.{IsDepsStart};
 
 use crate::laws::looks_follow;
 use crate::looks::Looks;
@@ -16,7 +17,7 @@ use records::Records;
 use site::Site;
 
 impl Looks {
-    /// The facts of these outputs of an edge that does this now.
+    /// The facts of these outputs of an edge that does this now, as they are seen.
     pub(crate) fn outputs_of<S: Site>(
         &mut self,
         site: &mut S,
@@ -31,7 +32,7 @@ impl Looks {
         ensures looked { HasLookedAt S.tells S.world site.old site.new graph.now self.old self.new }
         ensures cause { HasCause (S.world site.old) (S.world site.new) result }
         ensures sums { self.new.sums ≡ self.old.sums }
-        ensures outputs { FindsMade S.tells S.world site.old site.new graph.now records.now self.old act.now paths.now result }
+        ensures outputs { FindsMade graph.now records.now self.new act.now paths.now result }
     {
         looks_follow();
         let mut outputs = Outputs::new();

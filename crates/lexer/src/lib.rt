@@ -23,4 +23,4 @@ pub use fault::{Fault, FaultKind, ReadFault};
 pub use lines::{one_reading, statements};
 pub use path::{canonical, has_canonical, is_canonical_at_sight, is_settled, one_form};
 pub use shell::{is_bare_path, quote, quoted_is_one_word};
-pub use statement::{BuildLine, Line, Piece, Statement, Statements, Value};
+pub use statement::{BuildLine, FewPieces, Line, Piece, Statement, Statements, Value};

@@ -14,6 +14,12 @@ use crate::stop::Stop;
 use std::alloc::{AllocError, Global};
 use text::Items;
 
+/// About so many bytes a line has at least that says something.
+const LINE: usize = 32;
+
+/// For more lines than these, room is made as they come.
+const MOST_LINES: usize = 64;
+
 /// The statements of a build file up to its first fault, and that fault (manual: "Lexical syntax").
 ///
 /// A text past the limit has the fault `TooLarge` in line 1, and no statements. The one error is a
@@ -21,7 +27,7 @@ use text::Items;
 pub fn statements(alloc: Global, text: &str) -> Result<Statements<'_>, AllocError>
     ensures { IfOk result (λ found. IsRead text.now (map said_of found.lines) found.fault) }
 {
-    let mut lines = Items::new(alloc);
+    let mut lines = Items::from_vec(Vec::with_capacity(alloc, usual_lines(text.len()))?);
     if text.len() > LIMIT {
         let fault = Some(Fault {
             line: 1,
@@ -39,6 +45,11 @@ pub fn statements(alloc: Global, text: &str) -> Result<Statements<'_>, AllocErro
             })
         }
     }
+}
+
+/// For how many lines room is made at once: as many as stand in a short text, and a few for a long one.
+fn usual_lines(bytes: usize) -> usize {
+    (bytes / LINE).min(MOST_LINES)
 }
 
 /// A law, which runs nothing: a text says one thing, and has at most one first fault. So a text with a

@@ -1,6 +1,6 @@
 //! Paths.
 
-ghost use Rattle.std.specs.Prelude.{◌≡◌, true, ◌<◌, length, IfOk, IfErr};
+ghost use Rattle.std.specs.Prelude.{◌≡◌, [], true, ◌<◌, length, IfOk, IfErr};
 ghost use Rattle.lexer.specs.Places.{IsBehind, Breaks, Reaches};
 ghost use Rattle.lexer.specs.Said.{fragments_of, paths_of};
 ghost use Rattle.lexer.specs.Tokens.{begins_path};
@@ -11,7 +11,7 @@ use crate::cursor::Cursor;
 use crate::statement::Value;
 use crate::stop::Stop;
 use crate::values::pieces_at;
-use std::alloc::Global;
+use std::alloc::{AllocError, Global};
 use text::Items;
 
 /// All paths that stand here, of which there may be none, and the place behind them and their blanks.
@@ -24,15 +24,24 @@ pub fn paths_at<'a>(
     ensures behind { IfOk result (λ found. IsBehind cursor.entry found.1) }
     ensures fault { IfErr result (Breaks Paths cursor.entry) }
 {
-    // most lists have one path
-    let mut paths = Items::from_vec(Vec::with_capacity(alloc, 1)?);
     let mut at = cursor.skip_blanks();
+    let mut paths = room_for_paths(alloc, at.begins_path())?;
     'paths: while at.begins_path() {
         let (path, after) = path_and_blanks_at(alloc, at)?;
         paths.push(path)?;
         at = after;
     }
     Ok((paths, at))
+}
+
+/// No paths, and room for one if there are some: most lists have one path.
+fn room_for_paths<'a>(alloc: Global, some: bool) -> Result<Items<Value<'a>>, AllocError>
+    ensures { IfOk result (λ paths. paths ≡ []) }
+{
+    if some {
+        return Ok(Items::from_vec(Vec::with_capacity(alloc, 1)?));
+    }
+    Ok(Items::new(alloc))
 }
 
 /// The path that stands here, and the place behind it and its blanks.

@@ -10,11 +10,10 @@ ghost use Rattle.lexer.specs.Values.{Pieces};
 use crate::characters::Class;
 use crate::cursor::Cursor;
 use crate::escapes::escape_at;
-use crate::statement::{Piece, Value};
+use crate::statement::{FewPieces, Piece, Value};
 use crate::stop::Stop;
 use crate::tokens::ends;
 use std::alloc::Global;
-use text::Items;
 
 /// The value or path of this class that stands here, and the place behind it.
 #[tactic(auto, using(crate::proofs::Places::placing))]
@@ -28,8 +27,7 @@ pub fn pieces_at<'a>(
     ensures shorter { ends class cursor.entry.rest.now ≡ false → IfOk result (λ found. length found.1.rest.now < length cursor.entry.rest.now) }
     ensures fault { IfErr result (Breaks (Pieces class) cursor.entry) }
 {
-    // most have one piece
-    let mut pieces = Items::from_vec(Vec::with_capacity(alloc, 1)?);
+    let mut pieces = FewPieces::new(alloc);
     let mut at = cursor;
     'pieces: while !ends(at.rest, class) {
         let (found, after) = piece_at(at, class)?;

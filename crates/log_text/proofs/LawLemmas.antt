@@ -79,7 +79,7 @@ module _ {R : Type 0} (form : Form R) where
     pub text : bytes ≡ lines_text form seen ++ part
     pub lacks : Lacks 10 part
 
-  lines_front : (all : List R) (bytes rest : List ℕ) → lines_text form all ≡ bytes ++ rest → IsFrontOf bytes all
+  pub lines_front : (all : List R) (bytes rest : List ℕ) → lines_text form all ≡ bytes ++ rest → IsFrontOf bytes all
   lines_front [] [] rest e = record { seen = []; left = []; part = []; split = refl; text = refl; lacks = tt }
   lines_front [] (b ∷ bytes) rest e = absurd (let clash : [] ≡ b ∷ (bytes ++ rest) = e in cc)
   lines_front (r ∷ all) bytes rest e =
@@ -88,7 +88,7 @@ module _ {R : Type 0} (form : Form R) where
         | inr q ↦ record { seen = []; left = r ∷ all; part = bytes; split = refl; text = refl; lacks = q.0 }
       ]
 
-  HaveLines-front : (seen left : List R) → HaveLines form (seen ++ left) → HaveLines form seen
+  pub HaveLines-front : (seen left : List R) → HaveLines form (seen ++ left) → HaveLines form seen
   HaveLines-front [] left h = tt
   HaveLines-front (r ∷ seen) left h = (h.0, HaveLines-front seen left h.1)
 

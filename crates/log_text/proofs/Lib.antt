@@ -15,6 +15,7 @@ pub mod InForce
 pub mod Compacting
 pub mod Decided
 pub mod EachRead
+pub mod Amid
 pub mod BuildRecordOf
 mod Plain
 mod OneOutputLines
@@ -24,3 +25,4 @@ pub mod Sayings
 pub mod KeptDeps
 pub mod Writing
 pub mod DepsRecordOf
+pub mod TwoOutputLines

@@ -40,6 +40,14 @@ PutsLine {R} form Keeps line old new = (r : R) × (line ≡ line_text (form.fiel
 abbrev pub KeepsLines : {R L : Type 0} → Form R → Keeping R L → List ℕ → L → Type 0
 KeepsLines {R} form Keeps lines log = (all : List R) × (lines ≡ lines_text form all) × HaveLines form all × Keeps all log
 
+-- it stands for the same records as before, and these behind them
+abbrev pub KeepsMore : {R L : Type 0} → Keeping R L → List R → L → L → Type 0
+KeepsMore {R} Keeps more old new = (records : List R) → Keeps records old → Keeps (records ++ more) new
+
+-- the lines are those of records, which were put at the end
+abbrev pub PutsLines : {R L : Type 0} → Form R → Keeping R L → List ℕ → L → L → Type 0
+PutsLines {R} form Keeps lines old new = (all : List R) × (lines ≡ lines_text form all) × HaveLines form all × KeepsMore Keeps all old new
+
 -- what is kept stands for the records of the bytes, which end so
 abbrev pub IsParsed : {R L : Type 0} → (Version → Form R) → Keeping R L → List ℕ → L → Tail → Type 0
 IsParsed {R} forms Keeps bytes log tail = (records : List R) × IsRead forms bytes records tail × Keeps records log
@@ -55,3 +63,12 @@ IsToCompact all in_force = WantsCompaction (length all) (length in_force)
 -- the output with this number was said this of: a record more
 abbrev pub PutsOne : {T : Type 0} → ℕ → Option T → Table T → Table T → Type 0
 PutsOne number said old new = (text : List ℕ) → slice_get old.outputs number ≡ Some text → KeepsAlso IsTableOf (text ∷ [], said) old new
+
+-- the texts with these numbers are not the same
+abbrev pub AreOther : List (List ℕ) → ℕ → ℕ → Type 0
+AreOther texts first second = (a b : List ℕ) → slice_get texts first ≡ Some a → slice_get texts second ≡ Some b → a ≡ b → ⊥
+
+-- the outputs with these two numbers were said this of, where they are not the same: a record more
+abbrev pub PutsTwo : {T : Type 0} → ℕ → ℕ → Option T → Table T → Table T → Type 0
+PutsTwo first second said old new =
+    (a b : List ℕ) → slice_get old.outputs first ≡ Some a → slice_get old.outputs second ≡ Some b → (a ≡ b → ⊥) → KeepsAlso IsTableOf (a ∷ b ∷ [], said) old new

@@ -17,3 +17,4 @@ pub mod Written
 pub mod DepsRecordLine
 pub mod DepsLog
 pub mod DepsFormat
+pub mod Pieces

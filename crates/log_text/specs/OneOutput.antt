@@ -11,6 +11,10 @@ use Rattle.log_text.specs.BuildRecord.{act_fields, done_fields}
 abbrev pub IsHead : ℕ → List ℕ → List ℕ → Type 0
 IsHead kind named line = line ≡ (kind ∷ 9 ∷ 49 ∷ 9 ∷ named) ++ 46 ∷ []
 
+-- the line is of a record of this kind with two outputs, which stand behind that with all else, up to the dot
+abbrev pub IsPairHead : ℕ → List ℕ → List ℕ → Type 0
+IsPairHead kind named line = line ≡ (kind ∷ 9 ∷ 50 ∷ 9 ∷ named) ++ 46 ∷ []
+
 -- the field of the text stands in front of the bytes, and the rest behind it
 abbrev pub IsTextIn : List ℕ → List ℕ → List ℕ → Type 0
 IsTextIn bytes text rest = (bytes ≡ field_and_tab text ++ rest) × IsUtf8 text

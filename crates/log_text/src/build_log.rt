@@ -15,8 +15,10 @@ use crate::done::Done;
 use crate::field::{Field, plain_fields};
 use crate::form::{Records, Version};
 use crate::kept::Kept;
-use crate::one_output::{Last, put_short};
+use crate::one_output::Last;
+use crate::stock::Stock;
 use crate::tail::Tail;
+use crate::two_outputs::put_front;
 use model::Record;
 use std::alloc::{AllocError, Global};
 use std::marker::Model;
@@ -76,24 +78,24 @@ impl Records for BuildLog {
 
     fn put_fields(
         &mut self,
-        alloc: Global,
+        stock: &Stock<'_>,
         version: Version,
         fields: &[Field<'_>],
     ) -> Result<bool, AllocError> {
-        let Some((outputs, said)) = said_by(alloc, version, fields)? else {
+        let Some((outputs, said)) = said_by(stock, version, fields)? else {
             return Ok(false);
         };
-        self.kept.put(alloc, outputs, said)?;
+        self.kept.put(stock.alloc, outputs, said)?;
         Ok(true)
     }
 
     fn put_plain(
         &mut self,
-        alloc: Global,
+        stock: &Stock<'_>,
         version: Version,
         line: &[u8],
     ) -> Result<bool, AllocError> {
-        let is_put = put_short(&mut self.kept, &mut self.last, alloc, version, line)?;
+        let is_put = put_front(&mut self.kept, &mut self.last, stock, version, line)?;
         Ok(is_put)
     }
 

@@ -7,5 +7,5 @@ use text::Items;
 #[derive(Drop)]
 pub struct Deps {
     pub start: u64,
-    pub paths: Items<usize>,
+    pub paths: Items<u32>,
 }

@@ -16,6 +16,7 @@ use crate::field::{Field, plain_fields};
 use crate::form::{Records, Version};
 use crate::kept::{InForce, Kept};
 use crate::laws::{in_force_keeps, parts_are_decided};
+use crate::stock::Stock;
 use crate::tail::Tail;
 use model::DepsRecord;
 use std::alloc::{AllocError, Global};
@@ -73,34 +74,35 @@ impl Records for DepsLog {
 
     fn put_fields(
         &mut self,
-        alloc: Global,
+        stock: &Stock<'_>,
         version: Version,
         fields: &[Field<'_>],
     ) -> Result<bool, AllocError> {
-        let Some((outputs, start, paths)) = said_by(alloc, version, fields)? else {
+        let Some((outputs, start, paths)) = said_by(stock.alloc, version, fields)? else {
             return Ok(false);
         };
-        self.put(alloc, outputs, start, paths)?;
+        self.put(stock.alloc, outputs, start, paths)?;
         Ok(true)
     }
 
     fn put_plain(
         &mut self,
-        alloc: Global,
+        stock: &Stock<'_>,
         version: Version,
         line: &[u8],
     ) -> Result<bool, AllocError> {
         let Some((output, start, count, bytes)) = head_of(version, line) else {
             return Ok(false);
         };
-        let Some((paths, rest)) = self.kept.take_numbers(alloc, bytes, count as usize)? else {
+        let Some((paths, rest)) = self.kept.take_numbers(stock.alloc, bytes, count as usize)? else {
             return Ok(false);
         };
         if !rest.is_empty() {
             return Ok(false);
         }
         let outputs = [Field::plain(output)];
-        self.kept.put(alloc, &outputs, Some(Deps { start, paths }))?;
+        self.kept
+            .put(stock.alloc, &outputs, Some(Deps { start, paths }))?;
         Ok(true)
     }
 
@@ -196,7 +198,7 @@ impl DepsLog {
     }
 
     /// The path with this number. It takes no memory.
-    pub fn path(&self, number: usize) -> Option<&str>
+    pub fn path(&self, number: u32) -> Option<&str>
         ensures { option_map (λ path. path.now) result ≡ slice_get self.now.outputs number }
     {
         self.kept.text(number)

@@ -131,6 +131,16 @@ pub fn field_text(alloc: Global, text: &str) -> Result<Vec<u8>, AllocError>
     Ok(field)
 }
 
+/// Whether no byte of a text is written as two.
+pub(crate) fn is_plain_text(text: &str) -> bool
+    ensures { IsTrue result → IsPlain text.now }
+{
+    match cut_at_escape(text.as_bytes()) {
+        Some(_) => false,
+        None => true,
+    }
+}
+
 /// Whether nothing in a line is escaped.
 pub(crate) fn is_plain(line: &[u8]) -> bool
     ensures { IsTrue result → Lacks 92 line.now }

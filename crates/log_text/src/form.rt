@@ -10,6 +10,7 @@ ghost use Rattle.log_text.specs.Keeping.{OfKept, KeepsSame, PutsFields, PutsLine
 ghost use Rattle.log_text.specs.Laws.{KeepsInForce};
 
 use crate::field::Field;
+use crate::stock::Stock;
 use std::alloc::{AllocError, Global};
 
 /// A version of the text of a log. Version 2 is written, both are read.
@@ -58,7 +59,7 @@ pub trait Records: Sized + Drop {
     /// memory is refused, nothing is said of what is kept.
     fn put_fields(
         &mut self,
-        alloc: Global,
+        stock: &Stock<'_>,
         version: Version,
         fields: &[Field<'_>],
     ) -> Result<bool, AllocError>
@@ -70,7 +71,7 @@ pub trait Records: Sized + Drop {
     /// nothing is said of it.
     fn put_plain(
         &mut self,
-        alloc: Global,
+        stock: &Stock<'_>,
         version: Version,
         line: &[u8],
     ) -> Result<bool, AllocError>

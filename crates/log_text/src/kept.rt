@@ -1,10 +1,10 @@
 //! What is kept of the records of a log: outputs by number, and for each the record in force.
 
-ghost use Rattle.std.specs.Prelude.{◌≡◌, ◌<◌, ◌≤◌, ◌↔◌, ◌-◌, [], ◌∷◌, ◌++◌, Option, Some, IsTrue, IfOk, OnOk, OnErr, length, take, slice_get};
+ghost use Rattle.std.specs.Prelude.{◌≡◌, ◌<◌, ◌≤◌, ◌↔◌, ◌-◌, [], ◌∷◌, ◌++◌, true, Option, Some, IsTrue, IfOk, OnOk, OnErr, length, take, slice_get};
 ghost use Rattle.std.specs.List.{list_any};
 ghost use Rattle.std.specs.Option.{option_copied, option_map};
 ghost use Rattle.log_text.specs.Kept.{IsTableOf, AreDistinct, AreNumbersOf, told_of, tolds, place_of, place_at, is_place, is_left, tellings, in_force_of, outputs_left, texts_at, if_some};
-ghost use Rattle.log_text.specs.Keeping.{OfTable, KeepsSame, KeepsAlso, PutsOne, at_number, IsToCompact};
+ghost use Rattle.log_text.specs.Keeping.{OfTable, KeepsSame, KeepsAlso, PutsOne, PutsTwo, AreOther, at_number, IsToCompact};
 ghost use Rattle.log_text.specs.Found.{texts_in, tellings_in, AreNamed, PutsFound, PutsLeft, Leaves};
 ghost use Rattle.log_text.specs.Steps.{IsFilled, IsGrown, IsSaid};
 ghost use Rattle.text.specs.Marks.{Lacks};
@@ -13,7 +13,7 @@ ghost use Rattle.log_text.specs.Taken.{AreTakenFrom, AreTakenBehind, IsTaken, Ta
 
 use crate::field::Field;
 use crate::line::plain_field;
-use crate::texts::{Front, Texts};
+use crate::texts::{Front, Texts, small};
 use std::alloc::{AllocError, Global};
 use std::marker::Model;
 use text::Items;
@@ -31,7 +31,7 @@ const MORE: usize = 7;
 pub struct Kept<T> {
     outputs: Texts,
     /// For each output the number of the record in force, if there is one.
-    in_force: Vec<Option<usize>>,
+    in_force: Vec<Option<u32>>,
     told: Vec<Told<T>>,
     records: u64,
 }
@@ -42,7 +42,7 @@ pub type InForce<'a, T> = (Items<&'a str>, &'a T);
 /// A record that tells something, with the numbers of its outputs.
 #[derive(Drop)]
 struct Told<T> {
-    outputs: Items<usize>,
+    outputs: Items<u32>,
     told: T,
 }
 
@@ -100,7 +100,7 @@ impl<T: Drop> Kept<T> {
     pub(crate) fn put_one(
         &mut self,
         alloc: Global,
-        number: usize,
+        number: u32,
         said: Option<T>,
     ) -> Result<(), AllocError>
         ensures ok { OnOk result (PutsOne number said self.old self.new) }
@@ -112,13 +112,43 @@ impl<T: Drop> Kept<T> {
         Ok(())
     }
 
-    /// The numbers of these texts; those that have none get one, which stays theirs. What is kept stands for the same
-    /// records as before.
-    pub fn numbers(
+    /// Puts a record of the outputs with these two numbers at the end. Where memory is refused, what is kept stands for the same records
+    /// as before.
+    pub(crate) fn put_two(
         &mut self,
         alloc: Global,
-        texts: &[Field<'_>],
-    ) -> Result<Items<usize>, AllocError>
+        first: u32,
+        second: u32,
+        said: Option<T>,
+    ) -> Result<(), AllocError>
+        ensures ok { OnOk result (PutsTwo first second said self.old self.new) }
+        ensures err { OnErr result (KeepsSame IsTableOf self.old self.new) }
+    {
+        let records = self.records.checked_add(1).ok_or(AllocError)?;
+        let mut numbers = Vec::with_capacity(alloc, 2)?;
+        numbers.push(first)?;
+        numbers.push(second)?;
+        self.say(Items::from_vec(numbers), said)?;
+        self.records = records;
+        Ok(())
+    }
+
+    /// Whether these are the numbers of two texts that are not the same.
+    pub(crate) fn differ(&self, first: u32, second: u32) -> bool
+        ensures { result ≡ true → AreOther self.now.outputs first second }
+    {
+        let Some(one) = self.text(first) else {
+            return false;
+        };
+        let Some(other) = self.text(second) else {
+            return false;
+        };
+        one != other
+    }
+
+    /// The numbers of these texts; those that have none get one, which stays theirs. What is kept stands for the same
+    /// records as before.
+    pub fn numbers(&mut self, alloc: Global, texts: &[Field<'_>]) -> Result<Items<u32>, AllocError>
         ensures same { KeepsSame IsTableOf self.old self.new }
         ensures records { self.new.records ≡ self.old.records }
         ensures grown { IsGrown self.old self.new }
@@ -144,7 +174,7 @@ impl<T: Drop> Kept<T> {
         alloc: Global,
         bytes: &'a [u8],
         count: usize,
-    ) -> Result<Option<(Items<usize>, &'a [u8])>, AllocError>
+    ) -> Result<Option<(Items<u32>, &'a [u8])>, AllocError>
         requires { Lacks 10 bytes.now }
         ensures same { KeepsSame IsTableOf self.old self.new }
         ensures records { self.new.records ≡ self.old.records }
@@ -173,7 +203,7 @@ impl<T: Drop> Kept<T> {
         alloc: Global,
         bytes: &'a [u8],
         most: usize,
-        numbers: &mut Vec<usize>,
+        numbers: &mut Vec<u32>,
     ) -> Result<Option<&'a [u8]>, AllocError>
         requires line_feed { Lacks 10 bytes.now }
         requires most { 0 < most }
@@ -196,7 +226,7 @@ impl<T: Drop> Kept<T> {
         }
         if let Some((number, after)) = self.outputs.follow_on(last, bytes) {
             numbers.push(number)?;
-            let rest = self.follow_more(number, after, most - 1, numbers)?;
+            let rest = self.follow_more(number as usize, after, most - 1, numbers)?;
             return Ok(Some(rest));
         }
         self.take_few(alloc, last, bytes, most, missed, numbers)
@@ -213,7 +243,7 @@ impl<T: Drop> Kept<T> {
         bytes: &'a [u8],
         most: usize,
         missed: Option<Front>,
-        numbers: &mut Vec<usize>,
+        numbers: &mut Vec<u32>,
     ) -> Result<Option<&'a [u8]>, AllocError>
         requires line_feed { Lacks 10 bytes.now }
         requires most { 0 < most }
@@ -242,7 +272,7 @@ impl<T: Drop> Kept<T> {
         last: usize,
         bytes: &'a [u8],
         most: usize,
-        numbers: &mut Vec<usize>,
+        numbers: &mut Vec<u32>,
     ) -> Result<Option<&'a [u8]>, AllocError>
         requires line_feed { Lacks 10 bytes.now }
         requires most { 0 < most }
@@ -268,7 +298,7 @@ impl<T: Drop> Kept<T> {
         last: usize,
         bytes: &'a [u8],
         front: Option<Front>,
-        numbers: &mut Vec<usize>,
+        numbers: &mut Vec<u32>,
     ) -> Result<Option<&'a [u8]>, AllocError>
         requires { Lacks 10 bytes.now }
         ensures same { KeepsSame IsTableOf self.old self.new }
@@ -291,7 +321,7 @@ impl<T: Drop> Kept<T> {
         last: usize,
         bytes: &'a [u8],
         most: usize,
-        numbers: &mut Vec<usize>,
+        numbers: &mut Vec<u32>,
     ) -> Result<&'a [u8], AllocError>
         ensures same { self.new ≡ self.old }
         ensures taken { IfOk result (λ rest. AreTakenBehind self.new.outputs numbers.old.items bytes.now most numbers.new.items rest.now) }
@@ -304,7 +334,7 @@ impl<T: Drop> Kept<T> {
             };
             numbers.push(number)?;
             rest = after;
-            before = number;
+            before = number as usize;
         }
         Ok(rest)
     }
@@ -317,7 +347,7 @@ impl<T: Drop> Kept<T> {
         last: usize,
         bytes: &'a [u8],
         front: Option<Front>,
-    ) -> Result<Option<(usize, &'a [u8])>, AllocError>
+    ) -> Result<Option<(u32, &'a [u8])>, AllocError>
         requires { Lacks 10 bytes.now }
         ensures same { KeepsSame IsTableOf self.old self.new }
         ensures records { self.new.records ≡ self.old.records }
@@ -340,9 +370,10 @@ impl<T: Drop> Kept<T> {
         alloc: Global,
         last: usize,
         bytes: &'a [u8],
-    ) -> Result<Option<(usize, &'a [u8])>, AllocError>
+    ) -> Result<Option<(u32, &'a [u8])>, AllocError>
         requires { Lacks 10 bytes.now }
         ensures same { KeepsSame IsTableOf self.old self.new }
+        ensures grown { IsGrown self.old self.new }
         ensures number { IfFound result (λ parts. IsTaken self.new.outputs bytes.now parts.0 parts.1.now) }
     {
         if let Some((number, after)) = self.outputs.follow(last, bytes) {
@@ -352,8 +383,22 @@ impl<T: Drop> Kept<T> {
         Ok(found)
     }
 
-    /// The number of an output; if it has none, it gets one.
-    fn number(&mut self, alloc: Global, output: &str) -> Result<usize, AllocError>
+    /// The number of an output; if it has none, it gets one. A number that has no room in four bytes is told as memory.
+    fn number(&mut self, alloc: Global, output: &str) -> Result<u32, AllocError>
+        ensures same { KeepsSame IsTableOf self.old self.new }
+        ensures records { self.new.records ≡ self.old.records }
+        ensures grown { IsGrown self.old self.new }
+        ensures number { IfOk result (λ number. slice_get self.new.outputs number ≡ Some output.now) }
+    {
+        let found = self.number_of(alloc, output)?;
+        let Some(number) = small(found) else {
+            return Err(AllocError);
+        };
+        Ok(number)
+    }
+
+    /// The same, whether it has room in four bytes or not.
+    fn number_of(&mut self, alloc: Global, output: &str) -> Result<usize, AllocError>
         ensures same { KeepsSame IsTableOf self.old self.new }
         ensures records { self.new.records ≡ self.old.records }
         ensures grown { IsGrown self.old self.new }
@@ -369,7 +414,7 @@ impl<T: Drop> Kept<T> {
     }
 
     /// Takes down what a record says of the outputs with these numbers. Where memory is refused, nothing changes.
-    fn say(&mut self, numbers: Items<usize>, said: Option<T>) -> Result<(), AllocError>
+    fn say(&mut self, numbers: Items<u32>, said: Option<T>) -> Result<(), AllocError>
         ensures ok { OnOk result (IsSaid self.old numbers said self.new) }
         ensures err { OnErr result (self.new ≡ self.old) }
     {
@@ -383,7 +428,7 @@ impl<T: Drop> Kept<T> {
     }
 
     /// Takes down what a record says of the output with this number. Where memory is refused, nothing changes.
-    fn say_one(&mut self, alloc: Global, number: usize, said: Option<T>) -> Result<(), AllocError>
+    fn say_one(&mut self, alloc: Global, number: u32, said: Option<T>) -> Result<(), AllocError>
         ensures ok { OnOk result (IsSaid self.old (number ∷ []) said self.new) }
         ensures err { OnErr result (self.new ≡ self.old) }
     {
@@ -400,11 +445,13 @@ impl<T: Drop> Kept<T> {
     }
 
     /// Takes down what a record tells of the outputs with these numbers. Where memory is refused, nothing changes.
-    fn tell(&mut self, numbers: Items<usize>, told: T) -> Result<(), AllocError>
+    fn tell(&mut self, numbers: Items<u32>, told: T) -> Result<(), AllocError>
         ensures ok { OnOk result (IsSaid self.old numbers (Some told) self.new) }
         ensures err { OnErr result (self.new ≡ self.old) }
     {
-        let place = self.told.len();
+        let Some(place) = small(self.told.len()) else {
+            return Err(AllocError);
+        };
         self.told.reserve(1)?;
         fill(
             self.in_force.as_mut_slice(),
@@ -520,7 +567,7 @@ impl<T: Drop> Kept<T> {
     }
 
     /// The texts with these numbers.
-    pub fn texts(&self, alloc: Global, numbers: &[usize]) -> Result<Vec<&str>, AllocError>
+    pub fn texts(&self, alloc: Global, numbers: &[u32]) -> Result<Vec<&str>, AllocError>
         ensures { IfOk result (λ texts. texts_in texts.items ≡ texts_at self.now.outputs numbers.now) }
     {
         let mut texts = Vec::with_capacity(alloc, numbers.len())?;
@@ -531,7 +578,7 @@ impl<T: Drop> Kept<T> {
     }
 
     /// Puts the text with this number at the end, if there is one.
-    fn push_text<'a>(&'a self, texts: &mut Vec<&'a str>, number: usize) -> Result<(), AllocError>
+    fn push_text<'a>(&'a self, texts: &mut Vec<&'a str>, number: u32) -> Result<(), AllocError>
         ensures { OnOk result (texts_in texts.new.items ≡ texts_in texts.old.items ++ if_some (slice_get self.now.outputs number)) }
     {
         if let Some(text) = self.text(number) {
@@ -545,7 +592,7 @@ impl<T: Drop> Kept<T> {
         &self,
         alloc: Global,
         place: usize,
-        outputs: &[usize],
+        outputs: &[u32],
     ) -> Result<Vec<&str>, AllocError>
         ensures { IfOk result (λ left. Leaves self.now place outputs.now left.items) }
     {
@@ -561,7 +608,7 @@ impl<T: Drop> Kept<T> {
         &'a self,
         left: &mut Vec<&'a str>,
         place: usize,
-        number: usize,
+        number: u32,
     ) -> Result<(), AllocError>
         ensures { OnOk result (PutsLeft self.now place number left.old.items left.new.items) }
     {
@@ -585,24 +632,24 @@ impl<T: Drop> Kept<T> {
     }
 
     /// Whether the record with this number is in force for one of the outputs with these numbers.
-    fn has_in_force(&self, place: usize, outputs: &[usize]) -> bool
+    fn has_in_force(&self, place: usize, outputs: &[u32]) -> bool
         ensures { result ≡ list_any (λ n. is_place place (place_at self.now n)) outputs.now }
     {
         outputs.iter().any(|number| self.is_place(place, *number))
     }
 
     /// Whether the record is in force for the output with this number.
-    fn is_place(&self, place: usize, number: usize) -> bool
+    fn is_place(&self, place: usize, number: u32) -> bool
         ensures { result ≡ is_place place (place_at self.now number) }
     {
-        self.place(number) == Some(place)
+        self.place(number as usize) == Some(place)
     }
 
     /// The text with this number. It takes no memory.
-    pub fn text(&self, number: usize) -> Option<&str>
+    pub fn text(&self, number: u32) -> Option<&str>
         ensures { option_map (λ o. o.now) result ≡ slice_get self.now.outputs number }
     {
-        self.outputs.at(number)
+        self.outputs.at(number as usize)
     }
 
     fn telling(&self, place: usize) -> Option<&Told<T>>
@@ -615,17 +662,18 @@ impl<T: Drop> Kept<T> {
     fn place(&self, number: usize) -> Option<usize>
         ensures { result ≡ place_at self.now number }
     {
-        *self.in_force.get(number)?
+        let place = (*self.in_force.get(number)?)?;
+        Some(place as usize)
     }
 }
 
 /// The number behind which the next text of a list is looked for: the last of these. In front of the first, which is often in no
 /// other list, nothing is known; what stands behind that is looked for behind the first text of all.
-fn last_of(numbers: &[usize]) -> usize {
+fn last_of(numbers: &[u32]) -> usize {
     match numbers {
         [] => usize::MAX,
         [_] => 0,
-        [.., last] => *last,
+        [.., last] => *last as usize,
     }
 }
 
@@ -638,12 +686,13 @@ fn front_before<'a>(bytes: &'a [u8], after: &[u8]) -> &'a [u8]
 }
 
 /// Writes a value at each of these places that is there.
-fn fill(slots: &mut [Option<usize>], places: &[usize], value: Option<usize>)
+fn fill(slots: &mut [Option<u32>], places: &[u32], value: Option<u32>)
     ensures { IsFilled slots.old places.now value slots.new }
 {
     for place in places {
-        if *place < slots.len() {
-            slots[*place] = value;
+        let slot = *place as usize;
+        if slot < slots.len() {
+            slots[slot] = value;
         }
     }
 }

@@ -18,9 +18,13 @@ mod line;
 mod number;
 mod one_output;
 mod outputs;
+mod pieces;
 mod read;
+mod sharing;
+mod stock;
 mod tail;
 mod texts;
+mod two_outputs;
 
 pub use build_log::BuildLog;
 pub use build_record::{begun_line, done_line, made_line};
@@ -39,5 +43,7 @@ pub use laws::{
 pub use line::{end_line, fields, plain_field, push_list, push_number, push_text, without_dot};
 pub use number::number_of;
 pub use outputs::{are_distinct, split_counted, split_outputs};
-pub use read::parse;
+pub use pieces::Pieces;
+pub use read::{parse, parse_from};
+pub use stock::Stock;
 pub use tail::Tail;

@@ -11,7 +11,7 @@ use crate::field::{Field, cut_plain, field_of, is_plain, push_field};
 use itoa::Buffer;
 use std::alloc::{AllocError, Global};
 use std::str::from_utf8;
-use text::cut;
+use text::{SharedText, cut};
 
 /// As many fields as a record of one output has: room for them is made at once.
 const USUAL_FIELDS: usize = 8;
@@ -97,6 +97,18 @@ pub fn push_text(line: &mut Vec<u8>, text: &str) -> Result<(), AllocError>
     ensures utf8 { IsUtf8 text.now }
 {
     push_field(line, text)?;
+    line.push(b'\t')?;
+    Ok(())
+}
+
+/// The same of a text that several hold.
+pub(crate) fn push_shared(line: &mut Vec<u8>, text: &SharedText) -> Result<(), AllocError>
+    ensures field { OnOk result (line.new.items ≡ line.old.items ++ field_and_tab text.now) }
+    ensures utf8 { IsUtf8 text.now }
+{
+    let (front, rest) = text.parts();
+    push_field(line, front)?;
+    push_field(line, rest)?;
     line.push(b'\t')?;
     Ok(())
 }

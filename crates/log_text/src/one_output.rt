@@ -15,36 +15,38 @@ use crate::form::Version;
 use crate::head_number::{behind_tab, number_in};
 use crate::kept::Kept;
 use crate::line::{plain_field, without_dot};
+use crate::sharing::{command_in, content_in, guess_in, share};
+use crate::stock::Stock;
 use model::Act;
 use std::alloc::{AllocError, Global};
-use text::{Text, cut};
+use text::{SharedText, Text, cut};
 
-/// The numbers of the outputs of the last begun record and of the last done one. Outputs often come in an order in which they came
+/// The numbers of the last outputs of the last begun record and of the last done one. Outputs often come in an order in which they came
 /// before, so each is guessed by the one in front of it.
 #[derive(Clone, Copy, Debug)]
 pub struct Last {
-    pub begun: usize,
-    pub done: usize,
+    pub begun: u32,
+    pub done: u32,
 }
 
 impl Last {
     /// Where there was no record.
     pub(crate) fn new() -> Last {
         Last {
-            begun: usize::MAX,
-            done: usize::MAX,
+            begun: u32::MAX,
+            done: u32::MAX,
         }
     }
 
     /// That of the last record of this kind.
     #[inline(always)]
-    fn of(&self, kind: u8) -> usize {
+    pub(crate) fn of(&self, kind: u8) -> u32 {
         if kind == b'b' { self.begun } else { self.done }
     }
 
     /// Notes that of a record of this kind.
     #[inline(always)]
-    fn set(&mut self, kind: u8, number: usize) {
+    pub(crate) fn set(&mut self, kind: u8, number: u32) {
         if kind == b'b' {
             self.begun = number;
         } else {
@@ -55,10 +57,11 @@ impl Last {
 
 /// Puts the record of a line, which is handed in without its line feed, at the end where it names one output, and says whether it
 /// did. Where it did not, or memory is refused, what is kept stands for some records, and where it did not, for the same as before.
+/// Of its act the command and the response content are taken over from the stock where it has them by the output.
 pub(crate) fn put_short(
     kept: &mut Kept<Done>,
     last: &mut Last,
-    alloc: Global,
+    stock: &Stock<'_>,
     version: Version,
     line: &[u8],
 ) -> Result<bool, AllocError>
@@ -70,15 +73,30 @@ pub(crate) fn put_short(
     let Some((kind, named)) = head_of(version, line) else {
         return Ok(false);
     };
-    let Some((number, told)) = kept.take_behind(alloc, last.of(kind), named)? else {
+    let Some((number, told)) = kept.take_behind(stock.alloc, last.of(kind) as usize, named)? else {
         return Ok(false);
     };
-    let Some(said) = said_behind(alloc, kind, told)? else {
+    let guess = act_at(stock, kept, kind, number);
+    let Some(said) = said_behind(stock.alloc, kind, told, guess)? else {
         return Ok(false);
     };
-    kept.put_one(alloc, number, said)?;
+    kept.put_one(stock.alloc, number, said)?;
     last.set(kind, number);
     Ok(true)
+}
+
+/// What makes the output with this number now, as far as the stock knows it. It is asked for a done record alone.
+pub(crate) fn act_at<'a>(
+    stock: &Stock<'a>,
+    kept: &Kept<Done>,
+    kind: u8,
+    number: u32,
+) -> Option<&'a Act> {
+    if kind != b'd' {
+        return None;
+    }
+    let output = kept.text(number)?;
+    stock.act_of(output)
 }
 
 /// The kind of a record that names one output, and what stands behind the number of its outputs and before the dot. It is told
@@ -120,12 +138,17 @@ fn behind_kind(front: &[u8]) -> Option<(u8, &[u8])>
 }
 
 /// What a record of this kind says of its output, where this stands behind the output.
-fn said_behind(alloc: Global, kind: u8, told: &[u8]) -> Result<Option<Option<Done>>, AllocError>
+pub(crate) fn said_behind(
+    alloc: Global,
+    kind: u8,
+    told: &[u8],
+    guess: Option<&Act>,
+) -> Result<Option<Option<Done>>, AllocError>
     requires { Lacks 10 told.now }
     ensures { IfFound result (IsSaidBehind kind told.now) }
 {
     if kind == b'd' {
-        let Some(done) = done_in(alloc, told)? else {
+        let Some(done) = done_in(alloc, told, guess)? else {
             return Ok(None);
         };
         return Ok(Some(Some(done)));
@@ -137,25 +160,25 @@ fn said_behind(alloc: Global, kind: u8, told: &[u8]) -> Result<Option<Option<Don
 }
 
 /// What the fields of a start and an act tell, and nothing behind them.
-fn done_in(alloc: Global, told: &[u8]) -> Result<Option<Done>, AllocError>
+fn done_in(alloc: Global, told: &[u8], guess: Option<&Act>) -> Result<Option<Done>, AllocError>
     requires { Lacks 10 told.now }
     ensures { IfFound result (IsDoneIn told.now) }
 {
     let Some((start, fields)) = number_in(told) else {
         return Ok(None);
     };
-    let Some(act) = act_in(alloc, fields)? else {
+    let Some(act) = act_in(alloc, fields, guess)? else {
         return Ok(None);
     };
     Ok(Some(Done { start, act }))
 }
 
-/// The act whose fields these are, and nothing behind them. Each text is copied once.
-fn act_in(alloc: Global, bytes: &[u8]) -> Result<Option<Act>, AllocError>
+/// The act whose fields these are, and nothing behind them. Each text is copied once, but for what is taken over from the guess.
+fn act_in(alloc: Global, bytes: &[u8], guess: Option<&Act>) -> Result<Option<Act>, AllocError>
     requires { Lacks 10 bytes.now }
     ensures { IfFound result (IsActIn bytes.now) }
 {
-    let Some((command, rest)) = text_in(alloc, bytes)? else {
+    let Some((command, rest)) = shared_in(alloc, bytes, command_in(guess))? else {
         return Ok(None);
     };
     let Some((depfile, rest)) = text_in(alloc, rest)? else {
@@ -164,7 +187,7 @@ fn act_in(alloc: Global, bytes: &[u8]) -> Result<Option<Act>, AllocError>
     let Some((response_path, rest)) = text_in(alloc, rest)? else {
         return Ok(None);
     };
-    let Some((response_content, rest)) = text_in(alloc, rest)? else {
+    let Some((response_content, rest)) = shared_in(alloc, rest, content_in(guess))? else {
         return Ok(None);
     };
     if !rest.is_empty() {
@@ -176,6 +199,27 @@ fn act_in(alloc: Global, bytes: &[u8]) -> Result<Option<Act>, AllocError>
         response_path,
         response_content,
     }))
+}
+
+/// The text whose field stands in front, by the guess where that is the same, and what stands behind its tab.
+fn shared_in<'a>(
+    alloc: Global,
+    bytes: &'a [u8],
+    guess: Option<&SharedText>,
+) -> Result<Option<(SharedText, &'a [u8])>, AllocError>
+    requires { Lacks 10 bytes.now }
+    ensures text { IfFound result (λ parts. IsTextIn bytes.now parts.0 parts.1.now) }
+    ensures line_feed { IfFound result (λ parts. Lacks 10 parts.1.now) }
+{
+    // as nearly all are
+    if let Some((text, after)) = guess_in(bytes, guess)? {
+        return Ok(Some((text, after)));
+    }
+    let Some((text, after)) = text_in(alloc, bytes)? else {
+        return Ok(None);
+    };
+    let shared = share(alloc, text, guess)?;
+    Ok(Some((shared, after)))
 }
 
 /// A copy of the text whose field stands in front, and what stands behind its tab.

@@ -1,6 +1,7 @@
 //! Lists of texts among the fields of a record, and the outputs that it names.
 
-ghost use Rattle.std.specs.Prelude.{◌≡◌, ◌<◌, ◌++◌, IfSome, IfNone, length};
+ghost use Rattle.std.specs.Prelude.{◌≡◌, ◌<◌, ◌++◌, IfSome, IfNone, IsTrue, IsFalse, length};
+ghost use Rattle.model.specs.Graph.{has};
 ghost use Rattle.log_text.specs.declared.form.Version.TheVariants.{Two};
 ghost use Rattle.log_text.specs.Answered.{IfYes, IfNo};
 ghost use Rattle.log_text.specs.Line.{HaveListFirst, HaveNoListFirst};
@@ -12,6 +13,9 @@ use crate::form::Version;
 use crate::number::number_of;
 use indexmap::IndexSet;
 use std::alloc::{AllocError, Global};
+
+/// Up to so many outputs are compared one with another: an index over them, in memory of its own, is dearer for few.
+const FEW: usize = 8;
 
 /// The outputs that these fields begin with, and the fields behind them.
 pub fn split_outputs<'f, 'a>(
@@ -63,13 +67,13 @@ fn split_front<'f, 'a>(
     Some(fields.split_at(count))
 }
 
-/// Whether no output stands twice among these. One alone takes no memory.
+/// Whether no output stands twice among these. A few take no memory.
 pub fn are_distinct(alloc: Global, outputs: &[Field<'_>]) -> Result<bool, AllocError>
     ensures distinct { IfYes result (AreDistinct outputs.now) }
     ensures twice { IfNo result (AreDistinct outputs.now → ⊥) }
 {
-    if outputs.len() < 2 {
-        return Ok(true);
+    if outputs.len() <= FEW {
+        return Ok(few_are_distinct(outputs));
     }
     let mut seen = IndexSet::new(alloc);
     for output in outputs {
@@ -78,4 +82,29 @@ pub fn are_distinct(alloc: Global, outputs: &[Field<'_>]) -> Result<bool, AllocE
         }
     }
     Ok(true)
+}
+
+/// The same, where each is compared with those in front of it: it takes a time of the order of the square of how many there are.
+fn few_are_distinct(outputs: &[Field<'_>]) -> bool
+    ensures distinct { IsTrue result → AreDistinct outputs.now }
+    ensures twice { IsFalse result → AreDistinct outputs.now → ⊥ }
+{
+    for (place, output) in outputs.iter().enumerate() {
+        if is_among(&outputs[..place], output.as_str()) {
+            return false;
+        }
+    }
+    true
+}
+
+/// Whether the output is one of these.
+fn is_among(outputs: &[Field<'_>], output: &str) -> bool
+    ensures { result ≡ has outputs.now output.now }
+{
+    for other in outputs {
+        if other.as_str() == output {
+            return true;
+        }
+    }
+    false
 }

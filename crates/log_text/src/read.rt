@@ -1,17 +1,19 @@
 //! Reading the text of a log.
 
-ghost use Rattle.std.specs.Prelude.{◌≡◌, [], IfOk, IfSome, IfNone};
+ghost use Rattle.std.specs.Prelude.{◌≡◌, IfOk, IfSome, IfNone};
 ghost use Rattle.text.specs.Marks.{Lacks};
 ghost use Rattle.log_text.specs.Answered.{IfYes, IfNo};
 ghost use Rattle.log_text.specs.Form.{IsNoLineOf, AreNoLinesOf};
-ghost use Rattle.log_text.specs.Keeping.{IsParsed, KeepsLines, PutsLine};
+ghost use Rattle.log_text.specs.Keeping.{IsParsed, PutsLine, PutsLines};
 
 use crate::field::Field;
 use crate::form::{Records, Version};
 use crate::line::{room_for_fields, take_fields};
-use crate::tail::{Tail, split_tail, tail_behind, tail_of_header};
+use crate::pieces::Pieces;
+use crate::stock::Stock;
+use crate::tail::Tail;
 use std::alloc::{AllocError, Global};
-use text::cut;
+use text::{Takes, cut};
 
 /// What is kept of the text of a log, and how the text ends. A damaged one tells nothing.
 ///
@@ -20,23 +22,20 @@ use text::cut;
 pub fn parse<L: Records>(alloc: Global, bytes: &[u8]) -> Result<(L, Tail), AllocError>
     ensures { IfOk result (λ read. IsParsed L.forms L.Keeps bytes.now read.0 read.1) }
 {
-    L::are_readable();
-    let (whole, rest) = split_tail(bytes);
-    let Some((first, lines)) = cut(whole, b'\n') else {
-        return Ok((L::new(alloc), tail_of_header::<L>(rest)));
-    };
-    let Some(version) = version_of::<L>(first) else {
-        return Ok((L::new(alloc), Tail::Damaged));
-    };
-    let mut log = L::new(alloc);
-    if !put_lines(alloc, version, lines, &mut log)? {
-        return Ok((L::new(alloc), Tail::Damaged));
-    }
-    Ok((log, tail_behind::<L>(version, rest)))
+    parse_from::<L>(&Stock::new(alloc), bytes)
+}
+
+/// The same, with what may be taken over from a stock of texts, which changes nothing of what is kept.
+pub fn parse_from<L: Records>(stock: &Stock<'_>, bytes: &[u8]) -> Result<(L, Tail), AllocError>
+    ensures { IfOk result (λ read. IsParsed L.forms L.Keeps bytes.now read.0 read.1) }
+{
+    let mut pieces = Pieces::<L>::new(*stock);
+    pieces.take(bytes)?;
+    Ok(pieces.finish())
 }
 
 /// The version that a first line tells.
-fn version_of<L: Records>(first: &[u8]) -> Option<Version>
+pub(crate) fn version_of<L: Records>(first: &[u8]) -> Option<Version>
     ensures found { IfSome result (λ version. first.now ≡ (L.forms version).first) }
     ensures none { IfNone result ((version : Version) → first.now ≡ (L.forms version).first → ⊥) }
 {
@@ -50,21 +49,20 @@ fn version_of<L: Records>(first: &[u8]) -> Option<Version>
 }
 
 /// Puts the records of these lines at the end, if each is a record's, and says whether they are.
-fn put_lines<L: Records>(
-    alloc: Global,
+pub(crate) fn put_lines<L: Records>(
+    stock: &Stock<'_>,
     version: Version,
     lines: &[u8],
     log: &mut L,
 ) -> Result<bool, AllocError>
-    requires { L.Keeps [] log.old }
-    ensures put { IfYes result (KeepsLines (L.forms version) L.Keeps lines.now log.new) }
+    ensures put { IfYes result (PutsLines (L.forms version) L.Keeps lines.now log.old log.new) }
     ensures none { IfNo result (AreNoLinesOf (L.forms version) lines.now) }
 {
     L::are_readable();
-    let mut fields = room_for_fields(alloc)?;
+    let mut fields = room_for_fields(stock.alloc)?;
     let mut rest = lines;
     'lines: while let Some((line, after)) = cut(rest, b'\n') {
-        if !put_line(alloc, version, line, &mut fields, log)? {
+        if !put_line(stock, version, line, &mut fields, log)? {
             return Ok(false);
         }
         rest = after;
@@ -75,7 +73,7 @@ fn put_lines<L: Records>(
 /// Puts the record of a line, which is handed in without its line feed, at the end, if it is one's. What the list of
 /// fields holds before and after is nothing that counts: it lends its room.
 fn put_line<'a, L: Records>(
-    alloc: Global,
+    stock: &Stock<'_>,
     version: Version,
     line: &'a [u8],
     fields: &mut Vec<Field<'a>>,
@@ -85,11 +83,11 @@ fn put_line<'a, L: Records>(
     ensures put { IfYes result (PutsLine (L.forms version) L.Keeps line.now log.old log.new) }
     ensures none { IfNo result (IsNoLineOf (L.forms version) line.now) }
 {
-    if log.put_plain(alloc, version, line)? {
+    if log.put_plain(stock, version, line)? {
         return Ok(true);
     }
-    if !take_fields(alloc, line, fields)? {
+    if !take_fields(stock.alloc, line, fields)? {
         return Ok(false);
     }
-    log.put_fields(alloc, version, fields.as_slice())
+    log.put_fields(stock, version, fields.as_slice())
 }

@@ -58,7 +58,7 @@ pub struct Texts {
 /// glance by the byte that they have at one place.
 #[derive(Drop)]
 pub struct Run {
-    pub numbers: Items<usize>,
+    pub numbers: Items<u32>,
     pub bytes: Bytes,
     pub place: u32,
     pub byte: u8,
@@ -174,11 +174,11 @@ impl Texts {
     /// The number of the text whose field stands in front, and what stands behind the field and its tab, where it is a text
     /// that came behind `last` before.
     #[inline(always)]
-    pub(crate) fn follow<'a>(&self, last: usize, bytes: &'a [u8]) -> Option<(usize, &'a [u8])>
+    pub(crate) fn follow<'a>(&self, last: usize, bytes: &'a [u8]) -> Option<(u32, &'a [u8])>
         ensures { IfSome result (λ parts. IsTaken self.now bytes.now parts.0 parts.1.now) }
     {
         let guess = self.guess(last, bytes)?;
-        let number = guess.number as usize;
+        let number = guess.number;
         let after = self.behind(number, bytes)?;
         Some((number, after))
     }
@@ -194,11 +194,7 @@ impl Texts {
 
     /// The same as `follow`, but for none where a run is to begin behind `last`.
     #[inline(always)]
-    pub(crate) fn follow_on<'a>(
-        &mut self,
-        last: usize,
-        bytes: &'a [u8],
-    ) -> Option<(usize, &'a [u8])>
+    pub(crate) fn follow_on<'a>(&mut self, last: usize, bytes: &'a [u8]) -> Option<(u32, &'a [u8])>
         ensures same { self.new ≡ self.old }
         ensures taken { IfSome result (λ parts. IsTaken self.new bytes.now parts.0 parts.1.now) }
     {
@@ -229,7 +225,7 @@ impl Texts {
         &mut self,
         last: usize,
         bytes: &'a [u8],
-    ) -> Result<(usize, &'a [u8]), Option<Front>>
+    ) -> Result<(u32, &'a [u8]), Option<Front>>
         ensures same { self.new ≡ self.old }
         ensures taken { IfOk result (λ parts. IsTaken self.new bytes.now parts.0 parts.1.now) }
     {
@@ -247,7 +243,7 @@ impl Texts {
             return Err(Some(front));
         };
         self.by_sum = self.turns_behind(self.is_noted(last, found.number));
-        Ok((found.number as usize, after))
+        Ok((found.number, after))
     }
 
     /// The same as `follow_on` where that gave none: none where a run is to begin behind `last`. Else the text has the sum of what stands
@@ -259,7 +255,7 @@ impl Texts {
         last: usize,
         bytes: &'a [u8],
         missed: Option<Front>,
-    ) -> Result<Option<(usize, &'a [u8])>, Option<Front>>
+    ) -> Result<Option<(u32, &'a [u8])>, Option<Front>>
         ensures same { self.new ≡ self.old }
         ensures taken { IfOk result (λ found. IfSome found (λ parts. IsTaken self.new bytes.now parts.0 parts.1.now)) }
     {
@@ -278,7 +274,7 @@ impl Texts {
         self.by_sum = self.by_sum.saturating_add(1);
         self.missed = 0;
         self.note_guess(last, Some(guess));
-        Ok(Some((guess.number as usize, after)))
+        Ok(Some((guess.number, after)))
     }
 
     /// Whether the table is to be asked for one more text, which counts as one that it does not tell until it does.
@@ -322,7 +318,7 @@ impl Texts {
         ensures plain { IfSome result (λ parts. IsPlainAt self.now parts.0.number) }
     {
         let guess = self.guess_at(front.sum, bytes)?;
-        let after = self.behind(guess.number as usize, bytes)?;
+        let after = self.behind(guess.number, bytes)?;
         Some((guess, after))
     }
 
@@ -368,18 +364,18 @@ impl Texts {
 
     /// What stands behind the field of the text with this number and its tab, where they stand in front.
     #[inline(always)]
-    fn behind<'a>(&self, number: usize, bytes: &'a [u8]) -> Option<&'a [u8]>
+    fn behind<'a>(&self, number: u32, bytes: &'a [u8]) -> Option<&'a [u8]>
         requires { IsPlainAt self.now number }
         ensures { IfSome result (λ after. IsTaken self.now bytes.now number after.now) }
     {
-        let text = self.at(number)?;
+        let text = self.at(number as usize)?;
         let after = behind_text(text, bytes)?;
         Some(after)
     }
 
     /// Notes that a text with this number, of which no byte is written as two, came behind another, and which sum it has, if that
     /// was made of the whole text and no more. Where memory is refused, less is noted.
-    pub(crate) fn note(&mut self, last: usize, number: usize, text: &str, front: Option<Front>)
+    pub(crate) fn note(&mut self, last: usize, number: u32, text: &str, front: Option<Front>)
         requires at { slice_get self.old number ≡ Some text.now }
         requires plain { IsPlain text.now }
         ensures { self.new ≡ self.old }
@@ -462,7 +458,7 @@ impl Texts {
         last: usize,
         bytes: &'a [u8],
         most: usize,
-    ) -> Result<(Vec<usize>, &'a [u8]), AllocError>
+    ) -> Result<(Vec<u32>, &'a [u8]), AllocError>
         ensures taken { IfOk result (λ parts. AreTaken self.now bytes.now parts.0.items parts.1.now) }
         ensures most { IfOk result (λ parts. length parts.0.items ≤ most) }
     {
@@ -476,7 +472,7 @@ impl Texts {
             };
             numbers.push(number)?;
             rest = after;
-            before = number;
+            before = number as usize;
         }
         Ok((numbers, rest))
     }
@@ -488,7 +484,7 @@ impl Texts {
         last: usize,
         bytes: &'a [u8],
         most: usize,
-    ) -> Option<(&'s [usize], &'a [u8])>
+    ) -> Option<(&'s [u32], &'a [u8])>
         ensures { IfSome result (λ parts. IsRunFrom self.now bytes.now most parts.0.now parts.1.now) }
     {
         let places = self.places.get(last)?;
@@ -508,7 +504,7 @@ impl Texts {
         place: Option<u32>,
         bytes: &'a [u8],
         most: usize,
-    ) -> Option<(&'s [usize], &'a [u8])>
+    ) -> Option<(&'s [u32], &'a [u8])>
         ensures { IfSome result (λ parts. IsRunFrom self.now bytes.now most parts.0.now parts.1.now) }
     {
         let run = self.runs.get(place? as usize)?;
@@ -528,7 +524,7 @@ impl Texts {
         &mut self,
         alloc: Global,
         last: usize,
-        numbers: &[usize],
+        numbers: &[u32],
         bytes: &[u8],
     ) -> Result<(), AllocError>
         requires { AreTaken self.old bytes.now numbers.now [] }
@@ -604,14 +600,14 @@ fn with_place(places: Places, place: Option<u32>) -> Option<Places> {
     None
 }
 
-/// How a text with this number is told from others. One that is too long, or whose number is too large, is not told.
-fn guess_of(number: usize, text: &str) -> Option<Guess>
+/// How a text with this number is told from others. One that is too long is not told.
+fn guess_of(number: u32, text: &str) -> Option<Guess>
     ensures { IfSome result (λ guess. guess.number ≡ number) }
 {
     let bytes = text.as_bytes();
     let place = telling_place(bytes);
     Some(Guess {
-        number: small(number)?,
+        number,
         len: u16::try_from(bytes.len()).ok()?,
         place: u16::try_from(place).ok()?,
         byte: byte_at(bytes, place),
@@ -626,7 +622,7 @@ fn telling_place(bytes: &[u8]) -> usize {
 }
 
 /// The same number in 32 bits, where it has room there.
-fn small(number: usize) -> Option<u32>
+pub(crate) fn small(number: usize) -> Option<u32>
     ensures { IfSome result (λ same. same ≡ number) }
 {
     u32::try_from(number).ok()
@@ -768,7 +764,7 @@ fn spread(sum: u64) -> u64 {
 }
 
 /// What stands behind the field of a plain text and its tab, where they stand in front.
-fn behind_text<'a>(text: &str, bytes: &'a [u8]) -> Option<&'a [u8]>
+pub(crate) fn behind_text<'a>(text: &str, bytes: &'a [u8]) -> Option<&'a [u8]>
     requires { IsPlain text.now }
     ensures found { IfSome result (λ after. bytes.now ≡ field_and_tab text.now ++ after.now) }
     ensures utf8 { IsUtf8 text.now }

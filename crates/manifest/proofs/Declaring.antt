@@ -14,7 +14,7 @@ use Rattle.manifest.specs.Declarations.{IsRepeated}
 
 -- the same declarations with other scopes
 abbrev pub with_scopes : Scopes → Declared → Declared
-with_scopes scopes declared = record { scopes = scopes; edges = declared.edges; pools = declared.pools; defaults = declared.defaults; paths = declared.paths }
+with_scopes scopes declared = record { scopes = scopes; edges = declared.edges; pools = declared.pools; defaults = declared.defaults; paths = declared.paths; room = declared.room }
 
 pub present_is : (declared : Declared) (state : State) → IsStateOf declared state → present state ≡ declared.scopes.present
 present_is declared state is = ap (first_or 0) is.scopes.opened

@@ -148,11 +148,11 @@ module _ (place : Place) (holds : Holds) (levels : ℕ) (path : Fragments) (stat
 
 -- the same, where only this was done to scopes
 pub state_moved : (declared : Declared) (scopes : Scopes) (move : Move) (state : State) → IsStateOf declared state → IsScopesOf scopes (move ∷ state.past)
-    → IsStateOf (record { scopes = scopes; edges = declared.edges; pools = declared.pools; defaults = declared.defaults; paths = declared.paths }) (with_move move state)
+    → IsStateOf (record { scopes = scopes; edges = declared.edges; pools = declared.pools; defaults = declared.defaults; paths = declared.paths; room = declared.room }) (with_move move state)
 state_moved declared scopes move state is moved = record { scopes = moved; edges = is.edges; pools = is.pools; defaults = is.defaults; paths = is.paths }
 
 pub stated_moved : (declared : Declared) (scopes : Scopes) (move : Move) → ((past : List Move) → IsScopesOf declared.scopes past → IsScopesOf scopes (move ∷ past)) → IsStated declared
-    → IsStated (record { scopes = scopes; edges = declared.edges; pools = declared.pools; defaults = declared.defaults; paths = declared.paths })
+    → IsStated (record { scopes = scopes; edges = declared.edges; pools = declared.pools; defaults = declared.defaults; paths = declared.paths; room = declared.room })
 stated_moved declared scopes move moved is = (with_move move is.0, state_moved declared scopes move is.0 is.1 (moved is.0.past is.1.scopes))
 
 edges_in : (old new : Scopes) (edges : List ReadEdge) → vec_len old.scopes ≤ vec_len new.scopes
@@ -161,13 +161,13 @@ edges_in old new [] more all = tt
 edges_in old new (edge ∷ edges) more all = let low : edge.scope < vec_len old.scopes = all.0 in (omega (arith, more, low), edges_in old new edges more all.1)
 
 pub formed_entered : (declared : Declared) (scopes : Scopes) → ((past : List Move) → IsScopesOf declared.scopes past → IsScopesOf scopes (Enter ∷ past)) → IsFormed declared
-    → IsFormed (record { scopes = scopes; edges = declared.edges; pools = declared.pools; defaults = declared.defaults; paths = declared.paths })
+    → IsFormed (record { scopes = scopes; edges = declared.edges; pools = declared.pools; defaults = declared.defaults; paths = declared.paths; room = declared.room })
 formed_entered declared scopes moved is =
     let now = moved is.past is.scopes in
     record { past = Enter ∷ is.past; scopes = now; edges = edges_in declared.scopes scopes declared.edges.items (omega (arith, is.scopes.number, now.number)) is.edges; paths = is.paths }
 
 pub formed_left : (declared : Declared) (scopes : Scopes) → ((past : List Move) → IsScopesOf declared.scopes past → IsScopesOf scopes (Leave ∷ past)) → IsFormed declared
-    → IsFormed (record { scopes = scopes; edges = declared.edges; pools = declared.pools; defaults = declared.defaults; paths = declared.paths })
+    → IsFormed (record { scopes = scopes; edges = declared.edges; pools = declared.pools; defaults = declared.defaults; paths = declared.paths; room = declared.room })
 formed_left declared scopes moved is =
     let now = moved is.past is.scopes in
     record { past = Leave ∷ is.past; scopes = now; edges = edges_in declared.scopes scopes declared.edges.items (omega (arith, is.scopes.number, now.number)) is.edges; paths = is.paths }

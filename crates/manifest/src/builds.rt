@@ -20,11 +20,15 @@ use lexer::{BuildLine, Line as TextLine};
 use paths::Line;
 use scopes::{Block, ExpandFault, Rule, Scopes, expand};
 use std::alloc::{AllocError, Global};
+use std::mem;
 use std::rc::Rc;
-use text::Text;
+use text::{SharedText, Text};
 
 /// The most build statements.
 const MOST_EDGES: usize = 4_000_000;
+
+/// How many statements are looked at for the name of a rule that stands there already.
+const NEAR: usize = 4;
 
 /// The most different paths on build lines.
 const MOST_PATHS: usize = 4_000_000;
@@ -60,7 +64,7 @@ impl Declared {
     {
         let read = self.edge(alloc, place, build, block)?;
         self.paths
-            .read_line(alloc, &self.scopes, place, build, &read)?;
+            .read_line(alloc, &self.scopes, place, build, &read, &mut self.room)?;
         self.edges.push(read.edge)?;
         Ok(())
     }
@@ -81,7 +85,7 @@ impl Declared {
         ensures rule { FindsRuleIn self.now (place_of place.now) build.now.rule.now (rule_read result) }
         ensures block { IfOk result (λ read. Always self.now.scopes (λ past. IsReadFrom lines.now past (block_in read))) }
     {
-        let rule_name = Text::from_str(alloc, build.rule)?;
+        let rule_name = self.rule_name(alloc, build.rule)?;
         let file = place.file.clone()?;
         let rule = self.rule(alloc, place, build.rule)?;
         let BlockRead { block, stop } = read_block(alloc, &self.scopes, lines)?;
@@ -94,6 +98,21 @@ impl Declared {
             block,
         };
         Ok(BuildRead { edge, stop })
+    }
+
+    /// The name of a rule. It stands once for statements with it that are near one another.
+    fn rule_name(&self, alloc: Global, name: &str) -> Result<SharedText, AllocError>
+        ensures { IfOk result (λ own. own ≡ name.now) }
+    {
+        let edges = self.edges.as_slice();
+        let near = edges.len().saturating_sub(NEAR);
+        for edge in edges.get(near..).unwrap_or(edges) {
+            if edge.rule_name.is(name) {
+                let same = edge.rule_name.clone()?;
+                return Ok(same);
+            }
+        }
+        SharedText::from_str(alloc, name)
     }
 
     /// The rule of this name at this place; none for `phony`.
@@ -161,7 +180,7 @@ fn read_line(
 }
 
 impl Named {
-    /// Reads the paths of a build statement and keeps them, unless there is too much.
+    /// Reads the paths of a build statement and keeps them, unless there is too much. They are read into the room of these lists.
     fn read_line(
         &mut self,
         alloc: Global,
@@ -169,31 +188,36 @@ impl Named {
         place: &Place<'_>,
         build: &BuildLine<'_>,
         read: &BuildRead,
+        room: &mut Line,
     ) -> Result<(), ReadError>
         ensures said { KeepsPaths result scopes.now self.old self.new (place_of place.now) (build_of build.now) read.now }
         ensures formed { OnOk result (KeepsLines scopes.now self.old self.new (build_of build.now)) }
     {
+        let lent = mem::replace(room, Line::new(alloc));
         let reader = PathReader::new(scopes, &read.edge.block);
-        let paths = reader.line(alloc, &mut self.table, place, build)?;
+        let paths = reader.line(alloc, lent, &mut self.table, place, build)?;
         if self.lines.len() >= MOST_EDGES || self.table.len() > MOST_PATHS {
             return Err(place.too_large(alloc));
         }
         if let Some(line) = read.stop {
             return Err(place.at_line(line).too_large(alloc));
         }
-        self.add_line(alloc, paths, read.edge.rule.is_none())?;
+        *room = self.add_line(alloc, paths, read.edge.rule.is_none())?;
         Ok(())
     }
 
-    /// Keeps the paths of a build statement. An input of a `phony` one that is an output of its own is dropped.
-    fn add_line(&mut self, alloc: Global, line: Line, is_phony: bool) -> Result<(), AllocError>
+    /// Keeps the paths of a build statement. An input of a `phony` one that is an output of its own is dropped. Gives lists back whose room
+    /// is not needed any more.
+    fn add_line(&mut self, alloc: Global, line: Line, is_phony: bool) -> Result<Line, AllocError>
         ensures { OnOk result (self.new ≡ with_line (kept_line is_phony line) self.old) }
     {
         if is_phony {
             let line = without_own(alloc, line)?;
-            self.lines.push(&line)
+            self.lines.push(&line)?;
+            Ok(line)
         } else {
-            self.lines.push(&line)
+            self.lines.push(&line)?;
+            Ok(line)
         }
     }
 }

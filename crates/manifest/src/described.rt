@@ -108,7 +108,8 @@ fn rule_names(alloc: Global, edges: &[ReadEdge]) -> Result<(Table, Vec<PathId>),
     let mut names = Table::new(alloc);
     let mut numbers = Vec::with_capacity(alloc, edges.len())?;
     for edge in edges {
-        let number = names.add(alloc, edge.rule_name.as_str())?;
+        let name = edge.rule_name.to_text(alloc)?;
+        let number = names.add(alloc, name.as_str())?;
         numbers.push(number)?;
     }
     Ok((names, numbers))

@@ -16,6 +16,7 @@ ghost use Rattle.manifest.specs.InNumbers.{IsLonger, IsWithin};
 ghost use Rattle.manifest.specs.States.{Build};
 
 use crate::fault::{FaultKind, ReadError};
+use crate::fronts::Fronts;
 use crate::kept::ReadEdge;
 use crate::made::command_of;
 use crate::place::Place;
@@ -46,6 +47,7 @@ impl ReadEdge {
         table: &mut Table,
         lines: &Lines,
         edge: EdgeId,
+        fronts: &mut Fronts,
         room: &mut String,
     ) -> Result<Action, ReadError>
         requires scope { self.now.scope < vec_len scopes.now.scopes }
@@ -67,7 +69,7 @@ impl ReadEdge {
             };
             self.values(alloc, scopes, marks, pools, rule, plain, room)?
         };
-        Ok(Action::Command(command_of(alloc, table, values)?))
+        Ok(Action::Command(command_of(alloc, table, fronts, values)?))
     }
 
     /// The values of the rule's variables.
@@ -156,7 +158,7 @@ impl ReadEdge {
             UseFault::Memory => Err(ReadError::Memory),
             UseFault::TooLarge => Err(self.place().too_large(alloc)),
             UseFault::Circle => {
-                let kind = FaultKind::Circle(self.rule_name.clone()?);
+                let kind = FaultKind::Circle(self.rule_name.to_text(alloc)?);
                 Err(self.place().fault(alloc, kind))
             }
         }

@@ -18,6 +18,7 @@ ghost use Rattle.manifest.specs.Seen.{IsStated};
 ghost use Rattle.manifest.specs.Statements.{IsAnswerIn};
 
 use crate::fault::{FaultKind, ReadError};
+use crate::fronts::Fronts;
 use crate::kept::{Declared, Named, ReadDefault, ReadEdge};
 use crate::place::Place;
 use indexmap::IndexMap;
@@ -42,7 +43,9 @@ impl Declared {
             pools,
             defaults,
             paths,
+            room,
         } = self;
+        drop(room);
         let Named {
             table: mut paths,
             lines,
@@ -106,12 +109,21 @@ fn expand_all(
 {
     let marks = scope_marks(alloc, scopes)?;
     let mut actions = Items::from_vec(Vec::with_capacity(alloc, read.len())?);
+    let mut fronts = Fronts::new(alloc);
     let mut room = String::new(alloc);
     for edge in read {
         let place = EdgeId::at_below(actions.len());
         let of_scope = marks_at(scopes, marks.as_slice(), edge.scope);
         actions.push(edge.action(
-            alloc, scopes, of_scope, pools, table, lines, place, &mut room,
+            alloc,
+            scopes,
+            of_scope,
+            pools,
+            table,
+            lines,
+            place,
+            &mut fronts,
+            &mut room,
         )?)?;
     }
     Ok(actions)

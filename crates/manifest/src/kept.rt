@@ -1,11 +1,11 @@
 //! What is kept of the statements read so far.
 
 use indexmap::IndexMap;
-use paths::{Lines, Paths};
+use paths::{Line, Lines, Paths};
 use scopes::{Block, Rule, Scopes};
 use std::alloc::{AllocError, Global};
 use std::rc::Rc;
-use text::{Path, Text};
+use text::{Path, SharedText, Text};
 
 /// A build statement. Its rule is expanded when all build files are read.
 #[derive(Drop)]
@@ -15,7 +15,7 @@ pub struct ReadEdge {
     pub line: usize,
     /// The number of the scope in which it stands.
     pub scope: usize,
-    pub rule_name: Text,
+    pub rule_name: SharedText,
     /// None for `phony`.
     pub rule: Option<Rc<Rule>>,
     pub block: Block,
@@ -48,6 +48,8 @@ pub struct Declared {
     pub pools: IndexMap<String, u32>,
     pub defaults: Vec<ReadDefault>,
     pub paths: Named,
+    /// Lists into whose room the next build line is read. What they hold is nothing that counts.
+    pub room: Line,
 }
 
 impl Declared {
@@ -68,6 +70,7 @@ impl Declared {
                 table: Paths::new(alloc),
                 lines: Lines::new(alloc),
             },
+            room: Line::new(alloc),
         })
     }
 }

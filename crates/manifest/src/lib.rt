@@ -9,6 +9,7 @@ mod defaults;
 mod described;
 mod edges;
 mod fault;
+mod fronts;
 mod graph;
 mod kept;
 mod laws;

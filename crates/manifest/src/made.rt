@@ -10,32 +10,38 @@ ghost use Rattle.manifest.specs.InNumbers.{IsLonger, HasNumbers, without_own};
 ghost use Rattle.manifest.specs.PathReading.{text_found};
 
 use crate::fault::ReadError;
+use crate::fronts::Fronts;
 use crate::values::Values;
 use indexmap::IndexSet;
 use lexer::{ReadFault, canonical, is_settled};
 use model::{Act, Deps};
 use paths::{Command, Line, PathId, Paths};
 use std::alloc::{AllocError, Global};
-use text::{Items, Text};
+use text::{Items, SharedText, Text};
 
 /// What an edge with a command does. The dyndep file is put into the table.
-pub fn command_of(alloc: Global, table: &mut Paths, values: Values) -> Result<Command, ReadError>
+pub fn command_of(
+    alloc: Global,
+    table: &mut Paths,
+    fronts: &mut Fronts,
+    values: Values,
+) -> Result<Command, ReadError>
     ensures grows { OnOk result (IsLonger table.old table.new) }
     ensures command { IfOk result (λ command. IsCommandOf table.new values command) }
     ensures dyndep { IfOk result (λ command. stop_of command.dyndep ≤ length table.new) }
     ensures memory { IfErr result (λ error. error ≡ ReadError.Memory) }
 {
-    let depfile = path_or_none(alloc, values.depfile)?;
-    let response_path = path_or_none(alloc, values.rspfile)?;
+    let act = act_of(
+        alloc,
+        fronts,
+        values.command,
+        values.depfile,
+        values.rspfile,
+        values.rspfile_content,
+    )?;
     let dyndep = file_or_none(alloc, table, &values.dyndep)?;
     let deps = deps_of(&values.deps);
     let restat = !values.restat.is_empty();
-    let act = Act {
-        command: values.command,
-        depfile,
-        response_path,
-        response_content: values.rspfile_content,
-    };
     Ok(Command {
         act,
         description: values.description,
@@ -43,6 +49,34 @@ pub fn command_of(alloc: Global, table: &mut Paths, values: Values) -> Result<Co
         restat,
         pool: some_text(values.pool),
         dyndep,
+    })
+}
+
+/// The act of these values. Its command and what its response file holds are kept so that others may share them, and the command
+/// together with those before it that begin as it does.
+fn act_of(
+    alloc: Global,
+    fronts: &mut Fronts,
+    command: Text,
+    depfile: Text,
+    rspfile: Text,
+    content: Text,
+) -> Result<Act, ReadError>
+    ensures command { IfOk result (λ act. act.command ≡ command) }
+    ensures depfile { IfOk result (λ act. IsPathOrNone depfile act.depfile) }
+    ensures response_path { IfOk result (λ act. IsPathOrNone rspfile act.response_path) }
+    ensures content { IfOk result (λ act. act.response_content ≡ content) }
+    ensures memory { IfErr result (λ error. error ≡ ReadError.Memory) }
+{
+    let depfile = path_or_none(alloc, depfile)?;
+    let response_path = path_or_none(alloc, rspfile)?;
+    let command = fronts.share(alloc, command)?;
+    let response_content = SharedText::from_text(alloc, content)?;
+    Ok(Act {
+        command,
+        depfile,
+        response_path,
+        response_content,
     })
 }
 

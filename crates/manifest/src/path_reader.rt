@@ -19,7 +19,7 @@ use crate::place::Place;
 use lexer::{BuildLine, ReadFault, Value, canonical, is_settled};
 use paths::{Line, PathId, Paths};
 use scopes::{Block, ExpandFault, Scopes, as_it_stands, expand};
-use std::alloc::Global;
+use std::alloc::{AllocError, Global};
 use text::{Items, Path};
 
 /// Expands paths, and notes what is wrong with some of them.
@@ -47,10 +47,11 @@ impl<'a> PathReader<'a> {
         }
     }
 
-    /// The paths of a build line, which are put into the table.
+    /// The paths of a build line, which are put into the table. Their numbers are put into the room of these lists.
     pub fn line(
         mut self,
         alloc: Global,
+        room: Line,
         table: &mut Paths,
         place: &Place<'_>,
         build: &BuildLine<'_>,
@@ -60,13 +61,46 @@ impl<'a> PathReader<'a> {
         ensures said { FindsLine self.entry table.new (place_of place.now) (build_of build.now) result }
         ensures added { IfOk result (λ line. AreAdded table.old table.new (numbers_of line)) }
     {
+        let Line {
+            explicit_outputs,
+            implicit_outputs,
+            explicit_inputs,
+            implicit_inputs,
+            order_only_inputs,
+            validations,
+        } = room;
         let line = Line {
-            explicit_outputs: self.numbers(alloc, table, build.explicit_outputs.as_slice())?,
-            implicit_outputs: self.numbers(alloc, table, build.implicit_outputs.as_slice())?,
-            explicit_inputs: self.numbers(alloc, table, build.explicit_inputs.as_slice())?,
-            implicit_inputs: self.numbers(alloc, table, build.implicit_inputs.as_slice())?,
-            order_only_inputs: self.numbers(alloc, table, build.order_only_inputs.as_slice())?,
-            validations: self.numbers(alloc, table, build.validations.as_slice())?,
+            explicit_outputs: self.numbers(
+                alloc,
+                explicit_outputs,
+                table,
+                build.explicit_outputs.as_slice(),
+            )?,
+            implicit_outputs: self.numbers(
+                alloc,
+                implicit_outputs,
+                table,
+                build.implicit_outputs.as_slice(),
+            )?,
+            explicit_inputs: self.numbers(
+                alloc,
+                explicit_inputs,
+                table,
+                build.explicit_inputs.as_slice(),
+            )?,
+            implicit_inputs: self.numbers(
+                alloc,
+                implicit_inputs,
+                table,
+                build.implicit_inputs.as_slice(),
+            )?,
+            order_only_inputs: self.numbers(
+                alloc,
+                order_only_inputs,
+                table,
+                build.order_only_inputs.as_slice(),
+            )?,
+            validations: self.numbers(alloc, validations, table, build.validations.as_slice())?,
         };
         self.check(alloc, place)?;
         Ok(line)
@@ -103,10 +137,11 @@ impl<'a> PathReader<'a> {
         Ok(paths)
     }
 
-    /// The numbers of the canonical paths of these, but for those that are noted as wrong.
+    /// The numbers of the canonical paths of these, but for those that are noted as wrong, in the room of a list.
     fn numbers(
         &mut self,
         alloc: Global,
+        room: Items<PathId>,
         table: &mut Paths,
         values: &[Value<'_>],
     ) -> Result<Items<PathId>, ReadError>
@@ -117,7 +152,7 @@ impl<'a> PathReader<'a> {
         ensures paths { IfOk result (λ numbers. ReadsPaths self.old self.new (paths_of values.now) (texts_at table.new numbers)) }
         ensures memory { IfErr result (λ error. error ≡ ReadError.Memory) }
     {
-        let mut numbers = Items::from_vec(Vec::with_capacity(alloc, values.len())?);
+        let mut numbers = emptied(room, values.len())?;
         for value in values {
             if let Some(number) = self.number(alloc, table, value)? {
                 numbers.push(number)?;
@@ -204,6 +239,16 @@ impl<'a> PathReader<'a> {
             Err(ReadFault::Memory) => Err(ReadError::Memory),
         }
     }
+}
+
+/// A list without items in the room of this one, with room for so many.
+fn emptied(room: Items<PathId>, count: usize) -> Result<Items<PathId>, AllocError>
+    ensures { IfOk result (λ empty. empty ≡ []) }
+{
+    let mut numbers = room.into_vec();
+    numbers.clear();
+    numbers.reserve(count)?;
+    Ok(Items::from_vec(numbers))
 }
 
 /// The characters of a path that is canonical as it stands, as nearly all are.

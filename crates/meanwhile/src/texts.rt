@@ -6,7 +6,7 @@ use manifest::Manifest;
 use model::{Act, BuildGraph, Deps, Edge};
 use paths::{Action, Command, EdgeId, PathId, Paths};
 use std::alloc::{AllocError, Global};
-use text::{Items, Path, Text};
+use text::{Items, Path, SharedText, Text};
 
 /// A copy of the edges that the manifest declares. Pools and defaults are of no account for a clean build.
 pub fn graph_of(alloc: Global, manifest: &Manifest) -> Result<BuildGraph, AllocError> {
@@ -55,10 +55,10 @@ fn nothing(alloc: Global) -> Edge {
         order_only_inputs: Items::new(alloc),
         validations: Items::new(alloc),
         act: Act {
-            command: Text::new(alloc),
+            command: SharedText::new(),
             depfile: Text::new(alloc),
             response_path: Text::new(alloc),
-            response_content: Text::new(alloc),
+            response_content: SharedText::new(),
         },
         description: Text::new(alloc),
         deps: Deps::Unset,

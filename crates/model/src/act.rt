@@ -3,20 +3,20 @@
 ghost use Rattle.std.specs.Prelude.{◌≡◌};
 
 use std::alloc::AllocError;
-use text::Text;
+use text::{SharedText, Text};
 
 /// What an edge does: its command, and the files that go with it. Two acts are the same where all four texts are;
-/// a text that is not set is empty.
+/// a text that is not set is empty. A copy shares the two that may be long.
 #[derive(Debug, PartialEq, Eq, Drop)]
 pub struct Act {
     /// The command line.
-    pub command: Text,
+    pub command: SharedText,
     /// The path of the depfile that the command leaves.
     pub depfile: Text,
     /// The path of the response file that the command is given.
     pub response_path: Text,
     /// What the response file holds.
-    pub response_content: Text,
+    pub response_content: SharedText,
 }
 
 impl Clone for Act {

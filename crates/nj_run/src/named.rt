@@ -1,7 +1,6 @@
 //! Names of commands, for a screen that shows which run.
 
 use paths::{Action, Manifest};
-use status::said_of;
 use std::alloc::{AllocError, Global};
 use terminal::Names;
 
@@ -10,19 +9,27 @@ use terminal::Names;
 pub fn names(alloc: Global, manifest: &Manifest, verbose: bool) -> Result<Names, AllocError> {
     let mut names = Names::new(alloc);
     for action in manifest.actions.as_slice() {
-        names.push(name_of(action, verbose))?;
+        push_name(alloc, &mut names, action, verbose)?;
     }
     Ok(names)
 }
 
-/// What is said of the command of an edge; nothing where it has none.
-fn name_of(action: &Action, verbose: bool) -> &str {
+/// Puts what is said of the command of an edge behind the names; nothing where it has none. A command is copied where it is said itself.
+fn push_name(
+    alloc: Global,
+    names: &mut Names,
+    action: &Action,
+    verbose: bool,
+) -> Result<(), AllocError> {
     match action {
-        Action::Alias => "",
-        Action::Command(command) => said_of(
-            verbose,
-            command.description.as_str(),
-            command.act.command.as_str(),
-        ),
+        Action::Alias => names.push(""),
+        Action::Command(command) => {
+            let description = command.description.as_str();
+            if verbose || description.is_empty() {
+                let line = command.act.command.to_text(alloc)?;
+                return names.push(line.as_str());
+            }
+            names.push(description)
+        }
     }
 }

@@ -177,7 +177,7 @@ fn maker_of(
     manifest: &Manifest,
     log: &DepsLog,
     makers: &[Option<EdgeId>],
-    path: usize,
+    path: u32,
 ) -> Option<usize> {
     let number = manifest.number_of(log.path(path)?)?;
     let maker = (*makers.get(number.index())?)?;

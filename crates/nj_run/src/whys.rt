@@ -7,7 +7,7 @@ use model::Reason;
 use std::alloc::{AllocError, Global};
 use std::io;
 use std::io::Write;
-use text::Text;
+use text::SharedText;
 
 /// Tells of each command that is due, in one line, why it is; where none is, that there is nothing to do. Where a dyndep file is yet to be
 /// loaded, the last line says so. The status is 0.
@@ -107,35 +107,46 @@ fn tell_acts<W: Write>(alloc: Global, acts: &Acts, out: &mut W) -> io::Result<()
     let old = &acts.old;
     let new = &acts.new;
     if old.command != new.command {
-        return tell_texts(alloc, "its command", &old.command, &new.command, out);
+        let what = "its command";
+        return tell_shared(alloc, what, &old.command, &new.command, out);
     }
     if old.depfile != new.depfile {
-        return tell_texts(alloc, "its depfile", &old.depfile, &new.depfile, out);
+        let what = "its depfile";
+        return tell_texts(alloc, what, old.depfile.as_str(), new.depfile.as_str(), out);
     }
     if old.response_path != new.response_path {
         let what = "its response file";
-        return tell_texts(alloc, what, &old.response_path, &new.response_path, out);
+        let old = old.response_path.as_str();
+        return tell_texts(alloc, what, old, new.response_path.as_str(), out);
     }
     let what = "what its response file holds";
-    tell_texts(
-        alloc,
-        what,
-        &old.response_content,
-        &new.response_content,
-        out,
-    )
+    let old = &old.response_content;
+    tell_shared(alloc, what, old, &new.response_content, out)
+}
+
+/// The same of texts that others hold, too.
+fn tell_shared<W: Write>(
+    alloc: Global,
+    what: &str,
+    first: &SharedText,
+    second: &SharedText,
+    out: &mut W,
+) -> io::Result<()> {
+    let first = first.to_text(alloc)?;
+    let second = second.to_text(alloc)?;
+    tell_texts(alloc, what, first.as_str(), second.as_str(), out)
 }
 
 /// Tells which words of the old text became which of the new one.
 fn tell_texts<W: Write>(
     alloc: Global,
     what: &str,
-    first: &Text,
-    second: &Text,
+    first: &str,
+    second: &str,
     out: &mut W,
 ) -> io::Result<()> {
-    let first = words_of(alloc, first.as_str())?;
-    let second = words_of(alloc, second.as_str())?;
+    let first = words_of(alloc, first)?;
+    let second = words_of(alloc, second)?;
     write!(out, "{what} changed")?;
     tell_words(&first, &second, out)
 }

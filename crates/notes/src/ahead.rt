@@ -11,7 +11,7 @@ use std::alloc::{AllocError, Global};
 pub struct Reported {
     pub reader: usize,
     pub maker: usize,
-    pub path: usize,
+    pub path: u32,
 }
 
 /// Those of these reports whose commands were both started, where the maker's had not ended when the reader's was started: it ran then, or

@@ -133,7 +133,8 @@ fn is_later<F: Files>(files: &F, path: &str, written: u64) -> bool {
 
 /// The name of the program that the command runs.
 fn name_of(alloc: Global, command: &Command) -> Result<Option<Text>, AllocError> {
-    match program_name(command.act.command.as_str()) {
+    let line = command.act.command.to_text(alloc)?;
+    match program_name(line.as_str()) {
         Some(name) => Ok(Some(Text::from_str(alloc, name)?)),
         None => Ok(None),
     }

@@ -20,6 +20,13 @@ impl Model for PathId {
     ghost inverse = { λ place. record { place = place } };
 }
 
+/// The first path, where a list that is lent without memory wants something in its places.
+impl Default for PathId {
+    fn default() -> PathId {
+        PathId { place: 0 }
+    }
+}
+
 impl PathId {
     /// The path at this place; none for a place that no number has, from 2 to the 32 on.
     pub fn at(place: usize) -> Option<PathId>

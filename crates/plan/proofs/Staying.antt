@@ -1,5 +1,5 @@
 -- A plan goes on in place: what else waits for is as it was.
-use Rattle.std.proofs.Common.{◌≡◌, ◌⊎◌, inl, inr, ℕ, zero, suc, ◌+◌, ◌<◌, ◌≤◌, ◌==◌, ◌&&◌, not, cond, Bool, true, false, List, [], ◌∷◌, ◌++◌, Option, None, Some, length, take, get_or, count_by, filter, Result, Ok, Err, OnOk, refl, sym, ◌∙◌, ap, subst, arith}
+use Rattle.std.proofs.Common.{◌≡◌, ◌⊎◌, inl, inr, ℕ, zero, suc, ◌+◌, ◌<◌, ◌≤◌, ◌==◌, ◌&&◌, not, cond, Bool, true, false, List, [], ◌∷◌, ◌++◌, Option, None, Some, length, take, drop, get_or, count_by, filter, Result, Ok, Err, OnOk, refl, sym, ◌∙◌, ap, subst, arith}
 use Rattle.std.specs.Option.{is_none}
 use Rattle.std.proofs.Math.ListN.{set}
 use Rattle.std.proofs.lemmas.Bool.{false≢true, false_from_ne_true, cases_Bool, cases_eq, cases_lt, eqb-true, eq-eqb, or_left, or_right, or_cases}
@@ -10,7 +10,7 @@ use Rattle.model.specs.Graph.{has, has_number, edge_at, inputs, maker, Addition}
 use Rattle.model.specs.Reading.{IsInCone}
 use Rattle.model.specs.Schedule.{Task, Step, IsSettled, Done, Alias as ByAlias, done_in, running_in}
 use Rattle.theory.proofs.Growth.{HasGrown, grown_by, cases_named}
-use Rattle.theory.proofs.Lists.{has-left, has-cases, has_number-left, has_number-push, has_number-push_cases}
+use Rattle.theory.proofs.Lists.{has-left, has-cases, has_number-left, has_number-push, has_number-push_cases, has_number-push_other}
 use Rattle.paths.specs.declared.manifest.Action.{Action}
 use Rattle.paths.specs.declared.manifest.Action.TheVariants as action
 use Rattle.paths.specs.Commands.{no_action}
@@ -29,6 +29,7 @@ use Rattle.graph.specs.Linked.{IsConeOf}
 use Rattle.graph.specs.LoadedEdges.{numbers_in}
 use Rattle.graph.specs.Statements.{is_place as is_file}
 use Rattle.graph.specs.Told.{declared_by}
+use Rattle.plan.specs.Coming.{AreAway, IsComing}
 use Rattle.plan.specs.Flags.{has as has_flag, AreNone}
 use Rattle.plan.specs.Turns.{Turns}
 use Rattle.plan.specs.declared.plan.Plan.{Plan}
@@ -39,13 +40,14 @@ use Rattle.plan.specs.Plan.{IsReady, IsOver, IsPooled, is_missing}
 use Rattle.plan.specs.Loads.{IsFirstToName, LoadsBefore, BySource, ByEdge, AreInOrder, AreLoads, IsLoading}
 use Rattle.plan.specs.Planned.{is_grouped, IsPlanOver, IsPlanned, IsTaskOf, AreTaken}
 use Rattle.plan.specs.Extended.{MayGoOn, IsGrownTask, GoesOnFrom}
-use Rattle.plan.specs.Staying.{MayGoOnBy, AreInside, MayBeCounted, AreToCount, AreLongerThere, without, pushed_other, recounted_for, AreRecounted, OnlyCounts}
+use Rattle.plan.specs.Staying.{MayGoOnBy, AreInside, MayBeCounted, AreToCount, AreLongerThere, without, AreOnce, recounted_for, AreRecounted, OnlyCounts}
 use Rattle.plan.proofs.Arriving.{still_more}
 use Rattle.plan.proofs.Beginning.{longer, built}
 use Rattle.plan.proofs.Begun.{has_later}
 use Rattle.plan.proofs.FilesThere.{take_next}
 use Rattle.plan.proofs.Grown.{past_end, all_pooled, pooled_grown, still_in_cone, still_taken}
 use Rattle.plan.proofs.Loaded.{flag_range}
+use Rattle.plan.proofs.Noting.{listed_at}
 
 none_some : {X : Type 0} (x : X) → None ≡ Some x → ⊥
 none_some x is = cc
@@ -86,21 +88,43 @@ longer_all links there flags count paths whole so_far = record {
 
 -- ---- files but for one
 
-pub without_push : (file x : ℕ) (loads : List ℕ) → without file (loads ++ x ∷ []) ≡ pushed_other file (without file loads) x
-without_push file x [] = refl
-without_push file x (f ∷ loads) = by (f == file) (without_push file x loads)
+-- no file goes before itself
+before_itself : (graph : Graph) (file : ℕ) → LoadsBefore graph file file → ⊥
+before_itself graph file (BySource d none made) = none_some d (sym none ∙ made)
+before_itself graph file (ByEdge d e source first again less) = again.first d less first.names
+
+pub once_ordered : (graph : Graph) (files : List ℕ) → AreInOrder graph files → AreOnce files
+once_ordered graph [] ordered = tt
+once_ordered graph (f ∷ files) ordered = (false_from_ne_true (has_number files f) (λ there. before_itself graph f (ordered.0 f there)), once_ordered graph files ordered.1)
+
+pub without_none : (file : ℕ) (files : List ℕ) → has_number files file ≡ false → without file files ≡ files
+without_none file [] none = refl
+without_none file (f ∷ files) none = by (f == file) refl (without_none file files (false_from_ne_true (has_number files file) (λ there. false≢true (sym none ∙ or_right (f == file) (has_number files file) there))))
   where
-    inside : (c : Bool) → f ∷ cond c (without file loads) (without file loads ++ x ∷ []) ≡ cond c (f ∷ without file loads) ((f ∷ without file loads) ++ x ∷ [])
-    inside true = refl
-    inside false = refl
+    by : (b : Bool) → (f == file) ≡ b → without file files ≡ files → cond b (without file files) (f ∷ without file files) ≡ f ∷ files
+    by true same rest = absurd (false≢true (sym none ∙ or_left (f == file) (has_number files file) same))
+    by false other rest = ap (λ (l : List ℕ). f ∷ l) rest
 
-    by : (b : Bool) → without file (loads ++ x ∷ []) ≡ pushed_other file (without file loads) x
-        → cond b (without file (loads ++ x ∷ [])) (f ∷ without file (loads ++ x ∷ [])) ≡ pushed_other file (cond b (without file loads) (f ∷ without file loads)) x
-    by true rest = rest
-    by false rest = ap (λ (l : List ℕ). f ∷ l) rest ∙ inside (x == file)
+pub without_at : (file k : ℕ) (files : List ℕ) → AreOnce files → k < length files → get_or files k 0 ≡ file → without file files ≡ take k files ++ drop (k + 1) files
+without_at file k [] once low is = absurd (omega (arith, low))
+without_at file zero (f ∷ files) once low is = by (f == file) (eq-eqb f file is)
+  where
+    by : (b : Bool) → b ≡ true → cond b (without file files) (f ∷ without file files) ≡ files
+    by true same = without_none file files (subst (λ (n : ℕ). has_number files n ≡ false) is once.0)
+    by false other = absurd (false≢true other)
+without_at file (suc k) (f ∷ files) once low is =
+    let next : suc k + 1 ≡ suc (k + 1) = omega arith in
+    by (f == file) refl (without_at file k files once.1 (omega (arith, low)) is) ∙ ap (λ (n : ℕ). f ∷ (take k files ++ drop n (f ∷ files))) (sym next)
+  where
+    later : has_number files file ≡ true
+    later = subst (λ (n : ℕ). has_number files n ≡ true) is (listed_at files k (omega (arith, low)))
 
-pub without_next : (file x k : ℕ) (loads : List ℕ) → k < length loads → x ≡ get_or loads k 0 → without file (take (k + 1) loads) ≡ pushed_other file (without file (take k loads)) x
-without_next file x k loads low is = ap (without file) (take_next loads k x low is) ∙ without_push file x (take k loads)
+    by : (b : Bool) → (f == file) ≡ b → without file files ≡ take k files ++ drop (k + 1) files → cond b (without file files) (f ∷ without file files) ≡ f ∷ (take k files ++ drop (k + 1) files)
+    by true same rest = absurd (false≢true (sym once.0 ∙ subst (λ (n : ℕ). has_number files n ≡ true) (sym (eqb-true f file same)) later))
+    by false other rest = ap (λ (l : List ℕ). f ∷ l) rest
+
+pub absent_next : (file x k : ℕ) (files : List ℕ) → k < length files → x ≡ get_or files k 0 → (x ≡ file → ⊥) → has_number (take k files) file ≡ false → has_number (take (k + 1) files) file ≡ false
+absent_next file x k files low is other absent = ap (λ (l : List ℕ). has_number l file) (take_next files k x low is) ∙ (has_number-push_other (take k files) x file other ∙ absent)
 
 without_has : (file n : ℕ) (loads : List ℕ) → has_number (without file loads) n ≡ true → (has_number loads n ≡ true) × (n ≡ file → ⊥)
 without_has file n [] there = absurd (false≢true there)
@@ -334,6 +358,32 @@ may_go_on_by before after file additions plan load over some loaded alone = reco
   alone = alone;
 }
 
+-- ---- the files that are still to be loaded
+
+has_without : (file p : ℕ) (loads : List ℕ) → has_number (without file loads) p ≡ true → has_number loads p ≡ true
+has_without file p [] there = there
+has_without file p (f ∷ loads) there = by (f == file) (has_without file p loads) there
+  where
+    by : (b : Bool) → (has_number (without file loads) p ≡ true → has_number loads p ≡ true) → has_number (cond b (without file loads) (f ∷ without file loads)) p ≡ true → has_number (f ∷ loads) p ≡ true
+    by true held rest = or_right (f == p) (has_number loads p) (held rest)
+    by false held rest = elim (or_cases (f == p) (has_number (without file loads) p) rest) [
+      | inl here ↦ or_left (f == p) (has_number loads p) here
+      | inr later ↦ or_right (f == p) (has_number loads p) (held later)
+    ]
+
+-- they are marked as they were
+pub coming_still : FilesStand → (before graph : Graph) (plan : Plan) (load : Before) → MayGoOnBy before graph plan load → (left : List ℕ) (there files : List Bool) (any : Bool) → left ≡ without load.file plan.loads.items → files ≡ plan.coming.files.items
+    → (any ≡ false → AreAway there left) → IsComing left there files any
+coming_still stand before graph plan load may left there files any are same away = record {
+  marked = λ p low has.
+      let was = has_without load.file p plan.loads.items (subst (λ (l : List ℕ). has_number l p ≡ true) are has) in
+      let wanted = may.over.loading.loads_are.named p was in
+      let path = (stand before wanted.edge p wanted.names).1 in
+      let known = may.over.over.known in
+      subst (λ (l : List Bool). has_flag l p ≡ true) (sym same) (plan.come.marked p (omega (arith, path, known)) was);
+  none = away;
+}
+
 -- the edges of the file are edges of the graph
 pub edges_below : FilesStand → (before graph : Graph) (plan : Plan) (load : Before) → MayGoOnBy before graph plan load → (e : ℕ) → has_number (numbers_in load.edges.items) e ≡ true → e < length graph.manifest.lines
 edges_below stand before graph plan load may e there_e =
@@ -374,7 +424,7 @@ module _ (stand : FilesStand) (before graph : Graph) (plan : Plan) (load : Befor
   -- who makes a path that was not there is not settled
   new_unsettled : (q m : ℕ) → length before.manifest.paths ≤ q → (links_of graph).maker q ≡ Some m → is_settled (standing_at stood m) ≡ false
   new_unsettled q m past is = elim (may.alone.makers q m is) [
-    | inl old ↦ absurd (none_some m (sym (past_end before.makers.items q None (let fits = before.making.fits in omega (arith, past, fits))) ∙ old))
+    | inl old ↦ absurd (none_some m (sym (past_end before.makers q None (let fits = before.making.fits in omega (arith, past, fits))) ∙ old))
     | inr there_m ↦ fresh_unsettled (standing_at stood m) (to_count m there_m).fresh
   ]
 

@@ -1,5 +1,5 @@
 -- How a plan goes on in place when a load has changed few edges.
-use Rattle.std.specs.Prelude.{◌≡◌, ◌⊎◌, ℕ, ◌==◌, ◌<◌, ◌≤◌, not, Bool, true, false, if◌then◌else◌, List, [], ◌∷◌, ◌++◌, length, slice_index, slice_set, count_by, is_none}
+use Rattle.std.specs.Prelude.{◌≡◌, ◌⊎◌, ℕ, ◌==◌, ◌<◌, ◌≤◌, not, Bool, true, false, if◌then◌else◌, List, [], ◌∷◌, length, slice_index, slice_set, count_by, is_none}
 use Rattle.model.specs.Graph.{has_number, edge_at, Addition}
 use Rattle.plan.specs.Flags.{has}
 use Rattle.graph.specs.declared.back.Before.{Before}
@@ -66,9 +66,10 @@ abbrev pub without : ℕ → List ℕ → List ℕ
 without file [] = []
 without file (f ∷ files) = if f == file then without file files else f ∷ without file files
 
--- the paths, and behind them this one, if it is not the file
-abbrev pub pushed_other : ℕ → List ℕ → ℕ → List ℕ
-pushed_other file paths p = if p == file then paths else paths ++ p ∷ []
+-- each of these numbers stands there once
+abbrev pub AreOnce : List ℕ → Type 0
+AreOnce [] = Unit {0}
+AreOnce (n ∷ ns) = (has_number ns n ≡ false) × AreOnce ns
 
 -- what is left of edges, where so much is left of this one, if it is a command that was not judged
 abbrev pub counted_for : Standing → List ℕ → ℕ → ℕ → List ℕ
@@ -119,3 +120,8 @@ GoesOnInside graph old new load = (cone : Cone) → AreInside cone.marks.items o
 -- the flags of the paths of the graph, behind those that there were
 abbrev pub AreThereBehind : Graph → List Bool → List Bool → Type 0
 AreThereBehind graph old new = AreLongerThere (links_of graph) (length graph.manifest.paths) old new
+
+-- the same flags, with room for so many
+pub record IsCopyWithRoom (flags : List Bool) (count : ℕ) (copy : List Bool) (places : ℕ) : Type 0 where
+  pub items : copy ≡ flags
+  pub room : count ≤ places

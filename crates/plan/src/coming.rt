@@ -73,6 +73,14 @@ impl Coming {
         self.any
     }
 
+    /// Notes whether one of the files may be there.
+    pub(crate) fn set_any(&mut self, any: bool)
+        ensures files { self.new.files ≡ self.old.files }
+        ensures any { self.new.any ≡ any }
+    {
+        self.any = any;
+    }
+
     /// The path at this place is there.
     pub fn note(&mut self, place: usize)
         ensures files { self.new.files ≡ self.old.files }

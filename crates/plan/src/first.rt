@@ -65,7 +65,7 @@ pub fn is_source(graph: &Graph, place: usize) -> bool
 pub fn maker_of(graph: &Graph, place: usize) -> Option<EdgeId>
     ensures { result ≡ (links_of graph.now).maker place }
 {
-    graph.makers.get(place).copied().flatten()
+    graph.makers.as_slice().get(place).copied().flatten()
 }
 
 /// For each edge of the cone, how many of its inputs and recorded inputs are not there.

@@ -43,7 +43,7 @@ pub fn loads_go_on()
     ensures { LoadsGoOn }
 {}
 
-/// And by `extend_by`, where what undoes the load names the edges that have changed.
+/// And by `extend_by` or `extend_inside`, where what undoes the load names the edges that have changed.
 pub fn loads_go_on_by()
     ensures { LoadsGoOnBy }
 {}

@@ -1,12 +1,12 @@
 //! A plan goes on in place over a graph of which few edges have grown.
 
-ghost use Rattle.std.specs.Prelude.{◌≡◌, ◌⊎◌, ◌<◌, ◌≤◌, ◌==◌, ◌&&◌, true, not, length, slice_set, IfOk, OnOk};
+ghost use Rattle.std.specs.Prelude.{◌≡◌, ◌⊎◌, ◌<◌, ◌≤◌, ◌+◌, ◌==◌, ◌&&◌, ◌++◌, ◌∷◌, [], ℕ, true, not, length, vec_len, vec_capacity, take, drop, slice_set, IfOk, IfSome, IfNone};
 ghost use Rattle.graph.specs.Cone.{is_listed};
 ghost use Rattle.plan.specs.Standing.{is_outside, is_unjudged};
-ghost use Rattle.plan.specs.Staying.{without, pushed_other, AreInside, AreThereBehind};
+ghost use Rattle.plan.specs.Flags.{has};
+ghost use Rattle.plan.specs.Staying.{without, AreOnce, AreInside, AreThereBehind, IsCopyWithRoom};
 
-use crate::coming::{coming_of, is_any_there};
-use crate::extend::grown_flags;
+use crate::coming::is_any_there;
 use crate::first::{is_source, missing_inputs};
 use crate::lowest::Lowest;
 use crate::plan::Plan;
@@ -22,9 +22,8 @@ impl Plan {
     ghost use Rattle.plan.specs.Planned.{IsPlanOver};
     ghost use Rattle.plan.specs.Staying.{MayGoOnBy, GoesOnAfter, GoesOnInside, MayBeCounted, MayCount, AreEdgesIn, AreInside, HasCounted, HasCountedOne, SetsLeft, OnlyCounts};
 
-    /// As `extend`, of the load that this undoes. Where the cone has the edges that it had, and nothing that the edges of the file make is
-    /// there, what else waits for is as it was: then it takes a time of the order of what these edges name, of the files that are still
-    /// to be loaded, and, for one look at each, of the edges and paths.
+    /// As `extend`, of the load that this undoes. Where the cone has the edges that it had, for which each edge is looked at once, it does
+    /// what `extend_inside` does.
     pub fn extend_by(
         &mut self,
         alloc: Global,
@@ -39,25 +38,36 @@ impl Plan {
         ensures planned { OnOk result (GoesOnAfter graph.now cone.now self.old self.new before.now) }
         ensures err { OnErr result (self.new ≡ self.old) }
     {
-        files_stand();
-        if self.stays(graph, cone, &before.edges) {
-            return self.extend_in_place(alloc, graph, before);
+        if are_inside(&cone.marks, &self.standings) {
+            return self.extend_inside(alloc, graph, cone, before);
         }
         self.extend(alloc, graph, cone)
     }
 
-    /// Whether the cone has just the edges that stand in it, and these may be counted by themselves.
-    fn stays(&self, graph: &Graph, cone: &Cone, edges: &[LoadedEdge]) -> bool
-        requires lines { vec_len self.now.standings ≡ length graph.now.manifest.lines }
+    /// As `extend_by`, over a cone that has just the edges that stand in it, as the one that was there before the load. Where nothing that
+    /// the edges of the file make is there, what else waits for is as it was: then it takes a time of the order of what these edges name,
+    /// of the paths that came, and, for one look at each, of the files that are still to be loaded. The flags of paths are copied where
+    /// there is no room for more, and get room for half as many more then.
+    pub fn extend_inside(
+        &mut self,
+        alloc: Global,
+        graph: &Graph,
+        cone: &Cone,
+        before: &Before,
+    ) -> Result<(), AllocError>
         requires marks { vec_len cone.now.marks ≡ length graph.now.manifest.lines }
-        requires within { AreEdgesIn graph.now edges.now }
-        ensures inside { result ≡ true → AreInside cone.now.marks.items self.now.standings.items }
-        ensures counted { result ≡ true → MayCount graph.now self.now edges.now }
+        requires inside { AreInside cone.now.marks.items self.old.standings.items }
+        requires may { (was : GraphOf) × MayGoOnBy was graph.now self.old before.now }
+        ensures over { OnOk result (IsPlanOver graph.now self.new) }
+        ensures flags { OnOk result ((p : ℕ) → has self.new.changed.items p ≡ has self.old.changed.items p) }
+        ensures planned { OnOk result (GoesOnAfter graph.now cone.now self.old self.new before.now) }
+        ensures err { OnErr result (self.new ≡ self.old) }
     {
-        if !are_inside(&cone.marks, &self.standings) {
-            return false;
+        files_stand();
+        if self.may_count_all(graph, &before.edges) {
+            return self.extend_in_place(alloc, graph, before);
         }
-        self.may_count_all(graph, edges)
+        self.extend(alloc, graph, cone)
     }
 
     /// Whether none of these edges was judged, and nothing that they make is there.
@@ -102,14 +112,18 @@ impl Plan {
         ensures err { OnErr result (self.new ≡ self.old) }
     {
         files_stand();
-        let there = longer_there(alloc, graph, &self.there)?;
-        let changed = grown_flags(alloc, &self.changed, graph.paths())?;
-        let loads = loads_without(alloc, &self.loads, before.file)?;
-        let coming = coming_of(alloc, &loads, &there)?;
-        self.there = there;
-        self.changed = changed;
-        self.loads = loads;
-        self.coming = coming;
+        let count = graph.paths();
+        let there = copy_with_room(alloc, &self.there, self.there.capacity(), count)?;
+        let changed = copy_with_room(alloc, &self.changed, self.changed.capacity(), count)?;
+        // nothing is refused from here on
+        take_room(&mut self.there, there, count);
+        take_room(&mut self.changed, changed, count);
+        lengthen_there(graph, &mut self.there);
+        lengthen_flags(&mut self.changed, count);
+        drop_file(&mut self.loads, before.file);
+        let any = is_any_there(&self.loads, &self.there);
+        // which files are marked stays: the one that was loaded is marked as well
+        self.coming.set_any(any);
         self.recount(graph, &before.edges);
         Ok(())
     }
@@ -212,41 +226,109 @@ fn is_fresh(standing: Standing) -> bool
     matches!(standing, Standing::Unjudged | Standing::Outside)
 }
 
-/// These flags, and for each path behind them whether it is a source.
-fn longer_there(alloc: Global, graph: &Graph, there: &[bool]) -> Result<Vec<bool>, AllocError>
-    requires { length there.now ≤ length graph.now.manifest.paths }
-    ensures { IfOk result (λ longer. AreThereBehind graph.now there.now longer.items) }
+/// A copy of the flags with room for so many and half as many more, where they have room for fewer; else no flags, which takes no memory.
+fn copy_with_room(
+    alloc: Global,
+    flags: &[bool],
+    room: usize,
+    count: usize,
+) -> Result<Vec<bool>, AllocError>
+    ensures { IfOk result (λ copy. room < count → IsCopyWithRoom flags.now count copy.items (vec_capacity copy)) }
+{
+    if room >= count {
+        return Ok(Vec::new(alloc));
+    }
+    let mut copy = Vec::with_capacity(alloc, half_more(count))?;
+    copy.extend_from_slice(flags)?;
+    Ok(copy)
+}
+
+/// So many and half as many more, if that is a number.
+fn half_more(count: usize) -> usize
+    ensures { count ≤ result }
+{
+    match count.checked_add(count / 2) {
+        Some(more) => more,
+        None => count,
+    }
+}
+
+/// Takes the copy in the place of the flags, where these have no room for so many.
+fn take_room(flags: &mut Vec<bool>, copy: Vec<bool>, count: usize)
+    requires { vec_capacity flags.old < count → IsCopyWithRoom flags.old.items count copy.items (vec_capacity copy) }
+    ensures items { flags.new.items ≡ flags.old.items }
+    ensures room { count ≤ vec_capacity flags.new }
+{
+    if flags.capacity() >= count {
+        return;
+    }
+    *flags = copy;
+}
+
+/// Puts behind the flags whether each path of the graph that comes there is a source. There is room.
+fn lengthen_there(graph: &Graph, there: &mut Vec<bool>)
+    requires longer { length there.old.items ≤ length graph.now.manifest.paths }
+    requires room { length graph.now.manifest.paths ≤ vec_capacity there.old }
+    ensures { AreThereBehind graph.now there.old.items there.new.items }
 {
     let known = there.len();
     let count = graph.paths();
-    let mut longer = Vec::with_capacity(alloc, count)?;
-    longer.extend_from_slice(there)?;
     for place in known..count {
-        longer.push(is_source(graph, place))?;
+        push_reserved(there, is_source(graph, place));
     }
-    Ok(longer)
 }
 
-/// The files but for this one.
-fn loads_without(alloc: Global, loads: &[PathId], file: PathId) -> Result<Vec<PathId>, AllocError>
-    ensures { IfOk result (λ left. left.items ≡ without file loads.now) }
+/// Puts a flag behind the others, for which there is room.
+fn push_reserved(flags: &mut Vec<bool>, flag: bool)
+    requires { length flags.old.items < vec_capacity flags.old }
+    ensures items { flags.new.items ≡ flags.old.items ++ flag ∷ [] }
+    ensures grows { vec_capacity flags.old ≤ vec_capacity flags.new }
 {
-    let mut left = Vec::with_capacity(alloc, loads.len())?;
-    for load in loads {
-        push_other(&mut left, *load, file)?;
+    match flags.push(flag) {
+        Ok(()) => {}
+        Err(_) => unreachable!(),
     }
-    Ok(left)
 }
 
-/// Puts the path behind the others, if it is not the file.
-fn push_other(left: &mut Vec<PathId>, load: PathId, file: PathId) -> Result<(), AllocError>
-    ensures { OnOk result (left.new.items ≡ pushed_other file left.old.items load) }
+/// False for each place behind the flags up to a count, for which there is room.
+fn lengthen_flags(flags: &mut Vec<bool>, count: usize)
+    requires longer { length flags.old.items ≤ count }
+    requires room { count ≤ vec_capacity flags.old }
+    ensures fits { vec_len flags.new ≡ count }
+    ensures same { (p : ℕ) → has flags.new.items p ≡ has flags.old.items p }
 {
-    if is_path(load, file) {
-        return Ok(());
+    match flags.resize(count, false) {
+        Ok(()) => {}
+        Err(_) => unreachable!(),
     }
-    left.push(load)?;
-    Ok(())
+}
+
+/// Takes the file out of these; those behind it move up.
+fn drop_file(files: &mut Vec<PathId>, file: PathId)
+    requires { AreOnce files.old.items }
+    ensures { files.new.items ≡ without file files.old.items }
+{
+    match place_of(files.as_slice(), file) {
+        Some(place) => {
+            let _ = files.remove(place);
+        }
+        None => {}
+    }
+}
+
+/// Where the file stands among these.
+fn place_of(files: &[PathId], file: PathId) -> Option<usize>
+    requires { AreOnce files.now }
+    ensures within { IfSome result (λ place. place < length files.now) }
+    ensures found { IfSome result (λ place. without file files.now ≡ take place files.now ++ drop (place + 1) files.now) }
+    ensures none { IfNone result (without file files.now ≡ files.now) }
+{
+    for (place, one) in files.iter().enumerate() {
+        if is_path(*one, file) {
+            return Some(place);
+        }
+    }
+    None
 }
 
 fn is_path(path: PathId, other: PathId) -> bool

@@ -28,7 +28,8 @@ use Rattle.theory.specs.Logged.{KeepsBoth, HasNone, HasNew}
 use Rattle.theory.proofs.LoggedCalls.{entry_logged, looks_logged}
 use Rattle.records.specs.declared.file.State.{State}
 use Rattle.records.specs.declared.file.State.TheVariants.{Usable, Stale}
-use Rattle.records.specs.Held.{Held, text_in, IsReadFrom, WasRead, HoldsStill}
+use Rattle.site.specs.Files.{text_in}
+use Rattle.records.specs.Held.{Held, IsReadFrom, WasRead, HoldsStill}
 use Rattle.records.specs.Carried.{IsHeldStill}
 use Rattle.records.specs.Laws.{LogBegins, LogStays, NoneWhileRunning}
 use Rattle.records.proofs.States.{no_log}

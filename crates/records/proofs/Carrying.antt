@@ -25,7 +25,8 @@ use Rattle.theory.proofs.LoggedCalls.{log_elsewhere, log_written_at}
 use Rattle.theory.proofs.Writing.{writes_at, appends_at}
 use Rattle.records.specs.declared.file.State.{State}
 use Rattle.records.specs.declared.file.State.TheVariants.{Usable, Stale}
-use Rattle.records.specs.Held.{Held, text_in, HoldsStill, IsToldBy, behind, TellsMore, IsKeptOrWrittenAnew, MayTellMore}
+use Rattle.site.specs.Files.{text_in}
+use Rattle.records.specs.Held.{Held, HoldsStill, IsToldBy, behind, TellsMore, IsKeptOrWrittenAnew, MayTellMore}
 use Rattle.records.specs.Carried.{WhereKept, IsHeldStill, IsCarriedLog}
 use Rattle.records.proofs.Told.{torn_told}
 

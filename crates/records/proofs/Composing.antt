@@ -6,7 +6,8 @@ use Rattle.log_text.specs.declared.tail.Tail.TheVariants.{Whole, Torn}
 use Rattle.log_text.specs.Form.{Form}
 use Rattle.log_text.specs.Laws.{OneReading}
 use Rattle.log_text.specs.Text.{IsRead}
-use Rattle.records.specs.Held.{text_in, AreRecordsIn, IsToldBy, behind, TellsMore, IsKeptOrWrittenAnew, MayTellMore}
+use Rattle.site.specs.Files.{text_in}
+use Rattle.records.specs.Held.{AreRecordsIn, IsToldBy, behind, TellsMore, IsKeptOrWrittenAnew, MayTellMore}
 
 module _ {R X : Type 0} (forms : Version → Form R) (in_force : List R → List ℕ → Option X) (one : OneReading forms) where
   told_in : (content : Option (List ℕ)) (text : List ℕ) (rs : List R) → content ≡ Some text → IsToldBy forms text rs → AreRecordsIn forms content rs

@@ -4,6 +4,7 @@ use Rattle.std.specs.Prelude.{◌≡◌, ◌↔◌, ◌<◌, ◌≤◌, ◌⊎�
 use Rattle.std.specs.Option.{option_and_then}
 use Rattle.model.specs.World.{World, file_at, content_of}
 use Rattle.model.specs.Calls.{Sees}
+use Rattle.site.specs.Files.{text_in}
 use Rattle.paths.specs.Told.{text_at}
 use Rattle.log_text.specs.declared.form.Version.{Version}
 use Rattle.log_text.specs.declared.form.Version.TheVariants.{Two}
@@ -12,6 +13,8 @@ use Rattle.log_text.specs.Form.{Form}
 use Rattle.log_text.specs.Kept.{WantsCompaction, joined}
 use Rattle.log_text.specs.Keeping.{Keeping}
 use Rattle.log_text.specs.Text.{IsRead, IsLogOf, IsEnded, IsTornOf}
+use Rattle.log_text.specs.declared.pieces.Pieces.{Pieces}
+use Rattle.log_text.specs.Pieces.{ReadsTo}
 use Rattle.records.specs.declared.file.State.{State}
 use Rattle.records.specs.declared.file.State.TheVariants.{Usable, Stale}
 
@@ -20,11 +23,6 @@ pub record Held (T : Type 0) : Type 0 where
   pub path : List ℕ
   pub log : T
   pub state : State
-
--- what a file holds; one that is absent holds nothing
-abbrev pub text_in : Option (List ℕ) → List ℕ
-text_in None = []
-text_in (Some text) = text
 
 -- what a file holds, if it is there
 abbrev pub Content : Type 0
@@ -74,6 +72,18 @@ IsJudged {R} forms Keeps compact held log state =
 -- of whatever records a text tells that ends so
 abbrev pub OfRead : {R : Type 0} → Forms R → List ℕ → Tail → (List R → Type 0) → Type 0
 OfRead {R} forms text tail P = (rs : List R) → IsRead forms text rs tail → P rs
+
+-- it is told right whether a line may be appended to a file with this text, which tells what is kept and ends so
+abbrev pub IsStateBy : {R T : Type 0} → Forms R → Keeping R T → Compacts R → Tail → T → State → List ℕ → Type 0
+IsStateBy forms Keeps compact tail log state text = OfRead forms text tail (λ rs. Keeps rs log → IsStateOf forms compact (Some text) rs state)
+
+-- of each text of which it is told right whether it is empty
+abbrev pub OfText : Bool → (List ℕ → Type 0) → Type 0
+OfText is_empty P = (text : List ℕ) → (IsTrue is_empty ↔ (text ≡ [])) → P text
+
+-- of whatever a file held whose text was read
+abbrev pub OfHeld : {R T : Type 0} → Forms R → Keeping R T → Pieces T → (Content → Type 0) → Type 0
+OfHeld forms Keeps pieces P = (held : Content) → ReadsTo forms Keeps (text_in held) pieces → P held
 
 -- this was read of a file that held this, and tells these records
 pub record IsReadFrom {R T : Type 0} (forms : Version → Form R) (Keeps : List R → T → Type 0) (compaction : List R → List R) (content : Option (List ℕ)) (rs : List R) (file : Held T) : Type 0 where

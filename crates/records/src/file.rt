@@ -1,22 +1,22 @@
 //! The file of a log, and what it told when it was read.
 
-ghost use Rattle.std.specs.Prelude.{◌≡◌, ◌<◌, ◌≤◌, ◌↔◌, ◌^◌, Some, IfOk, OnOk, OnErr, IsFalse, false, string_bytes, length};
+ghost use Rattle.std.specs.Prelude.{◌≡◌, ◌<◌, ◌≤◌, ◌↔◌, ◌^◌, IfOk, OnOk, OnErr, IsFalse, false, string_bytes, length};
 ghost use Rattle.model.specs.Calls.{OnlyLooks, HasCause};
 ghost use Rattle.paths.specs.Told.{text_at};
 ghost use Rattle.log_text.specs.Keeping.{OfKept, at_number};
+ghost use Rattle.log_text.specs.Pieces.{ReadsSome};
 ghost use Rattle.theory.specs.Writes.{WritesAt};
 ghost use Rattle.records.specs.Edges.{paths_in};
-ghost use Rattle.records.specs.Held.{text_in, WasReadSo, ArePlaces, AreMadeBehind, StaysWithin, Fills, GrowsTo, IsLonger, IsSameLog, IsKeptOrWrittenAnew, MayTellMore, IsJudged, OfRead, IsStateOf};
+ghost use Rattle.records.specs.Held.{WasReadSo, ArePlaces, AreMadeBehind, StaysWithin, Fills, GrowsTo, IsLonger, IsSameLog, IsKeptOrWrittenAnew, MayTellMore, IsJudged, OfHeld, OfText, IsStateBy};
 ghost use Rattle.records.specs.Carried.{CarriesOn, CarriesLine, ChangesSo, PutsSo, TellsAlso};
 
 use graph::Graph;
-use log_text::{Records, Tail, front_of_lines, line_grows_log, one_reading};
+use log_text::{Pieces, Records, Stock, Tail, front_of_lines, line_grows_log, one_reading};
 use model::SiteFault;
 use paths::PathId;
 use site::Site;
 use std::alloc::{AllocError, Global};
 use std::marker::Model;
-use text::Bytes;
 
 /// What may be done with the file of a log.
 #[derive(Clone, Copy, Debug, PartialEq, Eq)]
@@ -46,9 +46,10 @@ impl<L> Model for LogFile<L> {
 }
 
 impl<L: Records> LogFile<L> {
-    /// Reads the log. It only looks; a text that is torn, damaged or of version 1 is no fault.
+    /// Reads the log, piece by piece, with what may be taken over from the stock. It only looks; a text that is torn, damaged or of version 1
+    /// is no fault.
     pub(crate) fn read<S: Site>(
-        alloc: Global,
+        stock: &Stock<'_>,
         site: &mut S,
         path: String,
     ) -> Result<LogFile<L>, SiteFault>
@@ -58,8 +59,9 @@ impl<L: Records> LogFile<L> {
         ensures path { IfOk result (λ file. file.path ≡ string_bytes path) }
         ensures read { IfOk result (WasReadSo L.forms L.Keeps L.compaction S.tells (S.world site.old) (S.world site.new)) }
     {
-        let content = site.read(path.as_str())?;
-        let (log, state) = log_of::<L>(alloc, &content)?;
+        let mut pieces = Pieces::<L>::new(*stock);
+        site.read_into(path.as_str(), &mut pieces)?;
+        let (log, state) = log_of::<L>(pieces);
         Ok(LogFile { path, log, state })
     }
 
@@ -186,32 +188,23 @@ impl<L: Records> LogFile<L> {
     }
 }
 
-/// What the content of the file tells, and what may be done with it. One that is absent is as one that is empty.
-fn log_of<L: Records>(alloc: Global, content: &Option<Bytes>) -> Result<(L, State), AllocError>
-    ensures { IfOk result (λ log. IsJudged L.forms L.Keeps L.compaction content.now log.0 log.1) }
+/// What the text that was read tells, and what may be done with its file. One that is absent is as one that is empty.
+fn log_of<L: Records>(pieces: Pieces<'_, L>) -> (L, State)
+    requires { ReadsSome L.forms L.Keeps pieces }
+    ensures { OfHeld L.forms L.Keeps pieces.entry (λ held. IsJudged L.forms L.Keeps L.compaction held result.0 result.1) }
 {
-    let text = bytes_in(content);
-    let (log, tail) = log_text::parse::<L>(alloc, text)?;
-    let state = state_of::<L>(text, &log, tail);
-    Ok((log, state))
+    let is_empty = pieces.is_empty();
+    let (log, tail) = pieces.finish();
+    let state = state_of::<L>(is_empty, &log, tail);
+    (log, state)
 }
 
-/// What the file holds; one that is absent holds nothing.
-fn bytes_in(content: &Option<Bytes>) -> &[u8]
-    ensures { result.now ≡ text_in content.now }
-{
-    match content {
-        Some(bytes) => bytes.as_slice(),
-        None => &[],
-    }
-}
-
-/// What may be done with a file that holds the text, which tells the log and ends so.
-fn state_of<L: Records>(text: &[u8], log: &L, tail: Tail) -> State
-    ensures { OfRead L.forms text.now tail (λ rs. L.Keeps rs log.now → IsStateOf L.forms L.compaction (Some text.now) rs result) }
+/// What may be done with a file whose text tells the log and ends so. It is handed in whether the text is empty.
+fn state_of<L: Records>(is_empty: bool, log: &L, tail: Tail) -> State
+    ensures { OfText is_empty (IsStateBy L.forms L.Keeps L.compaction tail log.now result) }
 {
     one_reading::<L>();
-    if text.is_empty() || is_other(tail) || log.wants_compaction() {
+    if is_empty || is_other(tail) || log.wants_compaction() {
         State::Stale
     } else {
         State::Usable

@@ -5,9 +5,9 @@ ghost use Rattle.model.specs.Calls.{OnlyLooks, HasCause};
 ghost use Rattle.records.specs.Laws.{WereReadSo};
 
 use crate::file::LogFile;
+use log_text::Stock;
 use model::{Record, SiteFault};
 use site::Site;
-use std::alloc::Global;
 
 /// The files of both logs.
 #[derive(Drop)]
@@ -17,9 +17,9 @@ pub struct Logs {
 }
 
 impl Logs {
-    /// Reads the logs at these paths, that of the build first. It only looks.
+    /// Reads the logs at these paths, that of the build first, with what may be taken over from the stock. It only looks.
     pub(crate) fn read<S: Site>(
-        alloc: Global,
+        stock: &Stock<'_>,
         site: &mut S,
         build_log: String,
         deps_log: String,
@@ -31,8 +31,8 @@ impl Logs {
         ensures deps_log { IfOk result (λ logs. logs.deps_log.path ≡ string_bytes deps_log) }
         ensures read { IfOk result (WereReadSo S.tells (S.world site.old) (S.world site.new)) }
     {
-        let build_log = LogFile::read(alloc, site, build_log)?;
-        let deps_log = LogFile::read(alloc, site, deps_log)?;
+        let build_log = LogFile::read(stock, site, build_log)?;
+        let deps_log = LogFile::read(stock, site, deps_log)?;
         Ok(Logs {
             build_log,
             deps_log,

@@ -15,7 +15,7 @@ ghost use Rattle.records.specs.Logging.{AreSameLogs};
 use crate::lines::{begun_line_of, deps_line_of, done_line_of};
 use crate::logs::Logs;
 use graph::{Graph, lists_stand};
-use log_text::{Deps, Done};
+use log_text::{Deps, Done, Stock};
 use model::{Record, SiteFault};
 use paths::{EdgeId, PathId};
 use site::Site;
@@ -37,7 +37,7 @@ pub struct Records {
 
 impl Records {
     /// Reads the logs at these paths. It only looks. An absent or empty log has no records, and neither has a damaged one, which
-    /// is no fault; a torn one loses its last line alone.
+    /// is no fault; a torn one loses its last line alone. What the graph's edges do and a record tells stands in memory once.
     pub fn read<S: Site>(
         alloc: Global,
         site: &mut S,
@@ -52,7 +52,8 @@ impl Records {
         ensures deps_log { IfOk result (λ records. records.logs.deps_log.path ≡ string_bytes deps_log) }
         ensures read { IfOk result (AreRead S.tells (S.world site.old) (S.world site.new) (paths_in graph.now)) }
     {
-        let logs = Logs::read(alloc, site, build_log, deps_log)?;
+        let stock = stock_of(alloc, graph);
+        let logs = Logs::read(&stock, site, build_log, deps_log)?;
         let places = logs.build_log.places(alloc, graph)?;
         let deps_places = logs.deps_log.places(alloc, graph)?;
         Ok(Records {
@@ -128,7 +129,7 @@ impl Records {
     }
 
     /// The text of a path that a deps record names by this number. It takes no memory.
-    pub fn deps_path(&self, number: usize) -> Option<&str>
+    pub fn deps_path(&self, number: u32) -> Option<&str>
         ensures { option_map (λ path. path.now) result ≡ slice_get self.now.logs.deps_log.log.outputs number }
     {
         self.logs.deps_log.log().path(number)
@@ -226,4 +227,13 @@ impl Records {
             .append(alloc, site, self.line.as_slice())?;
         Ok(())
     }
+}
+
+/// Memory, and what the edges of the graph do, by what they make.
+fn stock_of(alloc: Global, graph: &Graph) -> Stock<'_> {
+    let manifest = &graph.manifest;
+    let paths = &manifest.paths;
+    let makers = &graph.makers;
+    let actions = &manifest.actions;
+    Stock::with_acts(alloc, paths, makers.as_slice(), actions.as_slice())
 }

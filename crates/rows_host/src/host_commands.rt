@@ -11,15 +11,15 @@ use std::alloc::{AllocError, Global};
 use std::fs;
 use std::io::Write;
 use tables::{push_word, word};
-use text::Text;
+use text::{SharedText, Text};
 
 /// An act with this command.
 fn act(alloc: Global, command: &str) -> Result<Act, AllocError> {
     Ok(Act {
-        command: Text::from_str(alloc, command)?,
+        command: SharedText::from_str(alloc, command)?,
         depfile: Text::new(alloc),
         response_path: Text::new(alloc),
-        response_content: Text::new(alloc),
+        response_content: SharedText::new(),
     })
 }
 

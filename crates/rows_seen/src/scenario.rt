@@ -216,7 +216,7 @@ fn last_line(lines: &str) -> (&str, &str) {
 fn push_started(alloc: Global, events: &[Event], told: &mut Vec<u8>) -> io::Result<()> {
     let mut started = String::new(alloc);
     for event in events {
-        push_output(event, &mut started)?;
+        push_output(alloc, event, &mut started)?;
     }
     if started.is_empty() {
         return told.write_all(b"nothing");
@@ -225,9 +225,12 @@ fn push_started(alloc: Global, events: &[Event], told: &mut Vec<u8>) -> io::Resu
 }
 
 /// The first output of the command, if one is started.
-fn push_output(event: &Event, started: &mut String) -> Result<(), AllocError> {
+fn push_output(alloc: Global, event: &Event, started: &mut String) -> Result<(), AllocError> {
     match event {
-        Event::Start { act, .. } => push_word(started, second_word(act.command.as_str())),
+        Event::Start { act, .. } => {
+            let command = act.command.to_text(alloc)?;
+            push_word(started, second_word(command.as_str()))
+        }
         Event::Finish { .. } => Ok(()),
     }
 }

@@ -14,7 +14,7 @@ pub fn push_declared(
     told: &mut String,
 ) -> Result<(), AllocError> {
     for place in 0..manifest.lines.len() {
-        push_edge(manifest, manifest.edge(place), told)?;
+        push_edge(alloc, manifest, manifest.edge(place), told)?;
     }
     push_pools(alloc, manifest, told)?;
     push_defaults(manifest, told)?;
@@ -51,14 +51,19 @@ fn push_named(told: &mut String, name: &str, text: &str) -> Result<(), AllocErro
 }
 
 /// `outputs | implicit outputs : inputs | implicit inputs || order-only inputs |@ validations {command}` and what else is set.
-fn push_edge(manifest: &Manifest, edge: EdgeId, told: &mut String) -> Result<(), AllocError>
+fn push_edge(
+    alloc: Global,
+    manifest: &Manifest,
+    edge: EdgeId,
+    told: &mut String,
+) -> Result<(), AllocError>
     requires { edge < length manifest.now.lines }
 {
     push_lists(manifest, edge, told)?;
     match manifest.action(edge) {
         Action::Alias => push_word(told, "phony")?,
         Action::Command(command) => {
-            push_act(told, &command.act)?;
+            push_act(alloc, told, &command.act)?;
             push_settings(manifest, command, told)?;
         }
     }
@@ -92,13 +97,14 @@ fn push_paths(
     Ok(())
 }
 
-fn push_act(told: &mut String, act: &Act) -> Result<(), AllocError> {
+fn push_act(alloc: Global, told: &mut String, act: &Act) -> Result<(), AllocError> {
     push_word(told, "{")?;
-    told.push_str(act.command.as_str())?;
+    act.command.push_to(told)?;
     told.push('}')?;
     push_set(told, "depfile=", act.depfile.as_str())?;
     push_set(told, "rspfile=", act.response_path.as_str())?;
-    push_set(told, "content=", act.response_content.as_str())
+    let content = act.response_content.to_text(alloc)?;
+    push_set(told, "content=", content.as_str())
 }
 
 fn push_settings(

@@ -10,7 +10,7 @@ use judge::{Facts, Inputs, OutputFacts, Outputs, judge};
 use log_text::{Done, number_of};
 use model::{Act, Deps, Reason};
 use std::alloc::{AllocError, Global};
-use text::Text;
+use text::{SharedText, Text};
 
 /// `judge`: why the command of the row is out of date, or that it is clean.
 pub fn push_judgement(alloc: Global, row: &str, answer: &mut String) -> Result<(), AllocError> {
@@ -37,10 +37,10 @@ fn values<'a>(alloc: Global, row: &'a str, key: &str) -> Result<Vec<&'a str>, Al
 
 fn act(alloc: Global, command: &str, depfile: &str, content: &str) -> Result<Act, AllocError> {
     Ok(Act {
-        command: Text::from_str(alloc, command)?,
+        command: SharedText::from_str(alloc, command)?,
         depfile: Text::from_str(alloc, depfile)?,
         response_path: Text::from_str(alloc, "o.rsp")?,
-        response_content: Text::from_str(alloc, content)?,
+        response_content: SharedText::from_str(alloc, content)?,
     })
 }
 

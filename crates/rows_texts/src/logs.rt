@@ -7,7 +7,7 @@ use log_text::{BuildLog, Deps, Done, Records, Tail, done_line, number_of};
 use model::{Act, Record};
 use std::alloc::{AllocError, Global};
 use tables::push_word;
-use text::{Items, Path, Text};
+use text::{Items, Path, SharedText, Text};
 
 /// What the text of a log tells: how it ends, how many records there are and are in force, and what is left where it is
 /// compacted.
@@ -132,7 +132,8 @@ fn push_done(alloc: Global, done: Option<&Done>, answer: &mut String) -> Result<
         return push_word(answer, "nothing");
     };
     push_word(answer, format!(in alloc; "{}", done.start)?.as_str())?;
-    push_word(answer, done.act.command.as_str())
+    let command = done.act.command.to_text(alloc)?;
+    push_word(answer, command.as_str())
 }
 
 fn push_deps(
@@ -214,10 +215,10 @@ fn outputs(alloc: Global, output: &str) -> Result<Items<Path>, AllocError>
 
 fn act(alloc: Global, command: &str) -> Result<Act, AllocError> {
     Ok(Act {
-        command: Text::from_str(alloc, command)?,
+        command: SharedText::from_str(alloc, command)?,
         depfile: Text::new(alloc),
         response_path: Text::new(alloc),
-        response_content: Text::new(alloc),
+        response_content: SharedText::new(),
     })
 }
 

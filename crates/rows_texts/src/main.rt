@@ -23,6 +23,7 @@ mod files;
 mod judgements;
 mod limits;
 mod logs;
+mod pieces;
 mod said;
 mod shown;
 mod sweeps;

@@ -3,6 +3,7 @@
 use crate::asked::{Asked, Kind};
 use crate::files;
 use crate::logs::Told;
+use crate::pieces::is_other;
 use lexer::{FaultKind, Line, Statements, statements};
 use log_text::Tail;
 use std::alloc::{AllocError, Global};
@@ -95,14 +96,15 @@ pub fn push_beginnings(
 }
 
 /// How many beginnings of the text there are, and how many of them tell something else than the records of their whole lines,
-/// where one that ends with a line feed ends as the text does, and each other one is torn.
+/// where one that ends with a line feed ends as the text does, and each other one is torn; or behind how many of them the rest of the text
+/// comes as a second piece and another log is told than that of the whole text.
 fn push_log_beginnings(
     alloc: Global,
     kind: Kind,
     text: &[u8],
     told: &mut String,
 ) -> Result<(), AllocError> {
-    let ended = Told::of(alloc, kind, text)?.tail;
+    let whole = Told::of(alloc, kind, text)?;
     let (mut lines, mut wrong) = (0_u64, 0_u32);
     for length in 1..=text.len() {
         let is_line = text[..length].ends_with(b"\n");
@@ -110,8 +112,11 @@ fn push_log_beginnings(
             lines = lines.saturating_add(1);
         }
         let front = Told::of(alloc, kind, &text[..length])?;
-        let tail = if is_line { ended } else { Tail::Torn };
+        let tail = if is_line { whole.tail } else { Tail::Torn };
         if front.tail != tail || front.records != lines.saturating_sub(1) {
+            wrong = wrong.saturating_add(1);
+        }
+        if is_other(alloc, kind, &whole, &text[..length], &text[length..])? {
             wrong = wrong.saturating_add(1);
         }
     }

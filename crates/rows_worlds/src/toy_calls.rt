@@ -171,7 +171,8 @@ fn push_events(alloc: Global, events: &[Event], told: &mut String) -> Result<(),
 fn push_event(alloc: Global, event: &Event, told: &mut String) -> Result<(), AllocError> {
     let event = match event {
         Event::Start { job, act, stamp } => {
-            format!(in alloc; "start {job} at {stamp}: {};", act.command.as_str())?
+            let command = act.command.to_text(alloc)?;
+            format!(in alloc; "start {job} at {stamp}: {};", command.as_str())?
         }
         Event::Finish { job, ok } => format!(in alloc; "end {job} {ok};")?,
     };

@@ -8,7 +8,7 @@ use model::Act;
 use sim::{Sim, Toy};
 use site::{Site, SiteFault};
 use std::alloc::Global;
-use text::Text;
+use text::{SharedText, Text};
 
 /// Runs a command with a response content as job 1, and tells whether it ended well.
 pub fn run(
@@ -30,10 +30,10 @@ fn run_with(
     requires { IsIdle (world_of sim.old).events }
 {
     let act = Act {
-        command: Text::from_str(alloc, command)?,
+        command: SharedText::from_str(alloc, command)?,
         depfile: Text::new(alloc),
         response_path: Text::new(alloc),
-        response_content: Text::from_str(alloc, response)?,
+        response_content: SharedText::from_str(alloc, response)?,
     };
     sim.start(1, &act, false)?;
     Ok(sim.wait_any()?.ok)

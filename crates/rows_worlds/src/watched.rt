@@ -132,11 +132,10 @@ impl Site for Watched {
     }
 
     fn start(&mut self, job: usize, act: &Act, console: bool) -> Result<(), SiteFault> {
-        self.note(
-            "start",
-            act.command.as_str(),
-            act.depfile.as_str().as_bytes(),
-        );
+        match act.command.to_text(self.alloc) {
+            Ok(command) => self.note("start", command.as_str(), act.depfile.as_str().as_bytes()),
+            Err(_) => self.lost = true,
+        }
         self.site.start(job, act, console)
     }
 

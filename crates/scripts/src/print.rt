@@ -6,7 +6,7 @@ use model::Event;
 use site::SiteFault;
 use std::alloc::Global;
 use std::io::{self, Write};
-use text::{Bytes, Text};
+use text::Bytes;
 
 /// Prints a line for each event. The line of an end has the command of its job's start.
 pub fn print_events<W: Write>(alloc: Global, writer: &mut W, events: &[Event]) -> io::Result<()> {
@@ -15,13 +15,14 @@ pub fn print_events<W: Write>(alloc: Global, writer: &mut W, events: &[Event]) -
         match event {
             Event::Start { job, act, .. } => {
                 commands.insert(*job, &act.command)?;
-                let command = &act.command;
-                writeln!(writer, "start {command}")?;
+                let (front, rest) = act.command.parts();
+                writeln!(writer, "start {front}{rest}")?;
             }
             Event::Finish { job, ok } => {
                 if let Some(command) = commands.get(job) {
+                    let (front, rest) = command.parts();
                     let word = if *ok { "end" } else { "fail" };
-                    writeln!(writer, "{word} {command}")?;
+                    writeln!(writer, "{word} {front}{rest}")?;
                 }
             }
         }

@@ -2,6 +2,7 @@
 use Rattle.std.specs.Prelude.{ℕ, Bool, List, Option}
 use Rattle.model.specs.World.{World, content_of, file_at, stamp_of}
 use Rattle.model.specs.Calls.{Appends, AppendsOrNot, Sees}
+use Rattle.site.specs.Files.{TookFile}
 use Rattle.seen.specs.declared.answer.Looked.{Looked}
 use Rattle.seen.specs.Begun.{Begun, told_world}
 
@@ -12,6 +13,10 @@ SeesCounted tells b path old new looked = Sees (λ history. stamp_of (file_at hi
 -- and this content
 abbrev pub SeesContent : Bool → Begun → List ℕ → World → World → Option (List ℕ) → Type 0
 SeesContent tells b path old new content = Sees (λ history. content_of (file_at history path)) content (told_world tells b old).history (told_world tells b new).history
+
+-- whoever had taken nothing has taken such a content, and no more
+abbrev pub TakesTold : {T : Type 0} → (List ℕ → T → Type 0) → Bool → Begun → List ℕ → T × World → T × World → Type 0
+TakesTold Took tells b path old new = TookFile Took tells path (old.0, told_world tells b old.1) (new.0, told_world tells b new.1)
 
 -- the bytes went behind the file at the path,
 abbrev pub AppendsTold : Bool → Begun → List ℕ → List ℕ → World → World → Type 0

@@ -30,11 +30,11 @@ use seen_true::{
     absence_notes, calls_note, calls_stand, enters_noted, found_in_call, lines_note, none_in_call,
     note_calls_note,
 };
-use site::{Site, SiteFault, Texts};
+use site::{Site, SiteFault, Texts, hand_over};
 use std::alloc::{AllocError, Global};
 use std::marker::PhantomData;
 use std::mem::forget;
-use text::Bytes;
+use text::{Bytes, Takes};
 
 /// A site that answers by what counts: by what was noted of each path when the build began, by what its commands make, and by which of them
 /// were started since.
@@ -87,7 +87,7 @@ impl<S: Measured, B: Beginning> Retold<S, B> {
     ghost use Rattle.seen.specs.Entering.{EntersSince, IsUnbegun};
     ghost use Rattle.seen.specs.Looking.{KnowsSame, looked_by};
     ghost use Rattle.seen.specs.Own.{is_own};
-    ghost use Rattle.seen.specs.ToldCalls.{SeesContent, SeesCounted};
+    ghost use Rattle.seen.specs.ToldCalls.{SeesContent, SeesCounted, TakesTold};
 
     /// The site over this one, for one build, by what is known when it begins, and with the text that takes the place of the notes before a line is put
     /// behind them, where one is to.
@@ -391,6 +391,35 @@ impl<S: Measured, B: Beginning> Retold<S, B> {
         self.site.read(path)
     }
 
+    /// Hands what one of the program's own files holds to the taker.
+    fn read_own_into<T: Takes>(&mut self, path: &str, taker: &mut T) -> Result<(), SiteFault>
+        requires { is_own self.old.known.own path.now ≡ true }
+        ensures looks { OnlyLooks S.tells (told_world S.tells B.begun (S.world self.old.site)) (told_world S.tells B.begun (S.world self.new.site)) }
+        ensures cause { HasCause (told_world S.tells B.begun (S.world self.old.site)) (told_world S.tells B.begun (S.world self.new.site)) result }
+        ensures waits { KeepsWait (told_world S.tells B.begun (S.world self.old.site)) (told_world S.tells B.begun (S.world self.new.site)) }
+        ensures content { OnOk result (TakesTold T.Took S.tells B.begun path.now (taker.old, S.world self.old.site) (taker.new, S.world self.new.site)) }
+        ensures one { self.new.is_for_one ≡ self.old.is_for_one }
+    {
+        looks_are_told();
+        answers_are_told();
+        calls_note();
+        calls_stand();
+        self.site.read_into(path, taker)
+    }
+
+    /// Hands what any other file holds to the taker, where it counts.
+    fn read_counted_into<T: Takes>(&mut self, path: &str, taker: &mut T) -> Result<(), SiteFault>
+        ensures looks { OnlyLooks S.tells (told_world S.tells B.begun (S.world self.old.site)) (told_world S.tells B.begun (S.world self.new.site)) }
+        ensures cause { HasCause (told_world S.tells B.begun (S.world self.old.site)) (told_world S.tells B.begun (S.world self.new.site)) result }
+        ensures waits { KeepsWait (told_world S.tells B.begun (S.world self.old.site)) (told_world S.tells B.begun (S.world self.new.site)) }
+        ensures content { OnOk result (TakesTold T.Took S.tells B.begun path.now (taker.old, S.world self.old.site) (taker.new, S.world self.new.site)) }
+        ensures one { self.new.is_for_one ≡ self.old.is_for_one }
+    {
+        let content = self.read_counted(path)?;
+        hand_over(&content, taker)?;
+        Ok(())
+    }
+
     /// What any other file holds, where it counts.
     fn read_counted(&mut self, path: &str) -> Result<Option<Bytes>, SiteFault>
         ensures looks { OnlyLooks S.tells (told_world S.tells B.begun (S.world self.old.site)) (told_world S.tells B.begun (S.world self.new.site)) }
@@ -449,6 +478,14 @@ impl<S: Measured, B: Beginning> Texts for Retold<S, B> {
             self.read_own(path)
         } else {
             self.read_counted(path)
+        }
+    }
+
+    fn read_into<T: Takes>(&mut self, path: &str, taker: &mut T) -> Result<(), SiteFault> {
+        if self.known.own.has(path) {
+            self.read_own_into(path, taker)
+        } else {
+            self.read_counted_into(path, taker)
         }
     }
 

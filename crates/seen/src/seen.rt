@@ -22,7 +22,7 @@ use model::{Act, Event, Finished};
 use paths::Manifest;
 use site::{Site, SiteFault, Texts};
 use std::alloc::Global;
-use text::{Bytes, cut};
+use text::{Bytes, Takes, cut};
 
 /// A site over a site. Calls go through to it; what `stat` and `read` answer is by what counts (`Retold`), and what is seen is noted in
 /// `.nj_seen`, a file beside the build log.
@@ -272,6 +272,17 @@ impl<S: Measured, B: Beginning> Texts for Seen<S, B> {
             self.begin(path)?;
         }
         Ok(content)
+    }
+
+    fn read_into<T: Takes>(&mut self, path: &str, taker: &mut T) -> Result<(), SiteFault> {
+        if self.lost {
+            return Err(self.retold.refuse_read());
+        }
+        self.retold.read_into(path, taker)?;
+        if is_build_log(path) && !self.retold.is_for_one {
+            self.begin(path)?;
+        }
+        Ok(())
     }
 
     fn failures(&self) -> u64 {

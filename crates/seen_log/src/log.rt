@@ -13,7 +13,7 @@ use crate::record::{last_of, line_in, note_line, plain_by, said_by};
 use crate::room::arena;
 use bumpalo::Bump;
 use indexmap::IndexMap;
-use log_text::{Field, Records, Tail, Version, fields, parts_are_decided};
+use log_text::{Field, Records, Stock, Tail, Version, fields, parts_are_decided};
 use std::alloc::{AllocError, Global};
 use std::str::from_utf8;
 use text::cut;
@@ -71,27 +71,27 @@ impl Records for Log {
 
     fn put_fields(
         &mut self,
-        alloc: Global,
+        stock: &Stock<'_>,
         _version: Version,
         fields: &[Field<'_>],
     ) -> Result<bool, AllocError> {
         let Some((path, noted)) = said_by(fields) else {
             return Ok(false);
         };
-        self.note(alloc, path, noted)?;
+        self.note(stock.alloc, path, noted)?;
         Ok(true)
     }
 
     fn put_plain(
         &mut self,
-        alloc: Global,
+        stock: &Stock<'_>,
         _version: Version,
         line: &[u8],
     ) -> Result<bool, AllocError> {
         let Some((path, noted)) = plain_by(line) else {
             return Ok(false);
         };
-        self.note(alloc, path, noted)?;
+        self.note(stock.alloc, path, noted)?;
         Ok(true)
     }
 

@@ -47,7 +47,8 @@ impl Commands for Toy {
     ghost reads_alone = { toy_reads_alone };
 
     fn run(&self, alloc: Global, act: &Act, history: &History) -> Result<Outcome, AllocError> {
-        let words = words_of(alloc, act.command.as_str())?;
+        let command = act.command.to_text(alloc)?;
+        let words = words_of(alloc, command.as_str())?;
         match words.as_slice() {
             [kind, out, words @ ..] => give(alloc, kind_of(kind), act, out, words, history),
             _ => Ok(fails(alloc)),
@@ -91,7 +92,10 @@ fn give(
         Some(Kind::Keep) => gather(alloc, out, words, true, history),
         Some(Kind::Both) => double(alloc, out, words, history),
         Some(Kind::Scan) => scan(alloc, out, words, history),
-        Some(Kind::Args) => reply(alloc, out, act.response_content.as_str()),
+        Some(Kind::Args) => {
+            let content = act.response_content.to_text(alloc)?;
+            reply(alloc, out, content.as_str())
+        }
         Some(Kind::Fail) => halve(alloc, out, words, history),
         None => Ok(fails(alloc)),
     }

@@ -6,4 +6,4 @@ mod texts;
 
 pub use model::{Event, Finished, Moment, SiteFault, Writer};
 pub use site::Site;
-pub use texts::Texts;
+pub use texts::{Texts, hand_over};

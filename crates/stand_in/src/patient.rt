@@ -15,7 +15,7 @@ use std::alloc::Global;
 use std::io::Write;
 use std::time::Duration;
 use std::{io, str, thread};
-use text::Bytes;
+use text::{Bytes, Takes};
 
 /// How long it is waited between two looks, in thousandths of a second.
 const REST: u64 = 50;
@@ -90,6 +90,10 @@ impl<'a, W: Write + Drop> Texts for Patient<'a, W> {
 
     fn read(&mut self, path: &str) -> Result<Option<Bytes>, SiteFault> {
         self.site.read(path)
+    }
+
+    fn read_into<T: Takes>(&mut self, path: &str, taker: &mut T) -> Result<(), SiteFault> {
+        self.site.read_into(path, taker)
     }
 
     fn failures(&self) -> u64 {

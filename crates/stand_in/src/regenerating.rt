@@ -159,10 +159,11 @@ pub fn show_command<S: Site>(
 ) -> Result<(), SiteFault>
     ensures { AsksWell S.tells (S.world site.old) (S.world site.new) result }
 {
+    let shown = command.act.command.to_text(alloc)?;
     let said = said_of(
         options.verbose,
         command.description.as_str(),
-        command.act.command.as_str(),
+        shown.as_str(),
     );
     let line = line(alloc, &options.pattern, counts, said)?;
     site.show(line.as_slice())
@@ -179,8 +180,9 @@ fn show_failure<S: Site>(
     ensures { AsksWell S.tells (S.world site.old) (S.world site.new) result }
 {
     let outputs = texts(alloc, declared, edge)?;
+    let line = command.act.command.to_text(alloc)?;
     let mut shown = Vec::new(alloc);
-    push_failed(&mut shown, outputs.as_slice(), command.act.command.as_str())?;
+    push_failed(&mut shown, outputs.as_slice(), line.as_str())?;
     site.show(shown.as_slice())
 }
 

@@ -1,2 +1,4 @@
 pub mod Marks
 pub mod Fronts
+pub mod Shared
+pub mod Handed

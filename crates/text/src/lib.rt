@@ -5,12 +5,16 @@ mod bytes;
 mod items;
 mod marks;
 mod path;
+mod shared;
+mod takes;
 mod text;
 
 pub use bytes::Bytes;
 pub use items::Items;
-pub use marks::cut;
+pub use marks::{behind, cut};
 pub use path::Path;
+pub use shared::{Front, SharedText};
+pub use takes::Takes;
 pub use text::Text;
 
 #[cfg(test)]

@@ -1,6 +1,6 @@
 //! Texts cut at a mark.
 
-ghost use Rattle.std.specs.Prelude.{◌≡◌, ◌∷◌, ◌++◌, IfSome, IfNone};
+ghost use Rattle.std.specs.Prelude.{◌≡◌, ◌∷◌, ◌++◌, List, ℕ, IfSome, IfNone};
 ghost use Rattle.text.specs.Marks.{Lacks};
 
 use bstr::ByteSlice;
@@ -13,4 +13,12 @@ pub fn cut(bytes: &[u8], mark: u8) -> Option<(&[u8], &[u8])>
 {
     let place = bytes.find_byte(mark)?;
     Some((&bytes[..place], &bytes[place + 1..]))
+}
+
+/// What stands behind these bytes, where they stand in front.
+pub fn behind<'a>(front: &[u8], bytes: &'a [u8]) -> Option<&'a [u8]>
+    ensures found { IfSome result (λ rest. bytes.now ≡ front.now ++ rest.now) }
+    ensures none { IfNone result ((rest : List ℕ) → bytes.now ≡ front.now ++ rest → ⊥) }
+{
+    bytes.strip_prefix(front)
 }

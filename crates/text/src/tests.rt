@@ -1,4 +1,4 @@
-use crate::{Bytes, Items, Path, Text, cut};
+use crate::{Bytes, Front, Items, Path, SharedText, Text, behind, cut};
 use std::test::Fail;
 
 #[test]
@@ -42,5 +42,48 @@ fn bytes_and_items(rt: HostRuntime) -> Result<(), Fail> {
     items.push(9)?;
     assert_eq!(rt; items.len(), 2);
     assert_eq!(rt; items.into_vec().as_slice(), [7, 9].as_slice());
+    Ok(())
+}
+
+#[test]
+fn shared_texts(rt: HostRuntime) -> Result<(), Fail> {
+    let alloc = rt.alloc();
+    let text = SharedText::from_str(alloc, "cat b a")?;
+    let copy = text.clone()?;
+    assert!(rt; text == copy);
+    assert!(rt; copy.is("cat b a"));
+    assert!(rt; text != SharedText::new());
+    Ok(())
+}
+
+#[test]
+fn empty_shared_texts(rt: HostRuntime) -> Result<(), Fail> {
+    let alloc = rt.alloc();
+    assert!(rt; SharedText::new().is(""));
+    assert!(rt; SharedText::from_text(alloc, Text::new(alloc))? == SharedText::new());
+    Ok(())
+}
+
+#[test]
+fn texts_with_fronts(rt: HostRuntime) -> Result<(), Fail> {
+    let alloc = rt.alloc();
+    let front = Front::from_str(alloc, "cat b")?;
+    let text = SharedText::with_front(alloc, &front, " a")?;
+    assert!(rt; text == SharedText::from_str(alloc, "cat b a")?);
+    assert!(rt; SharedText::from_str(alloc, "cat b a")? == text);
+    assert!(rt; text != SharedText::from_str(alloc, "cat b")?);
+    assert!(rt; text.is("cat b a"));
+    assert!(rt; !text.is("cat b aa"));
+    assert_eq!(rt; text.to_text(alloc)?.as_str(), "cat b a");
+    let (front, rest) = text.parts();
+    assert_eq!(rt; front, "cat b");
+    assert_eq!(rt; rest, " a");
+    Ok(())
+}
+
+#[test]
+fn behind_bytes(rt: HostRuntime) -> Result<(), Fail> {
+    assert_eq!(rt; behind(b"a", b"abc"), Some(b"bc".as_slice()));
+    assert_eq!(rt; behind(b"b", b"abc"), None);
     Ok(())
 }

@@ -151,7 +151,7 @@ makes_within lines e p h = elim (cases_lt e (length lines)) [
   | inr past ↦ absurd (false≢true (sym (ap (λ (line : Line). has_number (line_outputs line) p) (get_or_past lines e no_line past)) ∙ h))
 ]
 
-module _ (declared : Declared) (making : AreMakers declared.graph.manifest declared.graph.makers.items) (cleaning : Cleaning) (generated : Bool) where
+module _ (declared : Declared) (making : AreMakers declared.graph.manifest declared.graph.makers) (cleaning : Cleaning) (generated : Bool) where
   -- a path of an edge that may be cleaned, of which each path is asked for
   pub cleaned_of : (e : ℕ) (t : List ℕ) → MayClean declared generated e t → ((p : ℕ) → (links_of declared.graph).maker p ≡ Some e → IsAsked declared cleaning e p) → IsCleanedOutput declared cleaning generated t
   cleaned_of e t may asked = elim may.file.file [
@@ -182,7 +182,7 @@ module _ (declared : Declared) (making : AreMakers declared.graph.manifest decla
         },
       )
 
-module _ (declared : Declared) (making : AreMakers declared.graph.manifest declared.graph.makers.items) (generated : Bool) (old new : List (List ℕ)) where
+module _ (declared : Declared) (making : AreMakers declared.graph.manifest declared.graph.makers) (generated : Bool) (old new : List (List ℕ)) where
   pub all_adds : AddsJust old new (IsAnyRule declared generated) → AddsJust old new (IsCleanedOutput declared All generated)
   all_adds adds =
       adds_as old new (IsAnyRule declared generated) (IsCleanedOutput declared All generated) (λ t any. cleaned_of declared making All generated any.0 t any.2 (λ p maker. tt)) (λ t cleaned. let may = of_cleaned declared making All generated t cleaned in (cleaned.edge, may.0, may.1)) adds

@@ -123,9 +123,9 @@ deps_push old new d is dep = (
 -- ---- makers
 
 within_made : (graph : Graph) (p e : ℕ) → (links_of graph).maker p ≡ Some e → p < length graph.manifest.paths
-within_made graph p e made = elim (cases_lt p (length graph.makers.items)) [
+within_made graph p e made = elim (cases_lt p (length graph.makers)) [
   | inl low ↦ omega (arith, low, graph.making.fits)
-  | inr past ↦ absurd (none-some e (sym (get_or_past graph.makers.items p None past) ∙ made))
+  | inr past ↦ absurd (none-some e (sym (get_or_past graph.makers p None past) ∙ made))
 ]
 
 -- the text of a path that is made stands at its number

@@ -29,9 +29,9 @@ use Rattle.tools.specs.declared.fault.Fault.TheVariants.{Memory}
 -- ---- records
 
 outputs_within : (graph : Graph) (e p : ℕ) → has_number ((links_of graph).outputs e) p ≡ true → p < length graph.manifest.paths
-outputs_within graph e p made = elim (cases_lt p (length graph.makers.items)) [
+outputs_within graph e p made = elim (cases_lt p (length graph.makers)) [
   | inl low ↦ omega (arith, low, graph.making.fits)
-  | inr past ↦ absurd (none-some e (sym (get_or_past graph.makers.items p None past) ∙ graph.making.all p e made))
+  | inr past ↦ absurd (none-some e (sym (get_or_past graph.makers p None past) ∙ graph.making.all p e made))
 ]
 
 pub some_known : (tells : Bool) (old new : World) (graph : Graph) (records : Records) → AreRead tells old new graph.manifest.paths records → SomeOfBoth (Knows graph records)

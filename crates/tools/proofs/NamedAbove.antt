@@ -145,7 +145,7 @@ marks_both graph paths edges n start mid new none count one first two then =
 
 -- ---- outputs
 
-module _ (graph : Graph) (paths edges : List ℕ) (marks : List Bool) (making : AreMakers graph.manifest graph.makers.items) (above : AreAbove graph paths edges) (by : AreNamedBy graph paths edges marks) where
+module _ (graph : Graph) (paths edges : List ℕ) (marks : List Bool) (making : AreMakers graph.manifest graph.makers) (above : AreAbove graph paths edges) (by : AreNamedBy graph paths edges marks) where
   abbrev made_outputs : List ℕ
   made_outputs = flat_map (λ e. filter (λ p. get_or marks p false) ((links_of graph).outputs e)) edges
 
@@ -188,9 +188,9 @@ module _ (graph : Graph) (paths edges : List ℕ) (marks : List Bool) (making : 
           not_some clash = cc
 
           inside : p < length graph.manifest.paths
-          inside = elim (cases_lt p (length graph.makers.items)) [
+          inside = elim (cases_lt p (length graph.makers)) [
             | inl low ↦ omega (arith, low, making.fits)
-            | inr past ↦ absurd (not_some (sym (get_or_past graph.makers.items p None past) ∙ makes))
+            | inr past ↦ absurd (not_some (sym (get_or_past graph.makers p None past) ∙ makes))
           ]
 
       back : IsNamedAbove graph paths p × IsSome ((links_of graph).maker p) → has_number outputs p ≡ true

@@ -34,7 +34,10 @@ fn push_command(declared: &Declared, edge: EdgeId, told: &mut String) -> Result<
     ensures { OnOk result (Tells told.old told.new (commands_of declared.now (edge ∷ []))) }
 {
     match declared.command(edge) {
-        Some(command) => push_line(told, &[command.act.command.as_str()]),
+        Some(command) => {
+            let (front, rest) = command.act.command.parts();
+            push_line(told, &[front, rest])
+        }
         None => Ok(()),
     }
 }

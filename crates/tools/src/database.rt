@@ -158,7 +158,8 @@ impl Listing {
 /// The command, with the content of its response file in place of `@` and the name of it, where that is asked for and stands there. The
 /// name may have `./` in front of it, as GN's.
 fn shown_command(alloc: Global, command: &Command, expand: bool) -> Result<String, AllocError> {
-    let text = command.act.command.as_str();
+    let line = command.act.command.to_text(alloc)?;
+    let text = line.as_str();
     let path = command.act.response_path.as_str();
     if !expand || path.is_empty() {
         return String::from_str(alloc, text);
@@ -168,7 +169,9 @@ fn shown_command(alloc: Global, command: &Command, expand: bool) -> Result<Strin
         return String::from_str(alloc, text);
     };
     let mut shown = String::from_str(alloc, before)?;
-    push_in_one_line(&mut shown, command.act.response_content.as_str())?;
+    let (front, rest) = command.act.response_content.parts();
+    push_in_one_line(&mut shown, front)?;
+    push_in_one_line(&mut shown, rest)?;
     shown.push_str(behind)?;
     Ok(shown)
 }

@@ -120,7 +120,7 @@ fn add_record(
 fn add_listed(
     alloc: Global,
     records: &Records,
-    numbers: &[usize],
+    numbers: &[u32],
     listed: &mut Paths,
 ) -> Result<(), AllocError>
     ensures { OnOk result (AddsListed records.now numbers.now listed.old listed.new) }
@@ -135,7 +135,7 @@ fn add_listed(
 fn add_number(
     alloc: Global,
     records: &Records,
-    number: usize,
+    number: u32,
     listed: &mut Paths,
 ) -> Result<(), AllocError>
     ensures { OnOk result (AddsNumber records.now number listed.old listed.new) }

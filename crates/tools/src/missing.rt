@@ -163,7 +163,7 @@ fn add_apart(
     alloc: Global,
     logged: Logged<'_>,
     output: PathId,
-    numbers: &[usize],
+    numbers: &[u32],
     file: &str,
     missing: &mut Vec<MissingDep>,
 ) -> Result<(), AllocError>
@@ -210,7 +210,7 @@ fn made_inputs(
     alloc: Global,
     logged: Logged<'_>,
     output: PathId,
-    numbers: &[usize],
+    numbers: &[u32],
     file: &str,
 ) -> Result<Vec<MissingDep>, AllocError>
     ensures { IfOk result (λ made. AddsMade logged.entry file.now output (told_texts logged.entry numbers.now) [] made.items) }
@@ -225,7 +225,7 @@ fn made_inputs(
 fn push_made(
     logged: Logged<'_>,
     output: PathId,
-    number: usize,
+    number: u32,
     file: &str,
     made: &mut Vec<MissingDep>,
 ) -> Result<(), AllocError>

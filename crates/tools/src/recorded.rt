@@ -82,7 +82,7 @@ fn own_path(alloc: Global, folder: &str, name: &str) -> Result<String, AllocErro
 fn join_paths(alloc: Global, graph: &mut Graph, records: &Records) -> Result<(), AllocError>
     ensures { KeepsEdges graph.old graph.new }
 {
-    for number in 0..usize::MAX {
+    for number in 0..u32::MAX {
         let Some(path) = records.deps_path(number) else {
             return Ok(());
         };

@@ -24,7 +24,6 @@ use Rattle.paths.specs.Lists.{line_at, line_inputs}
 use Rattle.paths.specs.Told.{text_at, texts_at, edge_of}
 use Rattle.graph.specs.declared.back.Before.{Before}
 use Rattle.graph.specs.declared.cone.Cone.{Cone}
-use Rattle.graph.specs.declared.cone.Mark.{Mark}
 use Rattle.graph.specs.declared.graph.Graph.{Graph}
 use Rattle.graph.specs.Alone.{HasGrownAlone}
 use Rattle.graph.specs.Back.{Undoes, MayBeTakenBack}
@@ -42,6 +41,7 @@ use Rattle.records.specs.declared.logs.Logs.{Logs}
 use Rattle.records.specs.declared.records.Records.{Records}
 use Rattle.records.specs.Held.{ArePlaces}
 use Rattle.records.specs.Known.{IsOf, IsOfDeps, AreKnown, AreStillKnown}
+use Rattle.judge.specs.Answers.{HasGrownBy}
 use Rattle.plan.specs.Staying.{MayGoOnBy}
 use Rattle.work.specs.declared.state.Work.{Work}
 use Rattle.work.specs.declared.report.Refusal.{Refusal}
@@ -79,6 +79,15 @@ names_other stand graph e file within other is = by_dyndep (dyndep_at graph e) r
         number : p ≡ file
         number = graph.apart p file (text_at graph.manifest.paths p) (slice_get-get_or graph.manifest.paths p [] (stand graph e p some).1)
             (slice_get-get_or graph.manifest.paths file [] within ∙ ap (λ (t : List ℕ). Some t) (sym {A = List ℕ} same))
+
+-- a phony edge names none
+alias_names : (graph : Graph) (i : ℕ) → (edge_at (declared_by graph).edges i).phony ≡ true → (edge_at (declared_by graph).edges i).dyndep ≡ None
+alias_names graph zero phony = refl
+alias_names graph (suc e) phony = ap (λ (x : Edge). x.dyndep) (edge_is graph.manifest e) ∙ by_action (get_or graph.manifest.actions e no_action) (sym (ap (λ (x : Edge). x.phony) (edge_is graph.manifest e)) ∙ phony)
+  where
+    by_action : (a : Action) → (edge_of graph.manifest.paths (line_at graph.manifest.lines e) a).phony ≡ true → (edge_of graph.manifest.paths (line_at graph.manifest.lines e) a).dyndep ≡ None
+    by_action Alias is = refl
+    by_action (Command command) is = absurd (false≢true is)
 
 -- an edge with a file that is not loaded has no recorded inputs in use
 pub none_unloaded : (phony : Bool) (d : Option (List ℕ)) (f : List ℕ) (rest : List (List ℕ)) (p : List ℕ) → d ≡ Some f → has (cond phony [] (cond (is_some d) [] rest)) p ≡ true → ⊥
@@ -152,6 +161,22 @@ module _ {asked : Asked} {store : Store} {graph : Graph} {state : Work} {file : 
     pub to_join : AreToJoin numbers loaded store.records store.deps
     to_join e there p is = absurd (none_recorded e (sym (undoes.edges e) ∙ there) p (ap (λ (l : List (List ℕ)). has l p) (sym (has_it.recorded (suc e))) ∙ is))
 
+    -- just its edges have changed, and none of them is phony
+    pub has_grown_by : FilesStand → {grown : Graph} → HasGrownAt numbers loaded grown → HasGrownBy numbers graph grown
+    has_grown_by stand so_far = record {
+      file = path;
+      additions = additions;
+      grown = subst (λ (b : BuildGraph). IsGrownBy path additions old b.edges) (sym {A = BuildGraph} so_far.grown.declared) has_it.grown;
+      once = subst (λ (b : BuildGraph). IsMadeOnce b.edges) (sym {A = BuildGraph} so_far.grown.declared) has_it.once;
+      paths = record {
+        added = has_it.added ++ so_far.grown.more;
+        grows = so_far.grown.paths ∙ (ap (λ (l : List (List ℕ)). l ++ so_far.grown.more) has_it.paths ∙ append_assoc graph.manifest.paths has_it.added so_far.grown.more);
+      };
+      others = λ e absent. names_other stand graph e file may.within (sym (undoes.edges e) ∙ absent);
+      aliases = alias_names graph;
+      recorded = λ e absent. so_far.others e absent ∙ ap (λ (l : List (List ℕ)). list_at l e) has_it.numbers;
+    }
+
     -- ---- taken back
 
     pub may_take_back : {grown : Graph} → HasGrownAt numbers loaded grown → MayBeTakenBack graph loaded grown before
@@ -167,6 +192,8 @@ module _ {asked : Asked} {store : Store} {graph : Graph} {state : Work} {file : 
         builddir = ap (λ (b : BuildGraph). b.builddir) so_far.grown.declared;
         lines = so_far.grown.lines;
         others = so_far.others;
+        makers = so_far.grown.makers;
+        users = so_far.grown.users;
       };
       none = λ e there. nothing_of graph.manifest.paths (list_at graph.recorded e) (nothing_in (recorded_by graph (suc e)) (none_recorded e (sym (undoes.edges e) ∙ there)));
     }
@@ -246,7 +273,7 @@ module _ {asked : Asked} {store : Store} {graph : Graph} {state : Work} {file : 
       files_kept e = ap (λ (l : List Action). dyndep_of (get_or l e no_action)) joined.grown.actions
 
       maker_kept : (p : ℕ) → (links_of grown).maker p ≡ (links_of loaded).maker p
-      maker_kept p = ap (λ v. maker_in v.items p) joined.grown.makers
+      maker_kept p = ap (λ v. maker_in v p) joined.grown.makers
 
       still_alone : HasGrownAlone numbers before.file graph loaded → HasGrownAlone numbers before.file graph grown
       still_alone alone = record {
@@ -310,13 +337,11 @@ pub file_is : (o : Option ℕ) (n : ℕ) → is_place o n ≡ true → o ≡ Som
 file_is None n is = absurd (false≢true is)
 file_is (Some m) n is = ap (λ (k : ℕ). Some k) (eqb-true m n is)
 
-pub kept_cone : (graph : Graph) (recorded : ℕ → List (List ℕ)) (cone copied : Cone) → copied.order.items ≡ cone.order.items → copied.marks.items ≡ cone.marks.items → copied.targets.items ≡ cone.targets.items
-    → IsConeOf (declared_by graph).edges recorded (texts_at graph.manifest.paths cone.targets.items) cone.order.items cone.marks.items → IsConeOfNumbers graph recorded cone.targets.items copied
-kept_cone graph recorded cone copied order marks targets listed = record {
-  listed = subst (λ (l : List ℕ). IsConeOf (declared_by graph).edges recorded (texts_at graph.manifest.paths cone.targets.items) l copied.marks.items) (sym order)
-      (subst (λ (m : List Mark). IsConeOf (declared_by graph).edges recorded (texts_at graph.manifest.paths cone.targets.items) cone.order.items m) (sym {A = List Mark} marks) listed);
+pub kept_cone : (graph : Graph) (recorded : ℕ → List (List ℕ)) (cone : Cone) → IsConeOf (declared_by graph).edges recorded (texts_at graph.manifest.paths cone.targets.items) cone.order.items cone.marks.items → IsConeOfNumbers graph recorded cone.targets.items cone
+kept_cone graph recorded cone listed = record {
+  listed = listed;
   acyclic = λ i in_cone. no_cycle_by_order (declared_by graph).edges recorded (map suc cone.order.items) listed.ordered i (listed.all i in_cone);
-  numbers = targets;
+  numbers = refl;
 }
 
 -- ---- records that shrink again

@@ -111,7 +111,7 @@ still_unjudged first old new e settling so_far k unjudged = elim (cases_Bool (k 
 
 -- ---- numbers
 
-listed_suc : (xs : List ℕ) (e : ℕ) → has_number (map suc xs) (suc e) ≡ true → has_number xs e ≡ true
+pub listed_suc : (xs : List ℕ) (e : ℕ) → has_number (map suc xs) (suc e) ≡ true → has_number xs e ≡ true
 listed_suc [] e h = absurd (false≢true h)
 listed_suc (x ∷ xs) e h = elim (or_cases (suc x == suc e) (has_number (map suc xs) (suc e)) h) [
   | inl here ↦ or_left (x == e) (has_number xs e) (eq-eqb x e (omega (arith, eqb-true (suc x) (suc e) here)))

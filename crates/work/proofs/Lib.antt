@@ -53,3 +53,4 @@ pub mod Unedited
 pub mod Points
 pub mod Callers
 pub mod Seeing
+pub mod StillKept

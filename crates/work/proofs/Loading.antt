@@ -1,6 +1,6 @@
 -- A build stands before the load of a dyndep file: what the file that was read held, and how the build goes on behind the load, is
 -- refused, or is cut off.
-use Rattle.std.proofs.Common.{◌≡◌, ◌⊎◌, inl, inr, ℕ, zero, suc, ◌<◌, cond, Bool, true, false, IsTrue, List, [], ◌∷◌, ◌++◌, map, length, get_or, bytes_eq, Option, Some, None, is_some, Result, Ok, Err, refl, sym, ◌∙◌, ap, subst, append_assoc, arith}
+use Rattle.std.proofs.Common.{◌≡◌, ◌⊎◌, inl, inr, ℕ, zero, suc, ◌<◌, not, cond, Bool, true, false, IsTrue, List, [], ◌∷◌, ◌++◌, map, length, get_or, bytes_eq, Option, Some, None, is_some, Result, Ok, Err, refl, sym, ◌∙◌, ap, subst, append_assoc, arith}
 use Rattle.std.specs.List.{All}
 use Rattle.std.specs.Option.{option_map}
 use Rattle.std.proofs.lemmas.Bool.{false≢true, false_from_ne_true}
@@ -41,6 +41,7 @@ use Rattle.work.proofs.Points.{IsSpared, points_alike}
 use Rattle.plan.specs.Flags as flags
 use Rattle.paths.specs.Told.{text_at, texts_at}
 use Rattle.graph.specs.declared.cone.Cone.{Cone}
+use Rattle.graph.specs.Cone.{mark_at, is_listed}
 use Rattle.graph.specs.declared.graph.Graph.{Graph}
 use Rattle.graph.specs.Extended.{addition_of}
 use Rattle.graph.specs.Linked.{StandFor, IsConeOf}
@@ -50,6 +51,8 @@ use Rattle.judge.specs.declared.looks.Look.{Look}
 use Rattle.judge.specs.Seen.{look_at, look_of, is_asked, AreKept, AreSeenOf}
 use Rattle.plan.specs.declared.plan.Plan.{Plan}
 use Rattle.plan.specs.Planned.{IsDeclaredTask, IsTaskOf, IsPlanned}
+use Rattle.plan.specs.Standing.{standing_at, is_outside}
+use Rattle.plan.specs.Staying.{AreInside}
 use Rattle.records.specs.declared.logs.Logs.{Logs}
 use Rattle.records.specs.Known.{AreKnown}
 use Rattle.records.specs.Laws.{LogStays}
@@ -66,8 +69,12 @@ use Rattle.work.specs.declared.report.Refusal.TheVariants.{File as BuildFile, Ma
 use Rattle.work.specs.Standing.{grown_course, task_over, is_bound, IsUnstarted, StandsAt, HasAsked, BeginsAt, IsLoadNext, IsHeldLoad, IsRefusedBy, HasBegun, IsStopped, IsCutThere, files_left}
 use Rattle.work.specs.Joined.{WasHeld, IsUnread, IsUnfitBy, IsCircleBy, IsUnjoined, MayJoin, HasJoinedFile, GoesOnWith, HasRoomIn, StayKnown, IsAsBefore}
 use Rattle.work.specs.Loads.{HeldThen, IsRefusedFile, IsSaying, IsUnfitFor}
+use Rattle.judge.specs.UnderWay.{IsUnderWay}
+use Rattle.work.proofs.Asking.{known as store_known}
+use Rattle.work.proofs.Callers.{under_way}
 use Rattle.work.proofs.Fewer.{fewer_left}
 use Rattle.work.proofs.FileJoins.{none_unloaded, text_front, texts_front, same_graph}
+use Rattle.work.proofs.KnownClean.{listed_suc}
 use Rattle.work.proofs.LoadPoints.{point_now, asked_later, asked_load}
 use Rattle.work.proofs.Telling.{none_of_phony}
 use Rattle.work.proofs.Unedited.{bound_kept}
@@ -135,6 +142,14 @@ module _ (tells : Bool) (course : Course) (edges : List Edge) (phases : List Pha
     listed = subst (λ (b : BuildGraph). IsConeOf b.edges (recorded_inputs course.store b.edges) (texts_at graph.manifest.paths state.cone.targets.items) state.cone.order.items state.cone.marks.items) stands.suits.same
         (subst (λ (ts : List (List ℕ)). IsConeOf edges (recorded_inputs course.store edges) ts state.cone.order.items state.cone.marks.items) (sym {A = List (List ℕ)} stands.on.cone.numbers) stands.on.cone.listed);
   }
+
+  -- just the edges of the cone stand in it
+  pub stand_inside : AreInside state.cone.marks.items state.plan.standings.items
+  stand_inside e = by (is_outside (standing_at state.plan.standings.items e)) refl
+    where
+      by : (b : Bool) → is_outside (standing_at state.plan.standings.items e) ≡ b → is_listed (mark_at state.cone.marks.items e) ≡ not b
+      by true is = stands.on.cone.listed.marked e ∙ false_from_ne_true (has_number state.cone.order.items e) (λ there. false≢true (sym (stands.on.planned.inside e (stands.on.cone.listed.within e there)) ∙ is))
+      by false is = stands.on.cone.listed.marked e ∙ listed_suc state.cone.order.items e (stands.on.cone.listed.all (suc e) (stands.on.planned.within e is))
 
   -- ---- over calls that only look
 
@@ -446,6 +461,19 @@ module _ (tells : Bool) (course : Course) (edges : List Edge) (phases : List Pha
             asked_load course.own course.asked course.store edges next course.entry.history new.history [] phases last
             (asked_later tells course.own (task_over course edges) steps course.entry now stands.on.carried.run tell call.more new.history call.grows phases last split (task_over course edges) course.store
             (was tell (kept_before course.own edges course.entry.history now.history new.history call.more call.grows so_far) (needed_before files.free needed)))
+
+        -- what was done so far is that of a build over the edges as they are now
+        module _ (room : HasRoomIn grown state after) (known : StayKnown graph grown state.records after.records) (logs : after.records.logs ≡ state.records.logs) where
+          abbrev on_there : IsOn tells later grown None after new
+          on_there = on_loaded tells here graph grown path additions gains stands.suits stands.goes state after new on_new
+              (record { fits = room.fits; looks = room.looks; logs = logs; known = known; changed = room.changed; tick = room.tick; starts = room.starts; failed = room.failed })
+              stand stand_grown content next_load.next reads order holds held_here gone.planned stated coned
+
+          pub under_grown : IsUnderWay grown after.records after.cone after.plan course.store (task_over course next).targets steps
+          under_grown =
+              under_way grown after.records after.cone after.plan course.store
+              (record { known = known course.store.records course.store.deps (store_known tells course edges phases graph state now stands).known; in_use = joined.recorded })
+              (task_over course next).targets (task_over course next) refl refl refl steps on_there.planned on_there.taken is_cone coned.numbers
 
         -- ---- the run goes on
 

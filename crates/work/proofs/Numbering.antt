@@ -5,8 +5,11 @@ use Rattle.std.proofs.lemmas.List.{map-append, length-append, get_or_append_left
 use Rattle.std.proofs.lemmas.Option.{slice_get_within, get_or_from_slice_get}
 use Rattle.model.specs.Graph.{has, has_number}
 use Rattle.theory.proofs.Lists.{same_some, same_bytes}
-use Rattle.paths.specs.Told.{text_at, texts_at}
-use Rattle.graph.specs.Grown.{HasNumbered}
+use Rattle.paths.specs.declared.manifest.Manifest.{Manifest}
+use Rattle.paths.specs.Told.{text_at, texts_at, graph_of}
+use Rattle.graph.specs.Fronts.{FrontsStay}
+use Rattle.graph.specs.Grown.{HasNumbered, HasGained}
+use Rattle.graph.specs.Held.{list_at}
 use Rattle.graph.specs.declared.graph.Graph.{Graph}
 use Rattle.theory.proofs.Mapped.{has_mapped}
 use Rattle.work.specs.Recorded.{HasMorePaths, HasOnlyMorePaths, AreNumbered, IsNumberedToo, HaveJust}
@@ -19,8 +22,21 @@ has_here m numbers = or_left (m == m) (has_number numbers m) (eq-eqb m m refl)
 pub text_before : (paths more : List (List ℕ)) (p : ℕ) → p < length paths → text_at (paths ++ more) p ≡ text_at paths p
 text_before paths more p lt = get_or_append_left paths more [] p lt
 
+-- each list of users is still in front
+fronts_none : (lists : List (List ℕ)) → FrontsStay lists lists
+fronts_none lists p = record { more = []; grows = sym (append-nil (list_at lists p)) }
+
+fronts_same : (old new : List (List ℕ)) → ((p : ℕ) → list_at new p ≡ list_at old p) → FrontsStay old new
+fronts_same old new same p = record { more = []; grows = same p ∙ sym (append-nil (list_at old p)) }
+
+fronts_then : (a b c : List (List ℕ)) → FrontsStay a b → FrontsStay b c → FrontsStay a c
+fronts_then a b c one two p = record {
+  more = (one p).more ++ (two p).more;
+  grows = (two p).grows ∙ (ap (λ (l : List ℕ). l ++ (two p).more) (one p).grows ∙ append_assoc (list_at a p) (one p).more (two p).more);
+}
+
 pub more_none : (graph : Graph) → HasMorePaths graph graph
-more_none graph = record { more = []; paths = sym (append-nil graph.manifest.paths); declared = refl; named = refl; defaults = refl; lines = refl; actions = refl; makers = refl }
+more_none graph = record { more = []; paths = sym (append-nil graph.manifest.paths); declared = refl; named = refl; defaults = refl; lines = refl; actions = refl; makers = refl; users = fronts_none graph.users }
 
 pub more_then : (a b c : Graph) → HasMorePaths a b → HasMorePaths b c → HasMorePaths a c
 more_then a b c one two = record {
@@ -32,6 +48,7 @@ more_then a b c one two = record {
   lines = two.lines ∙ one.lines;
   actions = two.actions ∙ one.actions;
   makers = two.makers ∙ one.makers;
+  users = fronts_then a.users b.users c.users one.users two.users;
 }
 
 pub only_none : (graph : Graph) → HasOnlyMorePaths graph graph
@@ -74,6 +91,21 @@ module _ (old new : Graph) (more : HasMorePaths old new) where
           ap (λ (t : List ℕ). t ∷ texts_at new.manifest.paths numbers) (text_more m (within 0 m refl))
           ∙ ap (λ (l : List (List ℕ)). text_at old.manifest.paths m ∷ l) (texts_listed numbers (λ k n is. within (suc k) n is))
 
+-- ---- an edge gets recorded inputs
+
+pub more_gained : (old new : Graph) (edge : ℕ) (inputs : List ℕ) → HasGained old new edge inputs → HasMorePaths old new
+more_gained old new edge inputs gained = record {
+  more = [];
+  paths = ap (λ (m : Manifest). m.paths) gained.manifest ∙ sym (append-nil old.manifest.paths);
+  declared = ap graph_of gained.manifest;
+  named = ap (λ (m : Manifest). m.named) gained.manifest;
+  defaults = ap (λ (m : Manifest). m.defaults) gained.manifest;
+  lines = ap (λ (m : Manifest). m.lines) gained.manifest;
+  actions = ap (λ (m : Manifest). m.actions) gained.manifest;
+  makers = gained.makers;
+  users = gained.users;
+}
+
 -- ---- a path gets a number
 
 pub only_numbered : (old new : Graph) (path : List ℕ) (number : ℕ) → HasNumbered old new path number → HasOnlyMorePaths old new
@@ -87,6 +119,7 @@ only_numbered old new path number has_numbered = record {
     lines = has_numbered.lines;
     actions = has_numbered.actions;
     makers = has_numbered.makers;
+    users = fronts_same old.users new.users has_numbered.users;
   };
   recorded = has_numbered.recorded;
 }

@@ -73,6 +73,6 @@ read_item (x ∷ xs) (suc i) v read lt = read_item xs i v read (omega (arith, lt
 pub output_within : (graph : Graph) (e k : ℕ) (outputs : List ℕ) (p : ℕ) → outputs ≡ (links_of graph).outputs e → k < length outputs → p ≡ get_or outputs k 0 → p < length graph.manifest.paths
 output_within graph e k outputs p same lt is =
     let has = subst (λ (l : List ℕ). has_number l p ≡ true) same (ap (λ (n : ℕ). has_number outputs n) is ∙ item_has outputs k 0 lt) in
-    let inside = maker_within graph.makers.items p e (graph.making.all p e has) in
+    let inside = maker_within graph.makers p e (graph.making.all p e has) in
     let fits = graph.making.fits in
     omega (arith, inside, fits)

@@ -2,7 +2,6 @@
 use Rattle.std.proofs.Common.{◌≡◌, ℕ, zero, suc, ◌+◌, ◌<◌, ◌≤◌, ◌==◌, Bool, true, false, List, [], ◌∷◌, ◌++◌, map, length, get_or, take, Option, Some, None, refl, sym, ◌∙◌, ap, subst, arith, bytes_eq, Bor}
 use Rattle.std.proofs.lemmas.Bool.{eq-eqb, or_left, or_right}
 use Rattle.std.proofs.lemmas.List.{map-append, take_all, take_more}
-use Rattle.model.specs.declared.graph.Edge.{Edge}
 use Rattle.model.specs.Graph.{has_number, edge_at, no_edge, outputs, console}
 use Rattle.paths.specs.declared.line.Line.{Line}
 use Rattle.paths.specs.declared.manifest.Action.{Action}
@@ -11,7 +10,6 @@ use Rattle.paths.specs.Lists.{line_at, line_outputs}
 use Rattle.paths.specs.Commands.{no_action}
 use Rattle.paths.specs.Told.{text_at, texts_at, edge_of, edges_of}
 use Rattle.graph.specs.declared.graph.Graph.{Graph}
-use Rattle.status.specs.Line.{said_of}
 use Rattle.graph.specs.Held.{maker_in}
 use Rattle.graph.specs.Links.{links_of}
 use Rattle.graph.specs.Told.{declared_by}
@@ -52,7 +50,7 @@ module _ (graph : Graph) (e : ℕ) (lt : e < length graph.manifest.lines) where
 pub output_within : (graph : Graph) (e k : ℕ) (outputs : List ℕ) (p : ℕ) → outputs ≡ (links_of graph).outputs e → k < length outputs → p ≡ get_or outputs k p → p < length graph.manifest.paths
 output_within graph e k outputs p same lt is =
     let has = subst (λ (l : List ℕ). has_number l p ≡ true) same (listed outputs k p lt is) in
-    let inside = maker_within graph.makers.items p e (graph.making.all p e has) in
+    let inside = maker_within graph.makers p e (graph.making.all p e has) in
     let fits = graph.making.fits in
     omega (arith, inside, fits)
 
@@ -61,14 +59,6 @@ output_within graph e k outputs p same lt is =
 -- whether this is the pool of commands at the terminal
 abbrev pub is_for_terminal : Option (List ℕ) → Bool
 is_for_terminal pool = elim pool as (λ pool. Bool) [ None ↦ false | Some name ↦ bytes_eq name console ]
-
--- the text that stands for an edge in its line
-abbrev pub said_for : Bool → Edge → List ℕ
-said_for verbose edge = said_of verbose edge.description edge.act.command
-
-pub nothing_said : (verbose : Bool) → said_of verbose [] [] ≡ []
-nothing_said true = refl
-nothing_said false = refl
 
 -- ---- texts of paths, one after the other
 

@@ -1,5 +1,5 @@
 -- How many commands are still to be started.
-use Rattle.std.specs.Prelude.{ℕ, zero, suc, Bool, true, false, List, [], ◌∷◌, ◌&&◌, if◌then◌else◌}
+use Rattle.std.specs.Prelude.{◌≡◌, ℕ, zero, suc, Bool, true, false, List, [], ◌∷◌, ◌&&◌, if◌then◌else◌}
 use Rattle.plan.specs.declared.step.Standing.{Standing}
 use Rattle.plan.specs.declared.step.Standing.TheVariants.{Outside, Unjudged, Clean, OutOfDate, Running, Well, Failed, Alias, Known}
 use Rattle.plan.specs.Standing.{standing_at}
@@ -24,3 +24,7 @@ count_from standings e (due ∷ flags) = if due && is_unstarted (standing_at sta
 -- how many edges that are due have a command that may still be started
 abbrev pub count_unstarted : List Standing → List Bool → ℕ
 count_unstarted standings due = count_from standings 0 due
+
+-- as many as are due and may still be started, where so many were due before
+abbrev pub AreStillUnstarted : ℕ → List Standing → List Bool → List Bool → ℕ → Type 0
+AreStillUnstarted known standings before due count = known ≡ count_unstarted standings before → count ≡ count_unstarted standings due

@@ -1,5 +1,5 @@
 -- What a graph and its run become when what a dyndep file says joins them, and why it does not.
-use Rattle.std.specs.Prelude.{◌≡◌, ◌⊎◌, ◌<◌, ◌++◌, ℕ, Bool, true, IsTrue, List, length, Option, None, All, Ok, Err, map, take}
+use Rattle.std.specs.Prelude.{◌≡◌, ◌⊎◌, ◌<◌, ◌++◌, ℕ, Bool, true, IsTrue, List, length, vec_len, Option, Some, None, All, Ok, Err, map, take}
 use Rattle.model.specs.declared.fault.SiteFault.TheVariants.{Memory}
 use Rattle.model.specs.declared.graph.Edge.{Edge}
 use Rattle.model.specs.declared.record.Record.{Record}
@@ -279,6 +279,19 @@ IsAskedOver graph targets =
 -- their cone, by each function of recorded inputs that has the same paths
 abbrev pub IsConeAgain : Graph → List ℕ → Cone → Type 0
 IsConeAgain graph targets grown = (recorded : ℕ → List (List ℕ)) → AreSameInputs recorded (recorded_by graph) → IsConeOfNumbers graph recorded targets grown
+
+-- the cone behind a load: the one that was made, else the one that was
+abbrev pub cone_then : Cone → Option Cone → Cone
+cone_then kept None = kept
+cone_then kept (Some made) = made
+
+-- it has a mark for each edge of the graph
+abbrev pub HasMarksFor : Graph → Cone → Type 0
+HasMarksFor graph cone = vec_len cone.marks ≡ length graph.manifest.lines
+
+-- behind a load of this run the cone is that of its targets
+abbrev pub IsConeBehind : Work → Option Cone → Type 0
+IsConeBehind state grown = IsConeAgain state.graph state.cone.targets.items (cone_then state.cone grown)
 
 -- of whatever was asked so, edges need one another in a circle
 abbrev pub IsCircleOver : Graph → List ℕ → Refusal → Type 0

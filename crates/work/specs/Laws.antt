@@ -8,6 +8,7 @@ use Rattle.model.specs.Records.{Store}
 use Rattle.graph.specs.declared.graph.Graph.{Graph}
 use Rattle.graph.specs.Links.{links_of}
 use Rattle.graph.specs.Told.{declared_by, recorded_by}
+use Rattle.judge.specs.KeptDues.{HasMakersFirst}
 use Rattle.plan.specs.declared.step.Step.TheVariants.{Load}
 use Rattle.plan.specs.Planned.{IsNext}
 use Rattle.work.specs.declared.state.Work.{Work}
@@ -20,6 +21,12 @@ abbrev pub OrdersStand : Graph → Type 0
 OrdersStand graph =
     (tells : Bool) (course : Course) (edges : List Edge) (phases : List Phase) (state : Work) (now : World)
     → StandsAt tells course edges phases graph state now → All (λ e. e < length graph.manifest.lines) state.cone.order.items
+
+-- it is one of makers first, and its marks say which edges are listed
+abbrev pub MakersStandFirst : Graph → Type 0
+MakersStandFirst graph =
+    (tells : Bool) (course : Course) (edges : List Edge) (phases : List Phase) (state : Work) (now : World)
+    → StandsAt tells course edges phases graph state now → HasMakersFirst graph state.cone
 
 -- where a phase begins, and the plan says a file that no edge makes, the build stands at that load
 abbrev pub SourcesLoad : Type 0

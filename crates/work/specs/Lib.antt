@@ -12,6 +12,7 @@ pub mod Cutting
 pub mod Telling
 pub mod After
 pub mod Unmade
+pub mod Answered
 pub mod Commands
 pub mod Loads
 pub mod Joined

@@ -9,6 +9,7 @@ use Rattle.model.specs.Graph.{has, has_number, outputs}
 use Rattle.model.specs.Records.{Store, in_force, deps_in_force, is_known, all_paths_in, recorded_inputs}
 use Rattle.paths.specs.Told.{text_at, texts_at}
 use Rattle.graph.specs.declared.graph.Graph.{Graph}
+use Rattle.graph.specs.Fronts.{FrontsStay}
 use Rattle.graph.specs.Held.{list_at}
 use Rattle.graph.specs.Told.{declared_by, recorded_by, AreSameInputs}
 use Rattle.log_text.specs.Kept.{joined, if_some, texts_at as logged_at}
@@ -42,6 +43,7 @@ pub record HasMorePaths (old new : Graph) : Type 0 where
   pub lines : new.manifest.lines ≡ old.manifest.lines
   pub actions : new.manifest.actions ≡ old.manifest.actions
   pub makers : new.makers ≡ old.makers
+  pub users : FrontsStay old.users new.users
 
 -- so it has, and records what it did
 pub record HasOnlyMorePaths (old new : Graph) : Type 0 where

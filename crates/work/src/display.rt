@@ -91,6 +91,13 @@ impl<'a> Display<'a> {
         }
     }
 
+    /// How many commands are still to be started.
+    pub(crate) fn unstarted(&self) -> usize
+        ensures { result ≡ self.now.unstarted }
+    {
+        self.unstarted
+    }
+
     /// With what its texts are made.
     pub fn alloc(&self) -> Global {
         self.alloc
@@ -179,12 +186,8 @@ impl<'a> Display<'a> {
         requires { edge < length graph.now.manifest.lines }
         ensures { IfOk result (λ line. line.items ≡ shown_line self.now counts.now (edge_in graph.now edge)) }
     {
-        line(
-            self.alloc,
-            self.pattern,
-            counts,
-            said(self.verbose, graph, edge),
-        )
+        let text = said(self.alloc, self.verbose, graph, edge)?;
+        line(self.alloc, self.pattern, counts, text.as_str())
     }
 
     /// What is shown of a command that has ended.

@@ -13,19 +13,28 @@ use model::Finished;
 use paths::{Action, EdgeId};
 use status::{DepfileFault, Ending, Failure, push_ending};
 use std::alloc::{AllocError, Global};
+use text::Text;
 
 /// What a line says of the command of an edge.
-pub fn said<'g>(verbose: bool, graph: &'g Graph, edge: EdgeId) -> &'g str
+pub fn said(alloc: Global, verbose: bool, graph: &Graph, edge: EdgeId) -> Result<Text, AllocError>
     requires { edge < length graph.now.manifest.lines }
-    ensures { result.now ≡ said_by verbose (edge_in graph.now edge) }
+    ensures { IfOk result (λ text. text ≡ said_by verbose (edge_in graph.now edge)) }
+{
+    let line = command_of(alloc, graph, edge)?;
+    let description = description_of(graph, edge);
+    let shown = status::said_of(verbose, description, line.as_str());
+    let text = Text::from_str(alloc, shown)?;
+    Ok(text)
+}
+
+/// The description of an edge's command; nothing where it has none.
+fn description_of(graph: &Graph, edge: EdgeId) -> &str
+    requires { edge < length graph.now.manifest.lines }
+    ensures { result.now ≡ (edge_in graph.now edge).description }
 {
     match graph.manifest.action(edge) {
         Action::Alias => "",
-        Action::Command(command) => status::said_of(
-            verbose,
-            command.description.as_str(),
-            command.act.command.as_str(),
-        ),
+        Action::Command(command) => command.description.as_str(),
     }
 }
 
@@ -52,13 +61,8 @@ impl Display<'_> {
             return push_ending(text, &ending);
         }
         let outputs = outputs(self.alloc(), graph, edge)?;
-        push_failed(
-            text,
-            outputs.as_slice(),
-            command_of(graph, edge),
-            depfile,
-            printed,
-        )
+        let line = command_of(self.alloc(), graph, edge)?;
+        push_failed(text, outputs.as_slice(), line.as_str(), depfile, printed)
     }
 }
 
@@ -96,13 +100,16 @@ fn push_failed<'x>(
 }
 
 /// The command line of an edge; nothing where it has none.
-fn command_of(graph: &Graph, edge: EdgeId) -> &str
+fn command_of(alloc: Global, graph: &Graph, edge: EdgeId) -> Result<Text, AllocError>
     requires { edge < length graph.now.manifest.lines }
-    ensures { result.now ≡ (edge_in graph.now edge).act.command }
+    ensures { IfOk result (λ line. line ≡ (edge_in graph.now edge).act.command) }
 {
     match graph.manifest.action(edge) {
-        Action::Alias => "",
-        Action::Command(command) => command.act.command.as_str(),
+        Action::Alias => Ok(Text::new(alloc)),
+        Action::Command(command) => {
+            let line = command.act.command.to_text(alloc)?;
+            Ok(line)
+        }
     }
 }
 

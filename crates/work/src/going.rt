@@ -4,16 +4,18 @@ ghost use Rattle.std.specs.Prelude.{◌≡◌, ◌<◌, Option, None, false, Som
 ghost use Rattle.model.specs.World.{World};
 ghost use Rattle.model.specs.SingleBuild.{PassesNoFault};
 ghost use Rattle.theory.specs.Seen.{IsSeen};
+ghost use Rattle.work.specs.Answered.{AreAnswersOf};
 ghost use Rattle.work.specs.Going.{IsCutOfSome};
 ghost use Rattle.work.specs.Ran.{AreEdgesOf, IsPauseOf};
 ghost use Rattle.work.specs.Standing.{NoSourceIsDue, GoesWell, IsStopThere, IsStopOf, EndsFrom, DoneFrom, HaltsFrom, PausesFrom, IsBeginning, AsksFrom, HaltsOver, HaltsBehind, IsRefusedOf, EndsHalted, IsLoading, Loads, HaltsAt, IfRefused, IfFault, stop_answer, IsSourceNext, IsMadePath, IsThatSource, HasFewerFiles, StopsBehind, StopsStill};
 
-use crate::commands::unstarted_commands;
+use crate::commands::still_unstarted;
 use crate::rest::give_up;
 use crate::state::Work;
 use crate::stop::Stop;
 use crate::summary::{Pause, Summary};
 use graph::{Graph, lists_stand};
+use judge::dues_follow;
 use paths::PathId;
 use plan::{Plan, Step};
 use records::log_stays;
@@ -26,6 +28,7 @@ impl Work<'_> {
     pub fn run_graph<S: Site>(&mut self, site: &mut S) -> Result<Summary, Stop>
         requires running { (S.world site.old).stopped ≡ false }
         requires begins { IsBeginning S.tells self.old (S.world site.old) }
+        requires known { AreAnswersOf self.old }
         ensures ended { EndsFrom S.tells S.world site.old site.new self.old self.new result }
         ensures edges { IfOk result (AreEdgesOf self.new.graph) }
         ensures seen { IfErr result (λ stop. IfFault stop (IsSeen (S.world site.old) (S.world site.new))) }
@@ -41,6 +44,7 @@ impl Work<'_> {
     fn run_and_load<S: Site>(&mut self, site: &mut S) -> Result<Summary, Stop>
         requires running { (S.world site.old).stopped ≡ false }
         requires begins { IsBeginning S.tells self.old (S.world site.old) }
+        requires known { AreAnswersOf self.old }
         ensures done { DoneFrom S.tells S.world site.old site.new self.old self.new result }
         ensures edges { IfOk result (AreEdgesOf self.new.graph) }
         ensures well { OnOk result (GoesWell (S.world site.old) (S.world site.new)) }
@@ -59,7 +63,9 @@ impl Work<'_> {
     fn run_to_load<S: Site>(&mut self, site: &mut S) -> Result<Pause, Stop>
         requires running { (S.world site.old).stopped ≡ false }
         requires begins { IsBeginning S.tells self.old (S.world site.old) }
+        requires known { AreAnswersOf self.old }
         ensures graph { self.new.graph ≡ self.old.graph }
+        ensures known { OnOk result (AreAnswersOf self.new) }
         ensures pause { IfOk result (IsPauseOf self.old.graph) }
         ensures well { OnOk result (GoesWell (S.world site.old) (S.world site.new)) }
         ensures paused { PausesFrom S.tells S.world site.old site.new self.old self.new result }
@@ -105,18 +111,28 @@ impl Work<'_> {
     fn ask_for_sources<S: Site>(&mut self, site: &mut S) -> Result<(), Stop>
         requires running { (S.world site.old).stopped ≡ false }
         requires begins { IsBeginning S.tells self.old (S.world site.old) }
+        requires known { AreAnswersOf self.old }
         requires made { NoSourceIsDue self.old.graph self.old.plan }
         ensures graph { self.new.graph ≡ self.old.graph }
+        ensures known { OnOk result (AreAnswersOf self.new) }
         ensures well { OnOk result (GoesWell (S.world site.old) (S.world site.new)) }
         ensures asked { AsksFrom S.tells S.world site.old site.new self.old self.new result }
         ensures stop { IfErr result (IsStopOf (S.world site.old) (S.world site.new)) }
         ensures halted { HaltsOver S.tells S.world site.old site.new self.old self.new result }
     {
         log_stays();
+        dues_follow();
         lists_stand(&self.graph);
         match self.check_sources(site) {
             Ok(due) => {
-                let unstarted = unstarted_commands(&self.graph, &self.plan, &due);
+                let before = self.due.as_slice();
+                let unstarted = still_unstarted(
+                    &self.display,
+                    &self.graph,
+                    &self.plan,
+                    before,
+                    &due,
+                );
                 self.display.recount(unstarted);
                 self.due = due;
                 self.judge_clean();
@@ -130,7 +146,9 @@ impl Work<'_> {
     fn load_file<S: Site>(&mut self, site: &mut S, file: PathId) -> Result<(), Stop>
         requires running { (S.world site.old).stopped ≡ false }
         requires at { IsLoading S.tells self.old file (S.world site.old) }
+        requires known { AreAnswersOf self.old }
         ensures well { OnOk result (GoesWell (S.world site.old) (S.world site.new)) }
+        ensures known { OnOk result (AreAnswersOf self.new) }
         ensures fewer { OnOk result (HasFewerFiles self.old.graph self.new.graph) }
         ensures begun { Loads S.tells S.world site.old site.new file self.old self.new result }
         ensures stop { IfErr result (IsStopOf (S.world site.old) (S.world site.new)) }

@@ -4,6 +4,8 @@ ghost use Rattle.std.specs.Prelude.{◌≡◌, ◌<◌, true, false, is_some, ge
 ghost use Rattle.model.specs.Calls.{HasCause};
 ghost use Rattle.plan.specs.declared.step.Step.TheVariants as step;
 ghost use Rattle.plan.specs.Planned.{IsNext, IsPlanOver, is_stale};
+ghost use Rattle.judge.specs.KeptDues.{TellsSameBut};
+ghost use Rattle.work.specs.Answered.{StaysKept};
 ghost use Rattle.work.specs.After.{SeesFiles};
 ghost use Rattle.work.specs.Clean.{StaysKnowing, WasClean, IsCleanNext};
 ghost use Rattle.work.specs.Going.{IsGoing, GoesOn, ComesNearer};
@@ -12,7 +14,7 @@ ghost use Rattle.work.specs.Unmade.{AreSumsOf, AreMarkedOf};
 use crate::outputs::ask_before;
 use crate::state::Work;
 use graph::{Graph, lists_stand};
-use judge::{looks_follow, sums_follow};
+use judge::{dues_follow, looks_follow, sums_follow};
 use model::{Deps, Reason, SiteFault};
 use paths::{Action, EdgeId};
 use plan::{Step, Verdict};
@@ -34,6 +36,10 @@ impl Work<'_> {
         ensures on { OnOk result (GoesOn S.tells S.world site.old site.new self.old.graph self.old self.new) }
         ensures summed { AreSumsOf self.old.graph self.new }
         ensures marked { AreMarkedOf self.old.graph self.new }
+        ensures records { self.new.records ≡ self.old.records }
+        ensures answers { self.new.looks.sums.answers ≡ self.old.looks.sums.answers }
+        ensures cone { self.new.cone ≡ self.old.cone }
+        ensures told { OnOk result (TellsSameBut self.old.graph self.old.plan self.new.plan edge) }
         ensures plan { OnErr result (self.new.plan ≡ self.old.plan) }
     {
         lists_stand(&self.graph);
@@ -59,9 +65,12 @@ impl Work<'_> {
         requires { IsPlanOver self.old.graph self.old.plan }
         ensures graph { self.new.graph ≡ self.old.graph }
         ensures looks { self.new.looks ≡ self.old.looks }
+        ensures records { self.new.records ≡ self.old.records }
+        ensures kept { StaysKept self.old self.new }
         ensures on { StaysKnowing self.old.graph self.old self.new }
     {
         log_stays();
+        dues_follow();
         while let Some(edge) = self.next_clean() {
             self.plan.judged(&self.graph, edge, Verdict::Clean);
         }

@@ -33,7 +33,7 @@ mod turn;
 pub use cut::Cut;
 pub use display::{Display, Progress};
 pub use going::source_to_load;
-pub use laws::{orders_stand, phonies_record_none, sources_load};
+pub use laws::{makers_stand_first, orders_stand, phonies_record_none, sources_load};
 pub use names::{first_output, first_outputs, path_text, path_texts};
 pub use recorded::join_recorded;
 pub use report::{Missing, Options, Refusal, Report, Unfit};

@@ -1,6 +1,6 @@
 //! Loading dyndep files (manual: "Dynamic Dependencies").
 
-ghost use Rattle.std.specs.Prelude.{◌≡◌, ◌<◌, ◌≤◌, false, All, length, vec_len, IfOk, IfErr, OnOk, OnErr, Ok, Err};
+ghost use Rattle.std.specs.Prelude.{◌≡◌, ◌<◌, ◌≤◌, ℕ, true, false, All, length, IfOk, IfErr, OnOk, OnErr, Ok, Err};
 ghost use Rattle.model.specs.Records.{Store};
 ghost use Rattle.model.specs.SingleBuild.{Asked};
 ghost use Rattle.model.specs.Calls.{OnlyLooks};
@@ -10,10 +10,14 @@ ghost use Rattle.graph.specs.Alone.{HasChangedBy};
 ghost use Rattle.graph.specs.Back.{Undoes};
 ghost use Rattle.graph.specs.LoadedEdges.{numbers_in};
 ghost use Rattle.graph.specs.Targets.{IsNoConeAgain};
-ghost use Rattle.plan.specs.Staying.{MayGoOnBy, GoesOnAfter};
+ghost use Rattle.plan.specs.Flags.{has};
+ghost use Rattle.plan.specs.Staying.{MayGoOnBy, GoesOnAfter, AreInside};
+ghost use Rattle.judge.specs.Answers.{KnowsOthers};
+ghost use Rattle.judge.specs.KeptDues.{HasPlaces};
+ghost use Rattle.work.specs.Answered.{AreAnswersOf, ForgetsGrown, HasRoomToNote, NotesIfKept, NotesIfStill, NotesGrownIf};
 ghost use Rattle.work.specs.Cutting.{IsMet};
 ghost use Rattle.work.specs.Standing.{IsToLoad, Loads, RefusesLoad, StopsLoad, IsStopThere, IfRefused, IfFault, HasFewerFiles, OnRefusal, OnFault};
-ghost use Rattle.work.specs.Joined.{stop_of, IsMemory, MayJoin, HasRoomIn, StayKnown, IsUndone, IsLoaded, GoesOnBy, GoesOnOver, IsAskedOver, IsConeAgain, MayKeep, IsCircleOver, IsUnfitAt, IsUnfitOf, IsCircleOf, WasSaid, UnjoinedBy, UnjoinedOver, WereKnown, MayShrink, KeepsRest, StayKnownFrom, SawBefore, HasLoadedFile, JoinsFrom, IsUnreadAt, StopsAsSaid};
+ghost use Rattle.work.specs.Joined.{stop_of, IsMemory, MayJoin, HasRoomIn, StayKnown, IsUndone, IsLoaded, GoesOnBy, GoesOnOver, IsAskedOver, MayKeep, IsCircleOver, IsUnfitAt, IsUnfitOf, IsCircleOf, WasSaid, cone_then, HasMarksFor, IsConeBehind, UnjoinedBy, UnjoinedOver, WereKnown, MayShrink, KeepsRest, StayKnownFrom, SawBefore, HasLoadedFile, JoinsFrom, IsUnreadAt, StopsAsSaid};
 ghost use Rattle.work.specs.Recorded.{HasGrownAt, AreEdgesIn};
 
 use crate::names::{path_text, path_texts};
@@ -23,9 +27,10 @@ use crate::state::Work;
 use crate::stop::Stop;
 use dyndep::{Addition, DynFault, ReadError, one_answer, parse};
 use graph::{Before, Cone, ConeFault, ExtendFault, Graph, cones_stay, files_stand, lists_stand};
+use judge::{Dues, answers_follow, dues_follow};
 use model::SiteFault;
 use paths::PathId;
-use plan::{loads_go_on_by, task_of};
+use plan::{Plan, loads_go_on_by, task_of};
 use records::{Records, log_stays};
 use site::Site;
 use std::alloc::{AllocError, Global};
@@ -39,9 +44,11 @@ impl Work<'_> {
     pub fn load<S: Site>(&mut self, site: &mut S, file: PathId) -> Result<(), Stop>
         requires running { (S.world site.old).stopped ≡ false }
         requires at { IsToLoad S.tells self.old file (S.world site.old) }
+        requires known { AreAnswersOf self.old }
         ensures looks { OnlyLooks S.tells (S.world site.old) (S.world site.new) }
         ensures well { OnOk result (Unrefused (S.world site.old) (S.world site.new)) }
         ensures begun { Loads S.tells S.world site.old site.new file self.old self.new result }
+        ensures known { OnOk result (AreAnswersOf self.new) }
         ensures fewer { OnOk result (HasFewerFiles self.old.graph self.new.graph) }
         ensures stop { IfErr result (IsStopThere (S.world site.old) (S.world site.new)) }
         ensures undone { OnErr result (IsUndone self.old.graph self.new.graph self.old self.new) }
@@ -49,6 +56,8 @@ impl Work<'_> {
         ensures halted { StopsLoad S.tells S.world site.old site.new file self.old self.new result }
     {
         log_stays();
+        answers_follow();
+        dues_follow();
         one_answer();
         lists_stand(&self.graph);
         let additions = additions_in(self.alloc, site, &self.graph, file)?;
@@ -66,14 +75,18 @@ impl Work<'_> {
     /// Where it does not, all is as before, but for how the records are kept.
     fn join(&mut self, file: PathId, additions: &[Addition]) -> Result<(), Stop>
         requires may { (asked : Asked) × (store : Store) × MayJoin asked store self.old.graph self.old file }
+        requires inside { AreInside self.old.cone.marks.items self.old.plan.standings.items }
+        requires places { HasRoomToNote self.old }
         ensures goes { OnOk result (GoesOnBy file additions.now self.old self.new) }
         ensures room { OnOk result (HasRoomIn self.new.graph self.old self.new) }
         ensures known { OnOk result (StayKnown self.old.graph self.new.graph self.old.records self.new.records) }
+        ensures left { OnOk result (ForgetsGrown self.old self.new) }
         ensures logs { OnOk result (self.new.records.logs ≡ self.old.records.logs) }
         ensures undone { OnErr result (IsUndone self.old.graph self.new.graph self.old self.new) }
         ensures cause { OnRefusal result (UnjoinedBy file additions.now self.old) }
         ensures memory { IfErr result IsMemory }
     {
+        files_stand();
         let alloc = self.alloc;
         let before = extend(alloc, &mut self.graph, file, additions)?;
         match self.join_parts(&before) {
@@ -93,10 +106,15 @@ impl Work<'_> {
     /// Where that fails, the cone and the plan are as before, and what else was done can be undone.
     fn join_parts(&mut self, before: &Before) -> Result<(), Stop>
         requires loaded { IsLoaded self.old.graph self.old before.now }
+        requires inside { AreInside self.old.cone.marks.items self.old.plan.standings.items }
+        requires places { HasRoomToNote self.old }
         ensures goes { OnOk result (GoesOnOver before.now self.old self.new) }
         ensures room { OnOk result (HasRoomIn self.new.graph self.old self.new) }
         ensures known { OnOk result (StayKnownFrom self.old.graph self.new.graph self.old.records self.new.records) }
         ensures beside { KeepsRest self.old self.new }
+        ensures stays { OnOk result (HasGrownAt (numbers_in before.now.edges.items) self.old.graph self.new.graph) }
+        ensures answers { OnOk result (KnowsOthers (numbers_in before.now.edges.items) self.old.looks.sums.answers self.new.looks.sums.answers) }
+        ensures notes { OnOk result (NotesIfKept (numbers_in before.now.edges.items) self.old self.new) }
         ensures grown { OnErr result (HasGrownAt (numbers_in before.now.edges.items) self.old.graph self.new.graph) }
         ensures cone { OnErr result (self.new.cone ≡ self.old.cone) }
         ensures plan { OnErr result (self.new.plan ≡ self.old.plan) }
@@ -111,7 +129,7 @@ impl Work<'_> {
         join_inputs(alloc, &mut self.graph, &mut self.records, before)?;
         let grown = self.cone_again(before)?;
         self.grow(&grown, before)?;
-        self.cone = grown;
+        put_cone(&mut self.cone, grown);
         Ok(())
     }
 }
@@ -159,14 +177,14 @@ fn join_inputs(
 }
 
 impl Work<'_> {
-    /// The cone of the same targets over the graph as it is now, behind the load that this undoes. Where the edges that it changed are in
-    /// their places, it is the one that was.
-    fn cone_again(&self, before: &Before) -> Result<Cone, Stop>
+    /// The cone of the same targets over the graph as it is now, behind the load that this undoes; none where the edges that it changed
+    /// are in their places: then it is the one that was.
+    fn cone_again(&self, before: &Before) -> Result<Option<Cone>, Stop>
         requires targets { All (λ p. p < length self.now.graph.manifest.paths) self.now.cone.targets.items }
         requires asked { IsAskedOver self.now.graph self.now.cone.targets.items }
         requires kept { MayKeep self.now.graph self.now.cone before.now }
-        ensures marks { IfOk result (λ grown. vec_len grown.marks ≡ length self.now.graph.manifest.lines) }
-        ensures cone { IfOk result (IsConeAgain self.now.graph self.now.cone.targets.items) }
+        ensures marks { IfOk result (λ grown. HasMarksFor self.now.graph (cone_then self.now.cone grown)) }
+        ensures cone { IfOk result (IsConeBehind self.now) }
         ensures refused { OnRefusal result (IsCircleOver self.now.graph self.now.cone.targets.items) }
         ensures memory { IfErr result IsMemory }
     {
@@ -175,33 +193,98 @@ impl Work<'_> {
         files_stand();
         cones_stay();
         if self.graph.are_in_place(&self.cone, &before.edges) {
-            let copied = self.cone.copied(alloc)?;
-            return Ok(copied);
+            return Ok(None);
         }
         let targets = self.cone.targets.as_slice().to_vec(alloc)?;
         match self.graph.cone_again(alloc, targets) {
-            Ok(grown) => Ok(grown),
+            Ok(grown) => Ok(Some(grown)),
             Err(fault) => Err(circle(alloc, &self.graph, fault)?),
         }
     }
 
-    /// The run goes on over the graph as it is now, of whose targets this is the cone, behind the load that this undoes.
-    fn grow(&mut self, cone: &Cone, before: &Before) -> Result<(), AllocError>
-        requires marks { vec_len cone.now.marks ≡ length self.old.graph.manifest.lines }
+    /// The run goes on over the graph as it is now, of whose targets this is the cone, or the one that was where there is none, behind
+    /// the load that this undoes. What was found of its edges is forgotten.
+    fn grow(&mut self, grown: &Option<Cone>, before: &Before) -> Result<(), AllocError>
+        requires marks { HasMarksFor self.old.graph (cone_then self.old.cone grown.now) }
+        requires inside { AreInside self.old.cone.marks.items self.old.plan.standings.items }
+        requires places { HasRoomToNote self.old }
+        requires edges { AreEdgesIn self.old.graph (numbers_in before.now.edges.items) }
         requires may { (was : GraphOf) × MayGoOnBy was self.old.graph self.old.plan before.now }
         requires fits { length self.old.looks.seen.items ≤ length self.old.graph.manifest.paths }
         ensures graph { self.new.graph ≡ self.old.graph }
-        ensures planned { OnOk result (GoesOnAfter self.old.graph cone.now self.old.plan self.new.plan before.now) }
+        ensures planned { OnOk result (GoesOnAfter self.old.graph (cone_then self.old.cone grown.now) self.old.plan self.new.plan before.now) }
         ensures room { OnOk result (HasRoomIn self.old.graph self.old self.new) }
         ensures records { self.new.records ≡ self.old.records }
+        ensures answers { OnOk result (KnowsOthers (numbers_in before.now.edges.items) self.old.looks.sums.answers self.new.looks.sums.answers) }
+        ensures notes { OnOk result (NotesIfStill grown.now (numbers_in before.now.edges.items) self.old self.new) }
         ensures cone { self.new.cone ≡ self.old.cone }
         ensures beside { KeepsRest self.old self.new }
         ensures plan { OnErr result (self.new.plan ≡ self.old.plan) }
         ensures looks { SawBefore self.old.looks self.new.looks }
     {
         self.looks.grow(&self.graph)?;
-        self.plan.extend_by(self.alloc, &self.graph, cone, before)?;
+        extend_plan(
+            self.alloc,
+            &mut self.plan,
+            &self.graph,
+            &self.cone,
+            grown,
+            before,
+        )?;
+        self.looks.sums.answers.forget(&before.edges);
+        note_load(
+            &mut self.looks.sums.answers.dues,
+            &self.graph,
+            &self.cone,
+            grown,
+            before,
+        );
         Ok(())
+    }
+}
+
+/// The flags that are kept are to be found again of the edges that a load has changed, and of those that need what they make; none is
+/// kept over a cone that was made.
+fn note_load(dues: &mut Dues, graph: &Graph, kept: &Cone, grown: &Option<Cone>, before: &Before)
+    requires edges { AreEdgesIn graph.now (numbers_in before.now.edges.items) }
+    requires marks { HasMarksFor graph.now (cone_then kept.now grown.now) }
+    requires places { dues.old.known ≡ true → HasPlaces kept.now dues.old }
+    ensures { NotesGrownIf graph.now kept.now grown.now (numbers_in before.now.edges.items) dues.old dues.new }
+{
+    match grown {
+        Some(_) => dues.forget(),
+        None => dues.note_loaded(graph, kept, &before.edges),
+    }
+}
+
+/// The plan goes on over the cone that was made; else over the one that was, in which just the edges stand that stood in it.
+fn extend_plan(
+    alloc: Global,
+    plan: &mut Plan,
+    graph: &Graph,
+    kept: &Cone,
+    grown: &Option<Cone>,
+    before: &Before,
+) -> Result<(), AllocError>
+    requires marks { HasMarksFor graph.now (cone_then kept.now grown.now) }
+    requires inside { AreInside kept.now.marks.items plan.old.standings.items }
+    requires may { (was : GraphOf) × MayGoOnBy was graph.now plan.old before.now }
+    ensures flags { OnOk result ((p : ℕ) → has plan.new.changed.items p ≡ has plan.old.changed.items p) }
+    ensures planned { OnOk result (GoesOnAfter graph.now (cone_then kept.now grown.now) plan.old plan.new before.now) }
+    ensures err { OnErr result (plan.new ≡ plan.old) }
+{
+    match grown {
+        Some(cone) => plan.extend_by(alloc, graph, cone, before),
+        None => plan.extend_inside(alloc, graph, kept, before),
+    }
+}
+
+/// Takes the one that was made in the place of the one that was, if there is one.
+fn put_cone(cone: &mut Cone, grown: Option<Cone>)
+    ensures { cone.new ≡ cone_then cone.old grown }
+{
+    if let Some(made) = grown {
+        *cone = made;
     }
 }
 

@@ -17,8 +17,9 @@ pub fn join_recorded(alloc: Global, graph: &mut Graph, records: &Records) -> Res
     requires known { KnowsSome graph.old records.now }
     ensures { OnOk result (JoinsAll graph.old graph.new records.now) }
 {
-    graph.reserve_inputs(count_of(graph, records))?;
-    let mut numbers = Numbers::new(alloc);
+    let named = times_named(alloc, graph, records)?;
+    graph.reserve_inputs(sum(&named))?;
+    let mut numbers = Numbers::counted(alloc, named);
     for place in 0..graph.edges() {
         let edge = graph.manifest.edge(place);
         numbers.join_edge(graph, records, edge)?;
@@ -45,25 +46,64 @@ pub fn join_loaded(
     Ok(())
 }
 
-/// How many paths the deps records name that are in force for what edges make.
-fn count_of(graph: &Graph, records: &Records) -> usize {
-    let mut count = 0usize;
+/// How often the deps records name each path of the deps log that are in force for what edges make.
+fn times_named(alloc: Global, graph: &Graph, records: &Records) -> Result<Vec<u32>, AllocError> {
+    let mut named = Vec::new(alloc);
     for place in 0..graph.edges() {
         let edge = graph.manifest.edge(place);
-        count = count.saturating_add(count_named(records, graph.outputs(edge)));
+        count_outputs(records, graph.outputs(edge), &mut named)?;
     }
-    count
+    Ok(named)
 }
 
-/// How many paths the deps records in force for these outputs name.
-fn count_named(records: &Records, outputs: &[PathId]) -> usize {
-    let mut count = 0usize;
+/// Counts the paths once more each that the deps records in force for these outputs name. A record is counted once for outputs one behind
+/// another, as it joins an edge once for them.
+fn count_outputs(
+    records: &Records,
+    outputs: &[PathId],
+    named: &mut Vec<u32>,
+) -> Result<(), AllocError> {
+    let mut before = None;
     for output in outputs {
-        if let Some(deps) = records.deps(*output) {
-            count = count.saturating_add(deps.paths.as_slice().len());
+        let place = place_of(records, *output);
+        if place != before {
+            count_output(records, *output, named)?;
+        }
+        before = place;
+    }
+    Ok(())
+}
+
+/// Counts the paths once more each that the deps record in force for the output names, if there is one.
+fn count_output(records: &Records, output: PathId, named: &mut Vec<u32>) -> Result<(), AllocError> {
+    if let Some(deps) = records.deps(output) {
+        count_named(deps.paths.as_slice(), named)?;
+    }
+    Ok(())
+}
+
+/// Counts these paths once more each.
+fn count_named(paths: &[u32], named: &mut Vec<u32>) -> Result<(), AllocError> {
+    for path in paths {
+        let place = *path as usize;
+        if place >= named.len() {
+            let twice = named.len().saturating_mul(2);
+            named.resize(twice.max(place.saturating_add(1)), 0)?;
+        }
+        if let Some(times) = named.get_mut(place) {
+            *times = times.saturating_add(1);
         }
     }
-    count
+    Ok(())
+}
+
+/// How many these are in all.
+fn sum(counts: &[u32]) -> usize {
+    let mut sum = 0usize;
+    for count in counts {
+        sum = sum.saturating_add(*count as usize);
+    }
+    sum
 }
 
 /// The numbers that the graph has for paths of the deps log, as far as they are known.
@@ -71,6 +111,8 @@ fn count_named(records: &Records, outputs: &[PathId]) -> usize {
 pub struct Numbers {
     alloc: Global,
     known: Vec<Option<PathId>>,
+    /// How often records name each path of the deps log, where that was counted.
+    named: Vec<u32>,
 }
 
 impl Numbers {
@@ -78,9 +120,25 @@ impl Numbers {
     fn new(alloc: Global) -> Numbers
         ensures { result.known.items ≡ [] }
     {
+        Numbers::counted(alloc, Vec::new(alloc))
+    }
+
+    /// None is known yet, and each path of the deps log is named so often.
+    fn counted(alloc: Global, named: Vec<u32>) -> Numbers
+        ensures { result.known.items ≡ [] }
+    {
         Numbers {
             alloc,
             known: Vec::new(alloc),
+            named,
+        }
+    }
+
+    /// How often records name a path of the deps log, as far as that was counted.
+    fn times(&self, path: usize) -> usize {
+        match self.named.get(path) {
+            Some(times) => *times as usize,
+            None => 0,
         }
     }
 
@@ -179,20 +237,20 @@ impl Numbers {
         graph: &mut Graph,
         records: &Records,
         inputs: &mut PathSet,
-        path: usize,
+        path: u32,
     ) -> Result<(), AllocError>
         ensures grown { HasOnlyMorePaths graph.old graph.new }
         ensures numbered { StayNumbered graph.old graph.new records.now self.old self.new }
         ensures inputs { OnOk result (AddsText graph.old graph.new records.now self.old inputs.old inputs.new path) }
     {
-        if let Some(number) = number_at(&self.known, path) {
+        if let Some(number) = number_at(&self.known, path as usize) {
             inputs.insert(number)?;
             return Ok(());
         }
         let Some(text) = records.deps_path(path) else {
             return Ok(());
         };
-        let number = self.number_of(graph, path, text)?;
+        let number = self.number_of(graph, path as usize, text)?;
         inputs.insert(number)?;
         Ok(())
     }
@@ -212,7 +270,7 @@ impl Numbers {
         if let Some(number) = number_at(&self.known, path) {
             return Ok(number);
         }
-        let number = graph.add_path(self.alloc, text)?;
+        let number = graph.add_named(self.alloc, text, self.times(path))?;
         note_number(&mut self.known, path, number)?;
         Ok(number)
     }

@@ -7,9 +7,10 @@ ghost use Rattle.work.specs.Removing.{RemovesIfNamed, WritesResponse};
 
 use model::{Act, SiteFault};
 use site::Site;
+use std::alloc::Global;
 
 /// Writes the response file that the act names, if it names one. Where it fails, anything may stand there.
-pub fn write_response<S: Site>(site: &mut S, act: &Act) -> Result<(), SiteFault>
+pub fn write_response<S: Site>(alloc: Global, site: &mut S, act: &Act) -> Result<(), SiteFault>
     requires running { (S.world site.old).stopped ≡ false }
     ensures cause { HasCause (S.world site.old) (S.world site.new) result }
     ensures none { act.now.response_path ≡ [] → IsOk result × (S.world site.new ≡ S.world site.old) }
@@ -19,10 +20,8 @@ pub fn write_response<S: Site>(site: &mut S, act: &Act) -> Result<(), SiteFault>
     if act.response_path.is_empty() {
         return Ok(());
     }
-    site.write(
-        act.response_path.as_str(),
-        act.response_content.as_str().as_bytes(),
-    )
+    let content = act.response_content.to_text(alloc)?;
+    site.write(act.response_path.as_str(), content.as_str().as_bytes())
 }
 
 /// Removes the response file that the act names, if it names one. Where it fails, it is as it was, or gone.

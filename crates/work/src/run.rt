@@ -1,7 +1,8 @@
 //! Running commands until a plan has ended, or a dyndep file is to be loaded.
 
-ghost use Rattle.std.specs.Prelude.{◌≡◌, true, false, IfOk, IfErr, OnErr, Ok};
+ghost use Rattle.std.specs.Prelude.{◌≡◌, true, false, IfOk, IfErr, OnOk, OnErr, Ok};
 ghost use Rattle.theory.specs.Seen.{IsSeen, Unrefused, StartsUnrefused};
+ghost use Rattle.work.specs.Answered.{AreAnswersOf};
 ghost use Rattle.work.specs.Cut.{fault_of, IsLeft};
 ghost use Rattle.work.specs.After.{ComesAfter, SeesOn};
 ghost use Rattle.work.specs.Going.{IsGoing, Halts, CutsOff};
@@ -34,7 +35,9 @@ impl Work<'_> {
     pub fn run_plan<S: Site>(&mut self, site: &mut S) -> Result<Pause, Cut>
         requires running { (S.world site.old).stopped ≡ false }
         requires going { IsGoing S.tells true self.old.graph self.old (S.world site.old) }
+        requires known { AreAnswersOf self.old }
         ensures graph { self.new.graph ≡ self.old.graph }
+        ensures known { OnOk result (AreAnswersOf self.new) }
         ensures ran { PausesSo S.tells S.world site.old site.new self.old.graph self.old self.new result }
         ensures pause { IfOk result (IsPauseOf self.old.graph) }
         ensures grows { ComesAfter S.tells (S.world site.old) (S.world site.new) }
@@ -55,7 +58,9 @@ impl Work<'_> {
     fn run<S: Site>(&mut self, site: &mut S) -> Result<Halt, Cut>
         requires running { (S.world site.old).stopped ≡ false }
         requires going { IsGoing S.tells true self.old.graph self.old (S.world site.old) }
+        requires known { AreAnswersOf self.old }
         ensures graph { self.new.graph ≡ self.old.graph }
+        ensures known { OnOk result (AreAnswersOf self.new) }
         ensures cuts { Cuts (S.world site.old) (S.world site.new) result }
         ensures grows { ComesAfter S.tells (S.world site.old) (S.world site.new) }
         ensures looked { SeesOn S.tells S.world site.old site.new self.old self.new result }
@@ -76,6 +81,9 @@ impl Work<'_> {
     fn paused(&mut self, halt: Halt) -> Pause
         ensures graph { self.new.graph ≡ self.old.graph }
         ensures looks { self.new.looks ≡ self.old.looks }
+        ensures records { self.new.records ≡ self.old.records }
+        ensures cone { self.new.cone ≡ self.old.cone }
+        ensures plan { self.new.plan ≡ self.old.plan }
         ensures pauses { Pauses self.old self.new halt result }
     {
         match halt {

@@ -5,6 +5,8 @@ ghost use Rattle.std.specs.Option.{option_map};
 ghost use Rattle.theory.specs.Seen.{Unrefused};
 ghost use Rattle.paths.specs.Told.{text_at};
 ghost use Rattle.judge.specs.Lacks.{IsEdgeBelow, IsLackOf};
+ghost use Rattle.judge.specs.KeptDues.{HasMakersFirst};
+ghost use Rattle.work.specs.Answered.{AreAnswersOf, AnswersKept};
 ghost use Rattle.work.specs.Ends.{first_output_of};
 ghost use Rattle.work.specs.Sources.{with_looks, FindsDueFlags, FindsSources, FindsLacking, TellsWhoNeeds};
 ghost use Rattle.work.specs.After.{SeesFiles};
@@ -29,10 +31,14 @@ impl Work<'_> {
         requires order { All (λ e. e < length self.old.graph.manifest.lines) self.old.cone.order.items }
         requires targets { All (λ p. p < length self.old.graph.manifest.paths) self.old.cone.targets.items }
         requires plan { vec_len self.old.plan.standings ≡ length self.old.graph.manifest.lines }
+        requires known { AreAnswersOf self.old }
+        requires placed { HasMakersFirst self.old.graph self.old.cone }
         ensures looked { SeesFiles S.tells S.world site.old site.new self.old self.new }
         ensures beside { self.new ≡ with_looks self.old self.new.looks }
+        ensures known { AreAnswersOf self.new }
         ensures passed { OnOk result (Unrefused (S.world site.old) (S.world site.new)) }
         ensures due { FindsDueFlags S.tells S.world site.old site.new self.old result }
+        ensures flags { AnswersKept self.new result }
         ensures sources { FindsSources S.tells S.world site.old site.new self.old result }
         ensures lacking { FindsLacking S.tells S.world site.old site.new self.old result }
     {

@@ -5,6 +5,7 @@ ghost use Rattle.model.specs.Schedule.{Started};
 ghost use Rattle.model.specs.Calls.{OnlyLooks, HasCause};
 ghost use Rattle.model.specs.Graph.{IsCommand};
 ghost use Rattle.theory.specs.Seen.{StartsUnrefused};
+ghost use Rattle.judge.specs.Answers.{TellSame};
 ghost use Rattle.graph.specs.Told.{declared_by};
 ghost use Rattle.plan.specs.declared.step.Step.TheVariants as step;
 ghost use Rattle.plan.specs.Planned.{TakesStep, IsOffered, IsNext};
@@ -47,6 +48,7 @@ impl Work<'_> {
         ensures nearer { OnOk result (ComesNearer self.old self.new) }
         ensures looks { self.new.looks ≡ self.old.looks }
         ensures changed { self.new.plan.changed ≡ self.old.plan.changed }
+        ensures told { TellSame self.old.records self.new.records }
         ensures on { OnOk result (GoesOn S.tells S.world site.old site.new self.old.graph self.old self.new) }
         ensures cut { OnErr result (CutsOff S.tells S.world site.old site.new self.old.graph self.old self.new) }
     {
@@ -86,13 +88,14 @@ impl Work<'_> {
         ensures nearer { OnOk result (ComesNearer self.old self.new) }
         ensures looks { self.new.looks ≡ self.old.looks }
         ensures changed { self.new.plan.changed ≡ self.old.plan.changed }
+        ensures records { self.new.records ≡ self.old.records }
         ensures on { LaunchesOn S.tells S.world site.old site.new edge self.old self.new result }
         ensures cut { CutsLaunch S.tells S.world site.old site.new edge self.old self.new result }
     {
         log_stays();
         let act = act(&self.graph, edge);
         remove_old_depfile(site, act)?;
-        write_response(site, act)?;
+        write_response(self.alloc, site, act)?;
         let stamp = site.tick(self.tick.as_str())?;
         note_stamp(&mut self.starts, edge, stamp);
         let known = site.events().len();

@@ -42,3 +42,6 @@ returns-clause-explains g c =
     subst (λ (b : BuildGraph). ExplainsBuild tells b asked old new explained.commands.items) opens.same
     (explains_before tells (declared_by grown) asked old mid new explained.commands.items c.opened.ensures.looks
     (record { course = course; asked = refl; entry = mid; looks = looks_nothing tells mid; explains = so course (declared_by grown).edges [] begins })))
+
+pub explain_state-requires-clause-known : goal.explain_state-requires-clause-known
+explain_state-requires-clause-known g c = c.in_ok-state.ensures.known

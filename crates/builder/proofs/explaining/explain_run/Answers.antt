@@ -12,6 +12,11 @@ check_sources-requires-clause-order g c =
     let begins = c.requires.begins in
     c.orders_stand.ensures g.S.Texts.tells begins.0 begins.1 begins.2 c.args.state.now (g.S.Texts.world c.args.site.now) begins.3.stands
 
+pub check_sources-requires-clause-placed : goal.check_sources-requires-clause-placed
+check_sources-requires-clause-placed g c =
+    let begins = c.requires.begins in
+    c.makers_stand_first.ensures g.S.Texts.tells begins.0 begins.1 begins.2 c.args.state.now (g.S.Texts.world c.args.site.now) begins.3.stands
+
 pub check_sources-requires-clause-targets : goal.check_sources-requires-clause-targets
 check_sources-requires-clause-targets g c = c.requires.begins.3.stands.on.cone.within
 

@@ -29,3 +29,6 @@ returns-clause-explains g c course edges phases begins =
       after = c.explain_run.new.state.looks;
       dues = c.in_ok-explain_run.ensures.tells;
     }
+
+pub explain_run-requires-clause-known : goal.explain_run-requires-clause-known
+explain_run-requires-clause-known g c = c.in_ok-load_sources.ensures.known

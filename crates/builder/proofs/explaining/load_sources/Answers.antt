@@ -4,6 +4,7 @@ use Rattle.builder.proofs.explaining.load_sources.Goals as goal
 
 pub sources-init : goal.sources-init
 sources-init g c = record {
+  known = c.requires.known;
   looks = looks_nothing g.S.Texts.tells (g.S.Texts.world c.args.site.now);
   running = c.requires.running;
   begins = λ course edges phases begins. (edges, phases, begins);
@@ -23,6 +24,7 @@ returns-in_err-load-in-Some-clause-looks g c =
 
 pub sources-preserved : goal.sources-preserved
 sources-preserved g c = record {
+  known = c.in_ok-load-in-Some.ensures.known;
   looks = looks_then g.S.Texts.tells (g.S.Texts.world c.args.site.now) (g.S.Texts.world c.sources.site) (g.S.Texts.world c.load.new.site) c.sources.invariant.looks c.load.ensures.looks;
   running = c.in_ok-load-in-Some.ensures.well.goes_on;
   begins = λ course edges phases begins.
@@ -32,3 +34,9 @@ sources-preserved g c = record {
       let begun = c.in_ok-load-in-Some.ensures.begun course at.0 at.1 next in
       (begun.0, at.1 ++ begun.1 ∷ [], begun.2);
 }
+
+pub load-requires-clause-known : goal.load-requires-clause-known
+load-requires-clause-known g c = c.sources.invariant.known
+
+pub returns-in-None-clause-known : goal.returns-in-None-clause-known
+returns-in-None-clause-known g c = c.sources.invariant.known

@@ -17,3 +17,6 @@ pub returns-in-Ok : goal.returns-in-Ok
 returns-in-Ok g c =
     opened_reported g.S.Texts.tells c.args.graph c.args.asked.now (g.S.Texts.world c.args.site.now) (g.S.Texts.world c.opened.new.site) c.in-Ok.state c.in-Ok.ensures.opened c.requires.formed c.requires.linked
     c.reported-told.new.state.graph c.reported-told.new.state (g.S.Texts.world c.reported-told.new.site) c.reported-told.result c.reported-told.ensures
+
+pub reported-told-requires-clause-known : goal.reported-told-requires-clause-known
+reported-told-requires-clause-known g c = c.in-Ok.ensures.known

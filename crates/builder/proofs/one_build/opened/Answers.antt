@@ -107,3 +107,6 @@ returns-clause-opened g c =
           (has_read c.log_begins.ensures tells c.args.graph new asked c.in_ok-records.records were.0 were.1 (g.S.Texts.world c.args.site.now) read c.read_records.ensures.looks c.in_ok-records.ensures.unrefused c.in_ok-records.ensures.build_log c.in_ok-records.ensures.deps_log were.3 joined
           B format own entry depfiles dyndeps reads owned idle looked));
     }
+
+pub returns-clause-known : goal.returns-clause-known
+returns-clause-known g c = c.in_ok-state.ensures.known

@@ -1,4 +1,5 @@
-use Rattle.std.proofs.Common.{rules}
+use Rattle.std.proofs.Common.{sym, ◌∙◌, rules}
+use Rattle.std.proofs.lemmas.Bool.{false≢true}
 use Rattle.work.specs.declared.report.Report.{Report}
 use Rattle.builder.specs.Reports.{SaysNoCone}
 use Rattle.builder.proofs.Stages.{refused_by}
@@ -15,4 +16,10 @@ returns-clause-fresh c = record {
   tick = c.in_ok-fresh.ensures.tick;
   failed = search rules;
   starts = c.in_ok-fresh.ensures.starts;
+}
+
+pub returns-clause-known : goal.returns-clause-known
+returns-clause-known c = record {
+  known = c.answers_follow.ensures.none c.args.graph c.args.records c.in_ok-fresh.fresh.looks.seen.items c.in_ok-fresh.fresh.looks.sums.answers c.in_ok-fresh.ensures.answers;
+  kept = λ on. absurd (false≢true (sym c.in_ok-fresh.ensures.dues ∙ on));
 }

@@ -8,7 +8,7 @@ use Rattle.dyndep.proofs.statements.additions_of.Goals as goal
 
 pub returns-in_err-addition-clause-fault : goal.returns-in_err-addition-clause-fault
 returns-in_err-addition-clause-fault c =
-    let p = err_from_is_err_and c.from_residual.result c.from_residual.ensures.1 in
+    let p = err_from_is_err_and c.from_residual-in_err-addition.result c.from_residual-in_err-addition.ensures.1 in
     let far = subst (λ (left : List Form). AddsSoFar (forms_in c.args.lines.now) left c.statements.additions) (ap forms_in c.in-Some.ensures.cases.0) c.statements.invariant in
     rw (p.1, p.2) (refused c.in_err-addition.field-0.0 c.in_err-addition.ensures.fault (none_added (forms_in c.args.lines.now) (forms_in c.in-Some.rest.now) _ _ _ c.statements.additions far c.split_block.ensures))
 

@@ -23,7 +23,7 @@ returns c =
       inputs_are = λ e. sym (inputs_are graph e);
       regular_are = λ e. sym (ap regular_inputs (edge_is graph e) ∙ regular_of paths (line e) (action e));
       phony_is = λ e. sym (ap (λ (edge : Edge). edge.phony) (edge_is graph e) ∙ phony_of paths (line e) (action e));
-      makers = λ p lt. maker_is graph.manifest graph.makers.items graph.making graph.apart p lt;
+      makers = λ p lt. maker_is graph.manifest graph.makers graph.making graph.apart p lt;
       outputs_within = λ e p h. let low = output_below graph.manifest e p h in omega (arith, low, graph.manifest.names);
       inputs_within = λ e p h. let low = input_below graph.manifest e p h in omega (arith, low, graph.manifest.names);
       regular_within = λ e p h.

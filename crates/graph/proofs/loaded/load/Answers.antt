@@ -10,6 +10,7 @@ use Rattle.graph.specs.declared.choice.Choice.{Choice}
 use Rattle.graph.specs.declared.loaded.Gain.{Gain}
 use Rattle.graph.specs.Chosen.{chosen_edges, choice_in, AreRising, IsWithin}
 use Rattle.graph.specs.Extended.{addition_of}
+use Rattle.graph.specs.Gains.{HaveGainedBy, HaveGrown}
 use Rattle.graph.specs.Held.{list_at, more_lists, times}
 use Rattle.graph.specs.InTurn.{lines_given, users_given, AreInputsBelow, AreOutputsBelow, AreGivenTo}
 use Rattle.graph.specs.Statements.{AreGainsIn, AreGrownLines, AreChoicesBelow, AreLoadedActions}
@@ -151,40 +152,40 @@ returns-in-Err-clause-fault c =
     let grown : AreGrownLines manifest.lines (choice_in chosen) c.deref.result.now c.grow_lines.new.lines = lines_are c.deref.result.now manifest.lines c.grow_lines.new.lines chosen c.requires.rising c.in_ok-grow_lines.ensures.ok in
     load_fault manifest additions (choice_in chosen) c.deref.result.now paths c.grow_lines.new.lines c.in-Err.fault c.in-Err.ensures.fault c.gains_of.ensures.more gained grown
 
-pub parts_of-requires-clause-users : goal.parts_of-requires-clause-users
-parts_of-requires-clause-users c =
+pub grow_parts-requires-clause-users : goal.grow_parts-requires-clause-users
+grow_parts-requires-clause-users c =
     let long = more_length c.args.manifest.now.paths c.gains_of.new.paths c.gains_of.ensures.more in
-    let fits = c.requires.users.fits in
+    let fits = c.requires.users.2.fits in
     omega (arith, long, fits)
 
-pub parts_of-requires-clause-inputs : goal.parts_of-requires-clause-inputs
-parts_of-requires-clause-inputs c =
+pub grow_parts-requires-clause-inputs : goal.grow_parts-requires-clause-inputs
+grow_parts-requires-clause-inputs c =
     subst (λ (l : List Gain). AreInputsBelow (length c.gains_of.new.paths) l) (sym {A = List Gain} c.deref-2.ensures.value) (inputs_below c.gains_of.new.paths (map addition_of c.args.additions.now) c.in_ok-gains.gains.items c.in_ok-gains.ensures.gains)
 
-pub parts_of-requires-clause-makers : goal.parts_of-requires-clause-makers
-parts_of-requires-clause-makers c =
+pub grow_parts-requires-clause-makers : goal.grow_parts-requires-clause-makers
+grow_parts-requires-clause-makers c =
     let long = more_length c.args.manifest.now.paths c.gains_of.new.paths c.gains_of.ensures.more in
     let fits = c.requires.makers.fits in
     omega (arith, long, fits)
 
-pub parts_of-requires-clause-outputs : goal.parts_of-requires-clause-outputs
-parts_of-requires-clause-outputs c =
+pub grow_parts-requires-clause-outputs : goal.grow_parts-requires-clause-outputs
+grow_parts-requires-clause-outputs c =
     subst (λ (l : List Gain). AreOutputsBelow (length c.gains_of.new.paths) l) (sym {A = List Gain} c.deref-2.ensures.value) (outputs_below c.gains_of.new.paths (map addition_of c.args.additions.now) c.in_ok-gains.gains.items c.in_ok-gains.ensures.gains)
 
-pub parts_of-requires-clause-grown : goal.parts_of-requires-clause-grown
-parts_of-requires-clause-grown c =
+pub grow_parts-requires-clause-grown : goal.grow_parts-requires-clause-grown
+grow_parts-requires-clause-grown c =
     let manifest = c.args.manifest.now in
     let additions = map addition_of c.args.additions.now in
     let gained : AreGainsIn c.gains_of.new.paths additions c.deref-2.result.now = subst (AreGainsIn c.gains_of.new.paths additions) (sym {A = List Gain} c.deref-2.ensures.value) c.in_ok-gains.ensures.gains in
     record {
       before = manifest.lines;
-      makers_are = are_makers manifest c.args.kept.makers.now c.requires.makers;
+      makers_are = are_makers manifest c.args.parts.now.makers c.requires.makers;
       within = subst (λ (n : ℕ). All (IsWithin (length manifest.lines) n) c.args.chosen.now) (sym (gained.fits ∙ length-map c.args.additions.now addition_of)) c.requires.within;
       are = c.in_ok-grow_lines.ensures.ok ∙ ap (λ (l : List Gain). lines_given l manifest.lines c.args.chosen.now) (c.deref.ensures.value ∙ sym c.deref-2.ensures.value);
     }
 
 pub returns-in-Ok-clause-users : goal.returns-in-Ok-clause-users
-returns-in-Ok-clause-users c =
+returns-in-Ok-clause-users c recorded noted using =
     let manifest = c.args.manifest.now in
     let paths = c.gains_of.new.paths in
     let chosen = c.args.chosen.now in
@@ -193,17 +194,29 @@ returns-in-Ok-clause-users c =
     let gains = c.in_ok-gains.gains.items in
     let grown : AreGrownLines manifest.lines (choice_in chosen) gains lines =
     lines_are gains manifest.lines lines chosen c.requires.rising (c.in_ok-grow_lines.ensures.ok ∙ ap (λ (l : List Gain). lines_given l manifest.lines chosen) c.deref.ensures.value) in
-    let users = c.args.kept.users.now in
-    let recorded = c.args.kept.recorded.now in
+    let users = c.args.parts.now.users in
     let below = inputs_below paths additions gains c.in_ok-gains.ensures.gains in
-    let are : c.in-Ok.parts.users ≡ users_given gains (more_lists users (length paths)) chosen = c.in-Ok.ensures.users ∙ ap (λ (l : List Gain). users_given l (more_lists users (length paths)) chosen) c.deref-2.ensures.value in
+    let are : c.grow_parts.new.parts.users ≡ users_given gains (more_lists users (length paths)) chosen = c.in-Ok.ensures.users ∙ ap (λ (l : List Gain). users_given l (more_lists users (length paths)) chosen) c.deref-2.ensures.value in
     record {
       fits = ap (λ (l : List (List ℕ)). length l) are
-          ∙ users_fit manifest paths lines recorded users c.requires.recorded c.requires.users c.gains_of.ensures.more gains below chosen c.requires.rising (length c.args.additions.now) c.requires.within grown;
+          ∙ users_fit manifest paths lines recorded users noted using c.gains_of.ensures.more gains below chosen c.requires.rising (length c.args.additions.now) c.requires.within grown;
       counted = λ p e low.
           ap (λ (l : List (List ℕ)). times (list_at l p) e) are
-          ∙ users_counted manifest paths lines recorded users c.requires.recorded c.requires.users c.gains_of.ensures.more gains below chosen c.requires.rising (length c.args.additions.now) c.requires.within grown p e low;
+          ∙ users_counted manifest paths lines recorded users noted using c.gains_of.ensures.more gains below chosen c.requires.rising (length c.args.additions.now) c.requires.within grown p e low;
     }
+
+pub returns-in-Ok-clause-gained : goal.returns-in-Ok-clause-gained
+returns-in-Ok-clause-gained c = subst (λ (l : List Gain). HaveGainedBy l c.args.chosen.now c.args.parts.now.makers c.grow_parts.new.parts.makers) c.deref-2.ensures.value c.in-Ok.ensures.gained
+
+pub returns-in-Ok-clause-grown : goal.returns-in-Ok-clause-grown
+returns-in-Ok-clause-grown c = subst (λ (l : List Gain). HaveGrown l c.args.chosen.now c.args.parts.now.users c.grow_parts.new.parts.users) c.deref-2.ensures.value c.in-Ok.ensures.grown
+
+pub returns-in-Ok-clause-inputs : goal.returns-in-Ok-clause-inputs
+returns-in-Ok-clause-inputs c = inputs_below c.gains_of.new.paths (map addition_of c.args.additions.now) c.in_ok-gains.gains.items c.in_ok-gains.ensures.gains
+
+pub returns-in-Ok-clause-outputs : goal.returns-in-Ok-clause-outputs
+returns-in-Ok-clause-outputs c =
+    subst (λ (n : ℕ). AreOutputsBelow n c.in_ok-gains.gains.items) (sym {A = ℕ} c.in-Ok.ensures.fits) (outputs_below c.gains_of.new.paths (map addition_of c.args.additions.now) c.in_ok-gains.gains.items c.in_ok-gains.ensures.gains)
 
 pub shrink_lines-requires : goal.shrink_lines-requires
 shrink_lines-requires c =

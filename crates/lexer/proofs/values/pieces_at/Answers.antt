@@ -11,7 +11,7 @@ use Rattle.lexer.proofs.Reading.{breaks_first, breaks_many}
 use Rattle.lexer.proofs.values.pieces_at.Goals as goal
 
 pub pieces-init : goal.pieces-init
-pieces-init c = (behind_none _, inl refl, rw (c.from_vec-pieces.ensures, c.in_ok-with_capacity.ensures.items) (read_none c.args.class c.args.cursor.rest.now))
+pieces-init c = (behind_none _, inl refl, rw c.new-pieces.ensures (read_none c.args.class c.args.cursor.rest.now))
 
 pub pieces-preserved-in_ok-push : goal.pieces-preserved-in_ok-push
 pieces-preserved-in_ok-push c =

@@ -51,6 +51,11 @@ returns-in_err-described-clause-cause g c =
     let failed = err_from_is_err_and c.from_residual-in_err-described.result c.from_residual-in_err-described.ensures.1 in
     rw (failed.1, failed.2) (main_cause {U = Manifest} _ _ _ _ _ (Err Memory) c.read.ensures.cause c.in_ok-content.was (c.in_ok-read_bytes.ensures.cause (nothing, c.in_ok-declared.ensures)))
 
+pub returns-in_err-described-clause-file : goal.returns-in_err-described-clause-file
+returns-in_err-described-clause-file g c = λ told.
+    let failed = err_from_is_err_and c.from_residual-in_err-described.result c.from_residual-in_err-described.ensures.1 in
+    rw (failed.1, failed.2) tt
+
 pub finish-requires-clause-formed : goal.finish-requires-clause-formed
 finish-requires-clause-formed g c = c.in_ok-read_bytes.ensures.formed (formed_new _ c.in_ok-declared.ensures)
 

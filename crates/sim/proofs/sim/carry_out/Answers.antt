@@ -18,3 +18,13 @@ loop-job-preserved g c = record {
       ∙ ap (λ (es : List (ℕ × Running)). carried g.C.Commands.outcome es c.loop-job.history) (sym c.in-Some.ensures.removal)
       ∙ c.loop-job.invariant.done (c.both-complete.ensures.one whole);
 }
+
+pub loop-job-preserved-in-Some : goal.loop-job-preserved-in-Some
+loop-job-preserved-in-Some g c = record {
+  left = λ job one is. c.loop-job.invariant.left job one (kept (is_at (nat_cmp c.in-Some.job) job) (running_at job c.loop-job.running.entries) (running_at job c.pop_first.new.self.entries) one (c.in-Some.ensures.updates.0 job) is);
+  others = λ events live. others_then (IsRunning events) c.args.history.now c.loop-job.history c.work_off-worked.new.history (c.loop-job.invariant.others events live)
+      (c.work_off-worked.ensures.others events (live c.in-Some.job c.in-Some.one (c.loop-job.invariant.left c.in-Some.job c.in-Some.one c.in-Some.ensures.value)));
+  done = λ whole. ap (carried g.C.Commands.outcome c.pop_first.new.self.entries) (c.work_off-worked.ensures.done (c.both-complete.ensures.other whole))
+      ∙ ap (λ (es : List (ℕ × Running)). carried g.C.Commands.outcome es c.loop-job.history) (sym c.in-Some.ensures.removal)
+      ∙ c.loop-job.invariant.done (c.both-complete.ensures.one whole);
+}

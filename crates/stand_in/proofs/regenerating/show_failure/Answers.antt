@@ -5,6 +5,9 @@ use Rattle.stand_in.proofs.regenerating.show_failure.Goals as goal
 pub returns-in_err-outputs : goal.returns-in_err-outputs
 returns-in_err-outputs g c = still_memory g.S.Texts.tells (λ (u : Unit {0}). Unit {0}) (g.S.Texts.world c.args.site.now) (g.S.Texts.world c.args.site.now) c.from_residual.result (still_nothing g.S.Texts.tells (g.S.Texts.world c.args.site.now)) c.from_residual.ensures.1
 
+pub returns-in_err-line : goal.returns-in_err-line
+returns-in_err-line g c = still_memory g.S.Texts.tells (λ (u : Unit {0}). Unit {0}) (g.S.Texts.world c.args.site.now) (g.S.Texts.world c.args.site.now) c.from_residual-in_err-line.result (still_nothing g.S.Texts.tells (g.S.Texts.world c.args.site.now)) c.from_residual-in_err-line.ensures.1
+
 pub returns-in_err-push_failed : goal.returns-in_err-push_failed
 returns-in_err-push_failed g c = still_memory g.S.Texts.tells (λ (u : Unit {0}). Unit {0}) (g.S.Texts.world c.args.site.now) (g.S.Texts.world c.args.site.now) c.from_residual-in_err-push_failed.result (still_nothing g.S.Texts.tells (g.S.Texts.world c.args.site.now)) c.from_residual-in_err-push_failed.ensures.1
 

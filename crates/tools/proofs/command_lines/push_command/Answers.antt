@@ -1,8 +1,8 @@
-use Rattle.std.proofs.Common.{◌++◌, [], ℕ, List, ap, subst, sym, string_bytes, get_or}
+use Rattle.std.proofs.Common.{refl, ◌++◌, [], ◌∷◌, ℕ, List, ap, subst, sym, string_bytes, get_or}
 use Rattle.paths.specs.Commands.{no_action}
 use Rattle.tools.specs.Answers.{Puts}
 use Rattle.tools.proofs.Making.{command_told, no_command_told}
-use Rattle.tools.proofs.Putting.{on_ok, one_part, puts_none}
+use Rattle.tools.proofs.Putting.{on_ok, two_parts, puts_none}
 use Rattle.tools.proofs.command_lines.push_command.Goals as goal
 
 pub returns-in-Some : goal.returns-in-Some
@@ -12,7 +12,8 @@ returns-in-Some c =
     let old = string_bytes c.args.told.now in
     let new = string_bytes c.push_line.new.text in
     on_ok c.push_line.result
-    (λ put. subst (λ (l : List (List ℕ)). Puts old new (l ++ [])) (sym (command_told action command (sym c.in-Some.ensures))) (one_part old new c.as_str.result.now command.act.command put c.as_str.ensures))
+    (λ put. subst (λ (l : List (List ℕ)). Puts old new (l ++ [])) (sym (command_told action command (sym c.in-Some.ensures)))
+    (subst (λ (t : List ℕ). Puts old new (t ∷ [])) (sym c.parts.ensures.text) (two_parts old new c.parts.result.0.now c.parts.result.1.now c.parts.result.0.now c.parts.result.1.now put refl refl)))
     c.push_line.ensures
 
 pub returns-in-None : goal.returns-in-None

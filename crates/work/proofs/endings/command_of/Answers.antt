@@ -5,9 +5,9 @@ use Rattle.work.proofs.ShownEdges.{edge_does}
 use Rattle.work.proofs.endings.command_of.Goals as goal
 
 pub returns-in-Alias : goal.returns-in-Alias
-returns-in-Alias c = sym (ap (λ (edge : Edge). edge.act.command) (edge_does c.args.graph.now c.args.edge c.requires Alias (sym c.action.ensures ∙ c.in-Alias.is)))
+returns-in-Alias c = c.new.ensures ∙ sym (ap (λ (edge : Edge). edge.act.command) (edge_does c.args.graph.now c.args.edge c.requires Alias (sym c.action.ensures ∙ c.in-Alias.is)))
 
-pub returns-in-Command : goal.returns-in-Command
-returns-in-Command c =
-    c.as_str.ensures
+pub returns-in_ok-line-in-Command : goal.returns-in_ok-line-in-Command
+returns-in_ok-line-in-Command c =
+    c.in_ok-line-in-Command.ensures
     ∙ sym (ap (λ (edge : Edge). edge.act.command) (edge_does c.args.graph.now c.args.edge c.requires (Command c.in-Command.command) (sym c.action.ensures ∙ c.in-Command.is)))

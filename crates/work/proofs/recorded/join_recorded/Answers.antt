@@ -13,7 +13,7 @@ loop-place-init c =
     let same = c.reserve_inputs.ensures in
     record {
       grown = (only_same graph reserved same).grown;
-      numbered = numbered_none reserved (texts_of c.args.records.now) c.new-numbers.result.known.items c.new-numbers.ensures;
+      numbered = numbered_none reserved (texts_of c.args.records.now) c.counted-numbers.result.known.items c.counted-numbers.ensures;
       joined = λ rs ds known none. joined_none reserved rs ds (subst (λ (g : Graph). IsUnrecorded g) (sym {A = Graph} same) none);
     }
 

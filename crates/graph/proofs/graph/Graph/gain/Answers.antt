@@ -5,7 +5,7 @@ use Rattle.indexmap.specs.IndexSet.{insert_all}
 use Rattle.model.specs.Graph.{has_number}
 use Rattle.graph.specs.Held.{list_at, StandOnce}
 use Rattle.graph.proofs.Joins.{gained_once, gained_within, gained_held, gained_longer, gained_has}
-use Rattle.graph.proofs.Parts.{all_index, index_all, on_ok_then}
+use Rattle.graph.proofs.Parts.{all_index, index_all, on_ok_both}
 use Rattle.graph.proofs.graph.Graph.gain.Goals as goal
 
 pub record-requires-clause-inputs : goal.record-requires-clause-inputs
@@ -43,7 +43,7 @@ returns-clause-gained c =
     let graph = c.args.self.now in
     let keys = c.add_all-2.new.all in
     let first = c.in_ok-add_all.ensures ∙ ap (insert_all nat_eq c.args.all.now) c.at.ensures in
-    on_ok_then c.record.result c.record.ensures.recorded (λ recorded.
+    on_ok_both c.record.result c.record.ensures.recorded c.record.ensures.users (λ recorded fronts.
     let is : c.record.new.self.recorded ≡ set graph.recorded c.args.edge keys = recorded ∙ ap (set graph.recorded c.args.edge) c.as_slice.ensures.paths in
     let here : list_at c.record.new.self.recorded c.args.edge ≡ keys = ap (λ (l : List (List ℕ)). list_at l c.args.edge) is ∙ get_or-set_same graph.recorded c.args.edge keys [] (omega (arith, c.requires.edge, graph.recording.fits)) in
     record {
@@ -52,4 +52,5 @@ returns-clause-gained c =
       gained = λ p. ap (λ (l : List ℕ). has_number l p) here ∙ gained_has graph c.args.edge c.args.all.now c.add_all.new.all keys c.args.inputs.now c.requires.empty first c.in_ok-add_all-2.ensures p;
       once = subst StandOnce (sym {A = List ℕ} here) (gained_once graph c.args.edge c.args.all.now c.add_all.new.all keys c.args.inputs.now c.requires.empty first c.in_ok-add_all-2.ensures);
       others = λ e other. ap (λ (l : List (List ℕ)). list_at l e) is ∙ get_or-set_other graph.recorded c.args.edge e keys [] other;
+      users = fronts;
     })

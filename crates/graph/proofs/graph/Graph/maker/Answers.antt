@@ -14,4 +14,4 @@ returns-clause-makes c = some_of c.stored_maker.result (λ e is. c.args.self.now
 pub returns-clause-text : goal.returns-clause-text
 returns-clause-text c lt =
     let graph = c.args.self.now in
-    maker_is graph.manifest graph.makers.items graph.making graph.apart c.args.path lt ∙ ap later_number (sym c.stored_maker.ensures)
+    maker_is graph.manifest graph.makers graph.making graph.apart c.args.path lt ∙ ap later_number (sym c.stored_maker.ensures)

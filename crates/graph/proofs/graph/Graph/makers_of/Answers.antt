@@ -19,7 +19,7 @@ loop-target-preserved c =
     let low : get_or targets place 0 < length graph.manifest.paths = c.requires place 0 c.loop-target-test.true in
     let at : c.target-item.result ≡ get_or targets place 0 = c.target-item.is ∙ get_or_default targets place c.target-item.result 0 c.loop-target-test.true in
     let within : c.target-item.result < length graph.manifest.paths = omega (arith, low, at) in
-    let made = maker_is graph.manifest graph.makers.items graph.making graph.apart c.target-item.result within in
+    let made = maker_is graph.manifest graph.makers graph.making graph.apart c.target-item.result within in
     elim c.match-maker.branch [
       | in-Some+in_ok-push w ↦
           let grown : c.match-maker.edges.items ≡ c.loop-target.edges.items ++ w.in-Some.edge ∷ [] = ap (λ (v : Vec ℕ Global). v.items) w.edges-is ∙ w.in_ok-push.ensures.items in

@@ -48,7 +48,7 @@ returns-in-Some-clause-fault c =
     let edges : chosen_edges chosen ≡ chosen_edges old.items = c.choose_all-unfit.ensures.edges ∙ ap chosen_edges c.deref_mut.ensures.value in
     let whole = whole_list old.len old.items chosen old.ok.0 edges in
     let count = length-map c.args.additions.now addition_of in
-    first_lacking graph (none_twice graph.manifest graph.makers.items graph.making graph.apart) c.args.file c.requires (map addition_of c.args.additions.now) (choice_in chosen)
+    first_lacking graph (none_twice graph.manifest graph.makers graph.making graph.apart) c.args.file c.requires (map addition_of c.args.additions.now) (choice_in chosen)
     (subst (λ (n : ℕ). AreChoices (owners_of (declared_by graph).edges (text_at graph.manifest.paths c.args.file) (map addition_of c.args.additions.now)) n (choice_in chosen)) (sym count) c.choose_all-unfit.ensures.choices)
     c.in-Some.edge (subst (λ (l : List Choice). IsLowestLacking graph c.args.file (choice_in l) c.in-Some.edge) (c.deref.ensures.value ∙ whole) c.in-Some.ensures) c.in_ok-first_output.field-0 c.in_ok-first_output.ensures
 
@@ -63,7 +63,7 @@ returns-in_ok-clone-in-Some-unfit-clause-fault c =
     let place = c.in-Some-unfit.place in
     let one = c.index-additions-place.result in
     let there : slice_get c.args.additions.now place ≡ Some one = get_there c.args.additions.now place one c.in-Some-unfit.ensures.bad.0 ∙ ap (λ s. Some s) (sym c.index-additions-place.is) in
-    first_bad graph (none_twice graph.manifest graph.makers.items graph.making graph.apart) c.args.file c.requires (map addition_of c.args.additions.now) (choice_in chosen)
+    first_bad graph (none_twice graph.manifest graph.makers graph.making graph.apart) c.args.file c.requires (map addition_of c.args.additions.now) (choice_in chosen)
     (subst (λ (n : ℕ). AreChoices (owners_of (declared_by graph).edges (text_at graph.manifest.paths c.args.file) (map addition_of c.args.additions.now)) n (choice_in chosen)) (sym count) c.choose_all-unfit.ensures.choices)
     (subst (λ (l : List Choice). (e : ℕ) → LacksChoice graph c.args.file (choice_in l) e → ⊥) (c.deref.ensures.value ∙ whole) c.in_default.ensures)
     place (addition_of one) (get_map addition_of c.args.additions.now place one there) c.in-Some-unfit.ensures.bad.1 c.in-Some-unfit.ensures.bad.2

@@ -6,15 +6,15 @@ use Rattle.host.specs.Told.{Told}
 use Rattle.host.specs.declared.commands.Running.{Running}
 use Rattle.host.proofs.Listed.{added, listed_start, since_push, longer_by, one_more}
 use Rattle.host.proofs.jobs.Jobs.start.Goals as goal
-use Rattle.host.proofs.jobs.Jobs.start.Goals.{After-push_reserved-2}
+use Rattle.host.proofs.jobs.Jobs.start.Goals.{After-drop-line-inside-2}
 
-told_start : (c : After-push_reserved-2) → c.push_reserved.new.items.items ≡ c.self.inside.events.items ++ Start c.args.job c.args.act.now c.args.stamp ∷ []
+told_start : (c : After-drop-line-inside-2) → c.push_reserved.new.items.items ≡ c.self.inside.events.items ++ Start c.args.job c.args.act.now c.args.stamp ∷ []
 told_start c = c.push_reserved.ensures.items ∙ (λ i. c.in_ok-reserve.ensures.items i ++ c.in_ok-event.ensures i ∷ [])
 
-runs_too : (c : After-push_reserved-2) → c.push_reserved-2.new.items.items ≡ c.self.inside.commands.items ++ c.in_ok-command.command ∷ []
+runs_too : (c : After-drop-line-inside-2) → c.push_reserved-2.new.items.items ≡ c.self.inside.commands.items ++ c.in_ok-command.command ∷ []
 runs_too c = c.push_reserved-2.ensures.items ∙ ap (λ (commands : List Running). commands ++ c.in_ok-command.command ∷ []) c.in_ok-reserve-2.ensures.items
 
-listed_too : (c : After-push_reserved-2) → jobs_of c.push_reserved-2.new.items.items ≡ jobs_of c.self.inside.commands.items ++ c.args.job ∷ []
+listed_too : (c : After-drop-line-inside-2) → jobs_of c.push_reserved-2.new.items.items ≡ jobs_of c.self.inside.commands.items ++ c.args.job ∷ []
 listed_too c = added c.args.job c.in_ok-command.command c.self.inside.commands.items c.push_reserved-2.new.items.items (runs_too c) c.in_ok-command.ensures
 
 pub invariant_of-self-2 : goal.invariant_of-self-2

@@ -1,4 +1,4 @@
-use Rattle.std.proofs.Common.{◌∷◌, [], ℕ, List, subst, arith}
+use Rattle.std.proofs.Common.{◌∷◌, ◌∙◌, [], ℕ, List, refl, subst, arith}
 use Rattle.std.proofs.lemmas.List.{take_all}
 use Rattle.theory.proofs.SiteCalls.{unrefused_none, unrefused_call, unrefused_then}
 use Rattle.judge.proofs.LooksStay.{looked_none}
@@ -10,6 +10,7 @@ pub loop-path-init : goal.loop-path-init
 loop-path-init g c = record {
   looked = looked_none g.S.Texts.tells c.args.graph.now (g.S.Texts.world c.args.site.now) c.args.self.now;
   unrefused = unrefused_none (g.S.Texts.world c.args.site.now) c.requires.running;
+  answers = refl;
   summed = c.requires.summed;
   marked = λ marked. marked;
   joined = joined_none c.args.graph.now c.args.changed.now c.args.self.now.seen.items c.args.inputs.now;
@@ -33,6 +34,7 @@ loop-path-preserved g c =
     record {
       looked = (c.looks_follow.ensures.follow tells a b d).looked graph c.args.self.now c.loop-path.self c.add_alias.new.self c.loop-path.invariant.looked c.add_alias.ensures.looked;
       unrefused = unrefused_then a b d c.loop-path.invariant.unrefused (unrefused_call b d _ c.in_ok-add_alias.ensures.cause);
+      answers = c.add_alias.ensures.answers ∙ c.loop-path.invariant.answers;
       summed = c.add_alias.ensures.summed;
       marked = λ marked. c.add_alias.ensures.marked (c.loop-path.invariant.marked marked);
       joined = joined_more graph flags seen new c.add_alias.ensures.looked.stays c.args.paths.now c.loop-path.path-index c.path-item.result c.loop-path-test.true c.args.inputs.now c.loop-path.inputs c.add_alias.new.inputs c.loop-path.invariant.joined
@@ -46,3 +48,6 @@ returns-clause-joined g c =
 
 pub returns-in_err-add_alias-clause-marked : goal.returns-in_err-add_alias-clause-marked
 returns-in_err-add_alias-clause-marked g c marked = c.add_alias.ensures.marked (c.loop-path.invariant.marked marked)
+
+pub returns-in_err-add_alias-clause-answers : goal.returns-in_err-add_alias-clause-answers
+returns-in_err-add_alias-clause-answers g c = c.add_alias.ensures.answers ∙ c.loop-path.invariant.answers

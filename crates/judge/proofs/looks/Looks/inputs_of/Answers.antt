@@ -1,10 +1,12 @@
-use Rattle.std.proofs.Common.{◌∷◌, List, ℕ, true, false, length, subst}
+use Rattle.std.proofs.Common.{◌∷◌, ◌∙◌, List, ℕ, true, false, length, ap, subst}
 use Rattle.graph.specs.Links.{links_of}
 use Rattle.judge.proofs.LooksStay.{looked_then}
 use Rattle.judge.specs.Facts.{HasTaken}
 use Rattle.judge.specs.Summed.{HasJoined}
+use Rattle.judge.specs.declared.sums.Sums.{Sums}
+use Rattle.judge.proofs.Answered.{read_seen}
 use Rattle.judge.proofs.Reasons.{within_by}
-use Rattle.judge.proofs.Summing.{taken_stays, taken_then, sums_kept, marks_kept, read_by_all, has_all}
+use Rattle.judge.proofs.Summing.{taken_stays, taken_then, sums_kept, marks_kept, read_by_all}
 use Rattle.judge.proofs.looks.Looks.inputs_of.Goals as goal
 
 pub add_paths-requires-clause-within : goal.add_paths-requires-clause-within
@@ -76,7 +78,6 @@ returns-clause-looked g c =
 
 pub returns-clause-inputs : goal.returns-clause-inputs
 returns-clause-inputs g c =
-    let tells = g.S.Texts.tells in
     let graph = c.args.graph.now in
     let flags = c.args.changed.now in
     let regular = (links_of graph).regular c.args.edge in
@@ -89,12 +90,19 @@ returns-clause-inputs g c =
     let told = subst (λ (l : List ℕ). HasTaken graph flags true three l c.add_aliases.new.inputs c.add_recorded.new.inputs) c.recorded_inputs-recorded.ensures c.in_ok-add_recorded.ensures.taken in
     let both = taken_then graph flags false two regular _ c.new-inputs.result c.add_paths.new.inputs c.add_aliases.new.inputs
     (taken_stays graph flags false one two c.add_aliases.ensures.looked.stays regular c.new-inputs.result c.add_paths.new.inputs own) joined.taken in
-    let whole = looked_then tells graph (g.S.Texts.world c.args.site.now) (g.S.Texts.world c.add_aliases.new.site) (g.S.Texts.world c.add_recorded.new.site) c.args.self.now c.add_aliases.new.self c.add_recorded.new.self
-    (looked_then tells graph (g.S.Texts.world c.args.site.now) (g.S.Texts.world c.add_paths.new.site) (g.S.Texts.world c.add_aliases.new.site) c.args.self.now c.add_paths.new.self c.add_aliases.new.self c.add_paths.ensures.looked c.add_aliases.ensures.looked)
-    c.add_recorded.ensures.looked in
-    record {
-      edges = c.args.edge ∷ joined.edges;
-      read = read_by_all graph flags c.reading_stands.ensures two c.args.edge c.add_paths.new.inputs c.add_aliases.new.inputs joined;
-      all = λ told_files set kept seen in_ns in_ms. has_all graph flags set (g.S.Texts.world c.add_recorded.new.site).history three (whole.seen told_files set kept seen) _ recorded c.new-inputs.result c.add_aliases.new.inputs c.add_recorded.new.inputs c.new-inputs.ensures
-          (taken_stays graph flags false two three c.add_recorded.ensures.looked.stays _ c.new-inputs.result c.add_aliases.new.inputs both) told in_ns in_ms;
-    }
+    read_seen graph flags three c.args.edge (c.args.edge ∷ joined.edges) c.new-inputs.result c.add_aliases.new.inputs c.add_recorded.new.inputs c.lists_stand.ensures
+    (read_by_all graph flags c.reading_stands.ensures two c.args.edge c.add_paths.new.inputs c.add_aliases.new.inputs joined) c.new-inputs.ensures
+    (taken_stays graph flags false two three c.add_recorded.ensures.looked.stays _ c.new-inputs.result c.add_aliases.new.inputs both) told
+
+-- the answers that are kept are left alone
+pub returns-in_err-add_paths-clause-answers : goal.returns-in_err-add_paths-clause-answers
+returns-in_err-add_paths-clause-answers g c = ap (λ (s : Sums). s.answers) c.add_paths.ensures.sums
+
+pub returns-in_err-add_aliases-clause-answers : goal.returns-in_err-add_aliases-clause-answers
+returns-in_err-add_aliases-clause-answers g c = c.add_aliases.ensures.answers ∙ ap (λ (s : Sums). s.answers) c.add_paths.ensures.sums
+
+pub returns-in_err-add_recorded-clause-answers : goal.returns-in_err-add_recorded-clause-answers
+returns-in_err-add_recorded-clause-answers g c = ap (λ (s : Sums). s.answers) c.add_recorded.ensures.sums ∙ (c.add_aliases.ensures.answers ∙ ap (λ (s : Sums). s.answers) c.add_paths.ensures.sums)
+
+pub returns-clause-answers : goal.returns-clause-answers
+returns-clause-answers g c = ap (λ (s : Sums). s.answers) c.add_recorded.ensures.sums ∙ (c.add_aliases.ensures.answers ∙ ap (λ (s : Sums). s.answers) c.add_paths.ensures.sums)

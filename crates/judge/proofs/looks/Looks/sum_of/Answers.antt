@@ -1,3 +1,5 @@
+use Rattle.std.proofs.Common.{◌∙◌, ap}
+use Rattle.judge.specs.declared.sums.Sums.{Sums}
 use Rattle.judge.proofs.Summing.{sums_kept, marks_kept}
 use Rattle.judge.proofs.looks.Looks.sum_of.Goals as goal
 
@@ -18,3 +20,12 @@ returns-clause-summed g c = c.note.ensures.summed c.args.graph.now c.args.change
 
 pub returns-clause-marked : goal.returns-clause-marked
 returns-clause-marked g c marked = c.note.ensures.marked c.args.graph.now c.args.changed.now c.read_by.new.self.seen.items (marks_kept c.args.graph.now c.args.changed.now c.args.self.now.seen.items c.read_by.new.self.seen.items c.read_by.ensures.looked.stays c.args.self.now.sums c.read_by.new.self.sums c.read_by.ensures.sums marked) c.in_ok-sum.ensures.lasts
+
+pub returns-in_err-sum-clause-answers : goal.returns-in_err-sum-clause-answers
+returns-in_err-sum-clause-answers g c = ap (λ (s : Sums). s.answers) c.read_by.ensures.sums
+
+pub returns-in_err-note-clause-answers : goal.returns-in_err-note-clause-answers
+returns-in_err-note-clause-answers g c = c.note.ensures.answers ∙ ap (λ (s : Sums). s.answers) c.read_by.ensures.sums
+
+pub returns-clause-answers : goal.returns-clause-answers
+returns-clause-answers g c = c.note.ensures.answers ∙ ap (λ (s : Sums). s.answers) c.read_by.ensures.sums

@@ -12,7 +12,13 @@ loop-edge-preserved c = record {
       c.loop-edge.invariant.marked graph flags seen so e inputs was.0 (ap (λ (l : List ℕ). has_number l e) c.in-Some.ensures.items ∙ was.1);
 }
 
-pub returns : goal.returns
-returns c graph flags seen so e inputs is =
+pub returns-clause-lasting : goal.returns-clause-lasting
+returns-clause-lasting c graph flags seen so e inputs is =
     c.loop-edge.invariant.marked graph flags seen so e inputs (found_in c.loop-edge.self.by_edge.entries c.give_back.new.self.by_edge.entries e inputs c.give_back.ensures.kept is)
     (no_number c.loop-edge.self.passing.items e (let none = c.in_default.ensures.cases.0 in let ok = c.loop-edge.self.passing.ok.0 in omega arith))
+
+pub returns-clause-answers : goal.returns-clause-answers
+returns-clause-answers c = c.forget_all.ensures.none
+
+pub returns-clause-dues : goal.returns-clause-dues
+returns-clause-dues c = c.forget_all.ensures.dues

@@ -25,7 +25,7 @@ returns-clause-said c state is =
     let block_read = c.in_ok-read.ensures.block state.past is.scopes c.args.place.now.file.now.value in
     let kept = c.in_ok-read_line.ensures.said state is.scopes is.paths (block_lines (map said_of c.args.block.now)) block_read (c.in_ok-read.ensures.rule state is) in
     let made = made_of (place_of c.args.place.now) (build_of c.args.build.now) (block_lines (map said_of c.args.block.now)) state (rule_in c.in_ok-read.read) kept.0 in
-    let after : Declared = record { scopes = c.args.self.now.scopes; edges = c.push.new.self; pools = c.args.self.now.pools; defaults = c.args.self.now.defaults; paths = c.read_line.new.self } in (
+    let after : Declared = record { scopes = c.args.self.now.scopes; edges = c.push.new.self; pools = c.args.self.now.pools; defaults = c.args.self.now.defaults; paths = c.read_line.new.self; room = c.read_line.new.room } in (
       with_build made state,
       keeps_build c.args.self.now after state _ made c.in_ok-push.ensures.items (record {
         file = c.in_ok-read.ensures.file;

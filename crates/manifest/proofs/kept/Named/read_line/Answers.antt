@@ -64,7 +64,7 @@ returns-clause-said c state here are lines block rule =
     let named_now = names_more c.args.self.now c.line.new.table c.in_ok-paths.paths state.builds made c.is_none.result c.len-else-len-ge-MOST_EDGES.ensures.once c.in_ok-paths.ensures.added refl
     (none_kept c.args.read.now.edge.rule c.is_none.result c.is_none.ensures) few are in (
       texts,
-      rw c.in_ok-add_line.ensures named_now,
+      rw c.in_ok-room.ensures named_now,
       build_read place form lines state (block_in c.args.read.now) _ texts parts
           (much_below state.builds _ c.len.result c.len-else-len-ge-MOST_EDGES.result edges (c.len-else-len-ge-MOST_EDGES.ensures.count ∙ keys) c.if-len-ge-MOST_EDGES.false c.if-len-gt-MOST_PATHS.false)
           c.in_default.is,
@@ -73,5 +73,5 @@ returns-clause-said c state here are lines block rule =
 pub returns-clause-formed : goal.returns-clause-formed
 returns-clause-formed c = λ past here formed some.
     let read = c.in_ok-paths.ensures.said past (rw c.new-reader.ensures.scopes here) in
-    rw c.in_ok-add_line.ensures (lines_formed c.args.self.now c.line.new.table c.in_ok-paths.paths c.is_none.result c.len-else-len-ge-MOST_EDGES.ensures.once c.in_ok-paths.ensures.added
+    rw c.in_ok-room.ensures (lines_formed c.args.self.now c.line.new.table c.in_ok-paths.paths c.is_none.result c.len-else-len-ge-MOST_EDGES.ensures.once c.in_ok-paths.ensures.added
     (paths_formed (place_of c.args.place.now) _ (build_of c.args.build.now) (paths_at c.line.new.table c.in_ok-paths.paths) read some) formed)

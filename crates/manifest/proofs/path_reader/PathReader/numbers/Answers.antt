@@ -17,7 +17,7 @@ use Rattle.manifest.proofs.path_reader.PathReader.numbers.Goals.{in-Some+in_ok-p
 
 pub loop-value-init : goal.loop-value-init
 loop-value-init c =
-    let none : c.from_vec-numbers.result ≡ [] = c.from_vec-numbers.ensures ∙ c.in_ok-with_capacity.ensures.items in
+    let none : c.in_ok-numbers.numbers ≡ [] = c.in_ok-numbers.ensures in
     record {
       scopes = refl;
       block = refl;

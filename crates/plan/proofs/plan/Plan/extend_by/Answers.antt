@@ -1,29 +1,22 @@
-use Rattle.std.proofs.Common.{◌≡◌, List, true, subst, arith}
-use Rattle.model.specs.Graph.{has_number}
-use Rattle.graph.specs.declared.back.LoadedEdge.{LoadedEdge}
-use Rattle.graph.specs.LoadedEdges.{numbers_in}
-use Rattle.plan.specs.Staying.{AreToCount}
-use Rattle.plan.proofs.Staying.{ok_then, may_of, edges_below}
+use Rattle.std.proofs.Common.{List, length, ap, subst, arith}
+use Rattle.graph.specs.declared.cone.Mark.{Mark}
+use Rattle.plan.specs.declared.step.Standing.{Standing}
+use Rattle.plan.specs.Staying.{AreInside}
+use Rattle.plan.proofs.Staying.{ok_then, may_of}
 use Rattle.plan.proofs.plan.Plan.extend_by.Goals as goal
 
-pub stays-requires-clause-lines : goal.stays-requires-clause-lines
-stays-requires-clause-lines c =
+pub are_inside-requires : goal.are_inside-requires
+are_inside-requires c =
     let may = c.requires.may.1 in
     let plan = c.args.self.now in
-    omega (arith, may.over.over.edges, may.edges, plan.standings.ok.0)
+    let marks = ap (λ (l : List Mark). length l) c.deref.ensures.value in
+    let standings = ap (λ (l : List Standing). length l) c.deref-2.ensures.value in
+    omega (arith, marks, standings, may.over.over.edges, may.edges, c.requires.marks, plan.standings.ok.0, c.args.cone.now.marks.ok.0)
 
-pub stays-requires-clause-within : goal.stays-requires-clause-within
-stays-requires-clause-within c = λ e there.
-    edges_below c.files_stand.ensures c.requires.may.0 c.args.graph.now c.args.self.now c.args.before.now c.requires.may.1 e
-    (subst (λ (l : List LoadedEdge). has_number (numbers_in l) e ≡ true) c.deref.ensures.value there)
-
-pub extend_in_place-requires-clause-counted : goal.extend_in_place-requires-clause-counted
-extend_in_place-requires-clause-counted c =
-    let plan = c.args.self.now in
-    subst (λ (l : List LoadedEdge). AreToCount c.args.graph.now plan.standings.items plan.there.items (numbers_in l)) c.deref.ensures.value (c.stays.ensures.counted c.if-stays.true)
-
-pub returns-then-stays-clause-planned : goal.returns-then-stays-clause-planned
-returns-then-stays-clause-planned c = ok_then c.extend_in_place.result c.extend_in_place.ensures.planned (λ goes. goes c.args.cone.now (c.stays.ensures.inside c.if-stays.true))
+pub extend_inside-requires-clause-inside : goal.extend_inside-requires-clause-inside
+extend_inside-requires-clause-inside c =
+    subst (λ (m : List Mark). AreInside m c.args.self.now.standings.items) c.deref.ensures.value
+    (subst (AreInside c.deref.result.now) c.deref-2.ensures.value (c.are_inside.ensures c.if-are_inside.true))
 
 pub extend-requires-clause-may : goal.extend-requires-clause-may
 extend-requires-clause-may c = may_of c.requires.may.0 c.args.graph.now c.args.self.now c.args.before.now c.requires.may.1

@@ -7,7 +7,7 @@ use Rattle.graph.specs.Told.{declared_by}
 use Rattle.records.specs.Known.{AreKnown}
 use Rattle.work.specs.Recorded.{HasMorePaths, AreNumbered, HaveJust, texts_of}
 use Rattle.work.proofs.Joining.{joined_unused, joined_used, others_kept, all_within, numbered_gained}
-use Rattle.work.proofs.Numbering.{more_none, only_same, only_then}
+use Rattle.work.proofs.Numbering.{more_none, more_then, more_gained, only_same, only_then}
 use Rattle.work.proofs.recorded.Numbers.join_edge.Goals as goal
 
 pub returns-then-not-is_in_use-clause-joined : goal.returns-then-not-is_in_use-clause-joined
@@ -67,6 +67,14 @@ returns-clause-joined c rs ds known may =
     let just = subst (λ (g : Graph). HaveJust new inputs (all_paths_in ds (outputs (edge_at (declared_by g).edges (suc edge))))) same (c.in_ok-put_inputs.ensures.inputs rs ds still numbered) in
     joined_used graph rs ds new c.add_set.new.self (only_then graph lent new (only_same graph lent same) c.put_inputs.ensures.grown) edge inputs c.in_ok-add_set.ensures.gained
     (sym (c.is_in_use.ensures rs ds known) ∙ c.if-not-is_in_use.false) just may
+
+pub returns-clause-grown : goal.returns-clause-grown
+returns-clause-grown c =
+    let graph = c.args.graph.now in
+    let lent = c.lend_set-inputs.new.self in
+    let new = c.put_inputs.new.graph in
+    more_then graph new c.add_set.new.self (only_then graph lent new (only_same graph lent c.lend_set-inputs.ensures.same) c.put_inputs.ensures.grown).grown
+    (more_gained new c.add_set.new.self c.args.edge c.put_inputs.new.inputs c.in_ok-add_set.ensures.gained)
 
 pub returns-clause-others : goal.returns-clause-others
 returns-clause-others c e other =

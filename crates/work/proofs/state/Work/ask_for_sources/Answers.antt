@@ -5,8 +5,8 @@ use Rattle.work.specs.declared.state.Work.{Work}
 use Rattle.work.specs.Clean.{StaysKnowing}
 use Rattle.work.specs.Course.{Course}
 use Rattle.work.specs.Going.{IsCut}
-use Rattle.work.specs.Standing.{HasSourcesAt, IfFault, StoppedThere}
-use Rattle.work.proofs.Asking.{order_within, same_edges}
+use Rattle.work.specs.Standing.{HasSourcesAt, IfFault, StoppedThere, task_over}
+use Rattle.work.proofs.Asking.{order_within, same_edges, under}
 use Rattle.work.proofs.Faults.{well_looks}
 use Rattle.work.proofs.Halting.{with_sources, stands_looked}
 use Rattle.work.proofs.KnownClean.{knows_clean, sources_judged}
@@ -71,12 +71,12 @@ returns-in-Ok-clause-asked g c course edges phases begins =
     (knows_clean tells course edges phases graph state now begins.stands c.log_stays.ensures new looked.looks c.in-Ok.due.items c.in-Ok.ensures.due) stay)
     c.judge_clean.new.self c.judge_clean.ensures.looks c.judge_clean.ensures.on
 
-pub unstarted_commands-unstarted-requires-clause-fits : goal.unstarted_commands-unstarted-requires-clause-fits
-unstarted_commands-unstarted-requires-clause-fits g c =
+pub still_unstarted-unstarted-requires-clause-fits : goal.still_unstarted-unstarted-requires-clause-fits
+still_unstarted-unstarted-requires-clause-fits g c =
     subst (λ (s : Work). length c.deref.result.now ≡ length s.graph.manifest.lines) (sym {A = Work} c.check_sources.ensures.beside) (ap length c.deref.ensures.value ∙ c.in-Ok.ensures.due.fits)
 
-pub unstarted_commands-unstarted-requires-clause-plan : goal.unstarted_commands-unstarted-requires-clause-plan
-unstarted_commands-unstarted-requires-clause-plan g c =
+pub still_unstarted-unstarted-requires-clause-plan : goal.still_unstarted-unstarted-requires-clause-plan
+still_unstarted-unstarted-requires-clause-plan g c =
     let standings = c.args.self.now.plan.standings in
     let size : vec_len standings ≡ length standings.items = omega (arith, standings.ok.0) in
     subst (λ (s : Work). vec_len s.plan.standings ≡ length s.graph.manifest.lines) (sym {A = Work} c.check_sources.ensures.beside) (size ∙ c.requires.begins.3.stands.on.planned.over.over.edges)
@@ -86,3 +86,15 @@ returns-in-Ok-clause-graph g c = c.judge_clean.ensures.graph ∙ ap (λ (s : Wor
 
 pub returns-in-Err-clause-graph : goal.returns-in-Err-clause-graph
 returns-in-Err-clause-graph g c = ap (λ (s : Work). s.graph) c.check_sources.ensures.beside
+
+-- what is noted of due edges, and judged by it, changes nothing of that
+pub returns-in-Ok-clause-known : goal.returns-in-Ok-clause-known
+returns-in-Ok-clause-known g c = c.judge_clean.ensures.kept c.in-Ok.ensures.flags (record { known = c.check_sources.ensures.known.known; kept = c.check_sources.ensures.known.kept })
+
+pub check_sources-requires-clause-placed : goal.check_sources-requires-clause-placed
+check_sources-requires-clause-placed g c =
+    let begins = c.requires.begins in
+    let state = c.args.self.now in
+    let stands = begins.3.stands in
+    c.dues_follow.ensures.placed state.graph c.lists_stand.ensures state.records state.cone state.plan begins.0.store (task_over begins.0 begins.1).targets stands.on.steps
+    (under g.S.Texts.tells begins.0 begins.1 begins.2 state.graph state (g.S.Texts.world c.args.site.now) stands)

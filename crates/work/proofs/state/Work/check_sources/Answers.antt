@@ -1,4 +1,4 @@
-use Rattle.std.proofs.Common.{IfSome, inr, refl, subst}
+use Rattle.std.proofs.Common.{◌≡◌, true, IfSome, inr, refl, subst}
 use Rattle.theory.proofs.SiteCalls.{unrefused_call}
 use Rattle.graph.specs.Told.{declared_by}
 use Rattle.paths.specs.Told.{text_at}
@@ -29,6 +29,29 @@ returns-in_ok-missing-in-Missing-clause-lacking g c =
           (subst (λ (f : Found). IsFound graph store before targets files (lack_in f)) c.in-Missing.is
           (c.in_ok-lack.ensures.found store targets before under_way keeps tell set kept seen has files alike));
     }
+
+pub sources-requires-clause-known : goal.sources-requires-clause-known
+sources-requires-clause-known g c = c.requires.known.known
+
+pub sources-requires-clause-kept : goal.sources-requires-clause-kept
+sources-requires-clause-kept g c = c.requires.known.kept
+
+pub returns-in_err-lack-clause-known : goal.returns-in_err-lack-clause-known
+returns-in_err-lack-clause-known g c = record { known = c.sources.ensures.known; kept = c.sources.ensures.kept }
+
+pub returns-in_err-missing-in-Missing-clause-known : goal.returns-in_err-missing-in-Missing-clause-known
+returns-in_err-missing-in-Missing-clause-known g c = record { known = c.sources.ensures.known; kept = c.sources.ensures.kept }
+
+pub returns-in_ok-missing-in-Missing-clause-known : goal.returns-in_ok-missing-in-Missing-clause-known
+returns-in_ok-missing-in-Missing-clause-known g c = record { known = c.sources.ensures.known; kept = c.sources.ensures.kept }
+
+pub returns-in-Present-clause-known : goal.returns-in-Present-clause-known
+returns-in-Present-clause-known g c = record { known = c.sources.ensures.known; kept = c.sources.ensures.kept }
+
+pub returns-in-Present-clause-flags : goal.returns-in-Present-clause-flags
+returns-in-Present-clause-flags g c =
+    let looks = c.sources.new.self in
+    subst (λ (f : Found). IfPresent f (λ due. looks.sums.answers.dues.known ≡ true → looks.sums.answers.dues.flags.items ≡ due)) c.in-Present.is c.in_ok-lack.ensures.flags
 
 pub returns-in-Present-clause-sources : goal.returns-in-Present-clause-sources
 returns-in-Present-clause-sources g c store targets before under_way keeps tell set kept seen has files alike =

@@ -1,8 +1,7 @@
-use Rattle.std.proofs.Common.{◌≡◌, ℕ, List, true, length, sym, ◌∙◌, ap, subst, arith}
+use Rattle.std.proofs.Common.{◌≡◌, ℕ, List, true, sym, ◌∙◌, ap, subst, arith}
 use Rattle.model.specs.Graph.{has_number}
 use Rattle.paths.specs.Told.{texts_at}
 use Rattle.graph.specs.declared.back.LoadedEdge.{LoadedEdge}
-use Rattle.graph.specs.declared.cone.Mark.{Mark}
 use Rattle.graph.specs.Extended.{dyndep_at}
 use Rattle.graph.specs.LoadedEdges.{numbers_in}
 use Rattle.graph.specs.Placed.{AreInPlace}
@@ -26,9 +25,7 @@ are_in_place-requires-clause-within c = λ e there.
 pub returns-then-are_in_place-clause-marks : goal.returns-then-are_in_place-clause-marks
 returns-then-are_in_place-clause-marks c =
     let kept = c.requires.kept in
-    let copied = c.in_ok-copied.copied in
-    let same = ap (λ (m : List Mark). length m) c.in_ok-copied.ensures.marks in
-    omega (arith, same, kept.was.fits, kept.grown.as_many, c.lists_stand.ensures.fits, copied.marks.ok.0)
+    omega (arith, kept.was.fits, kept.grown.as_many, c.lists_stand.ensures.fits, c.args.self.now.cone.marks.ok.0)
 
 pub returns-then-are_in_place-clause-cone : goal.returns-then-are_in_place-clause-cone
 returns-then-are_in_place-clause-cone c recorded same =
@@ -38,7 +35,7 @@ returns-then-are_in_place-clause-cone c recorded same =
     let in_place = subst (λ (l : List LoadedEdge). AreInPlace graph cone (numbers_in l)) c.deref.ensures.value (c.are_in_place.ensures c.if-are_in_place.true) in
     let listed = c.cones_stay.ensures kept.old graph kept.earlier recorded (numbers_in c.args.before.now.edges.items) c.args.before.now.file (texts_at graph.manifest.paths cone.targets.items) cone
     record { within = kept.within; additions = kept.additions; grown = kept.grown; alone = kept.alone; were = kept.were; are = same; stay = λ i p there. same i p ∙ kept.stay i p there } in_place kept.was in
-    kept_cone graph recorded cone c.in_ok-copied.copied c.in_ok-copied.ensures.order c.in_ok-copied.ensures.marks c.in_ok-copied.ensures.targets listed
+    kept_cone graph recorded cone listed
 
 pub circle-requires : goal.circle-requires
 circle-requires c =

@@ -2,7 +2,8 @@ use Rattle.std.proofs.Common.{ℕ, length, take, map, refl, sym, ◌∙◌, ap, 
 use Rattle.graph.specs.declared.graph.Graph.{Graph}
 use Rattle.graph.specs.Extended.{addition_of}
 use Rattle.records.specs.Known.{AreStillKnown}
-use Rattle.work.proofs.FileJoins.{may_take_back, may_over, known_shrunk}
+use Rattle.graph.specs.LoadedEdges.{numbers_in}
+use Rattle.work.proofs.FileJoins.{has_grown_by, may_take_back, may_over, known_shrunk}
 use Rattle.work.proofs.Results.{on_err}
 use Rattle.work.proofs.StopCases.{refused_then}
 use Rattle.work.proofs.state.Work.join.Goals as goal
@@ -15,17 +16,14 @@ returns-in_err-before-clause-undone c = on_err c.from_residual.result (record {
   known = λ rs ds known. known;
 })
 
-pub join_parts-requires : goal.join_parts-requires
-join_parts-requires c =
-    let may = c.requires.may in
-    record {
-      loaded = (
-        may.0,
-        may.1,
-        c.args.self.now.graph,
-        record { file = c.args.file; additions = map addition_of c.args.additions.now; may = may_over c.extend.new.graph may.2; undoes = c.in_ok-before.ensures.before; has = c.in_ok-before.ensures.loaded; alone = c.in_ok-before.ensures.alone },
-      );
-    }
+pub join_parts-requires-clause-loaded : goal.join_parts-requires-clause-loaded
+join_parts-requires-clause-loaded c =
+    let may = c.requires.may in (
+      may.0,
+      may.1,
+      c.args.self.now.graph,
+      record { file = c.args.file; additions = map addition_of c.args.additions.now; may = may_over c.extend.new.graph may.2; undoes = c.in_ok-before.ensures.before; has = c.in_ok-before.ensures.loaded; alone = c.in_ok-before.ensures.alone },
+    )
 
 pub take_back-requires : goal.take_back-requires
 take_back-requires c = (c.args.self.now.graph, (c.extend.new.graph, may_take_back c.requires.may.2 c.in_ok-before.ensures.before c.in_ok-before.ensures.loaded c.in-Err.ensures.grown))
@@ -81,3 +79,16 @@ pub returns-in-Ok-clause-room : goal.returns-in-Ok-clause-room
 returns-in-Ok-clause-room c =
     let room = c.in-Ok.ensures.room in
     record { fits = room.fits; looks = room.looks; changed = room.changed; tick = room.tick; starts = room.starts; failed = room.failed }
+
+pub returns-in-Ok-clause-left : goal.returns-in-Ok-clause-left
+returns-in-Ok-clause-left c = record {
+  edges = numbers_in c.in_ok-before.before.edges.items;
+  grown = has_grown_by c.requires.may.2 c.in_ok-before.ensures.before c.in_ok-before.ensures.loaded c.files_stand.ensures c.in-Ok.ensures.stays;
+  forgets = c.in-Ok.ensures.answers;
+  notes = λ on.
+      let noted = c.in-Ok.ensures.notes on in
+      record { cone = noted.cone; known = noted.known; noted = noted.noted };
+}
+
+pub join_parts-requires-clause-places : goal.join_parts-requires-clause-places
+join_parts-requires-clause-places c = c.requires.places

@@ -1,13 +1,16 @@
-use Rattle.std.proofs.Common.{ap, length, refl, sym, ◌∙◌, subst, arith}
+use Rattle.std.proofs.Common.{◌≡◌, ◌<◌, ap, length, List, refl, sym, ◌∙◌, subst, arith, Option}
 use Rattle.std.proofs.lemmas.List.{take_all}
 use Rattle.model.specs.Records.{recorded_inputs}
 use Rattle.graph.specs.Told.{declared_by}
+use Rattle.graph.specs.declared.cone.Cone.{Cone}
 use Rattle.graph.specs.declared.graph.Graph.{Graph}
 use Rattle.graph.specs.LoadedEdges.{numbers_in}
+use Rattle.paths.specs.declared.line.Line.{Line}
 use Rattle.paths.specs.Told.{text_at}
+use Rattle.judge.specs.KeptDues.{NotesGrown}
 use Rattle.records.specs.declared.records.Records.{Records}
 use Rattle.records.specs.Known.{AreKnown}
-use Rattle.work.specs.Joined.{MayShrink, UnjoinedOver, GoesOnWith}
+use Rattle.work.specs.Joined.{cone_then, MayShrink, UnjoinedOver, GoesOnWith}
 use Rattle.work.specs.Recorded.{HasGrownAt}
 use Rattle.work.specs.Standing.{IfRefused}
 use Rattle.work.proofs.FileJoins.{numbers_within, to_join, recorded_now, joined_file, asked_now, asked_same, targets_within, targets_are, circle_by, may_go_on_by, may_keep, seen_fits}
@@ -111,6 +114,27 @@ grow-requires-clause-fits c =
     let joined = c.in_ok-join_inputs.ensures.joined graph j.has.added j.has.paths store.records store.deps j.may.known (to_join j.may j.undoes j.has) in
     seen_fits j.may j.undoes j.has c.files_stand.ensures joined
 
+pub grow-requires-clause-edges : goal.grow-requires-clause-edges
+grow-requires-clause-edges c e there =
+    let j = c.requires.loaded.3 in
+    subst (λ (l : List Line). e < length l) (sym {A = List Line} c.join_inputs.ensures.grown.grown.lines) (numbers_within j.may j.undoes j.has c.files_stand.ensures e there)
+
+pub grow-requires-clause-places : goal.grow-requires-clause-places
+grow-requires-clause-places c = c.requires.places
+
+-- what the load changes of flags is noted, where the cone is the one that was
+pub returns-clause-notes : goal.returns-clause-notes
+returns-clause-notes c on =
+    let state = c.args.self.now in
+    let made : Option Cone = c.in_ok-grown.grown in
+    let still = c.in_ok-grow.ensures.notes on in
+    let put : c.put_cone.new.cone ≡ cone_then state.cone made = c.put_cone.ensures ∙ ap (λ (kept : Cone). cone_then kept made) c.grow.ensures.cone in
+    record {
+      cone = put ∙ ap (cone_then state.cone) still.none;
+      known = still.known;
+      noted = subst (λ (of : Graph). NotesGrown of state.cone (numbers_in c.args.before.now.edges.items) state.looks.sums.answers.dues c.grow.new.self.looks.sums.answers.dues) (sym {A = Graph} c.grow.ensures.graph) still.noted;
+    }
+
 pub returns-in_err-grow-clause-beside : goal.returns-in_err-grow-clause-beside
 returns-in_err-grow-clause-beside c = record {
   logs = ap (λ (r : Records). r.logs) c.grow.ensures.records ∙ c.join_inputs.ensures.logs;
@@ -142,12 +166,17 @@ returns-clause-goes c asked store graph j =
     let joined = c.in_ok-join_inputs.ensures.joined graph j.has.added j.has.paths store.records store.deps j.may.known (to_join j.may j.undoes j.has) in
     let recorded = recorded_now j.may j.undoes j.has c.files_stand.ensures joined in
     let by = c.loads_go_on_by.ensures graph c.args.self.now.graph (text_at graph.manifest.paths j.file) j.additions c.args.self.now.plan c.args.before.now j.may.over j.may.some j.has j.alone in
-    subst (λ (of : Graph). GoesOnWith store graph of c.args.self.now.cone.targets.items c.in_ok-grown.grown c.args.self.now.plan c.grow.new.self.plan (text_at graph.manifest.paths j.file) j.additions) (sym {A = Graph} c.grow.ensures.graph)
+    let targets = c.args.self.now.cone.targets.items in
+    let file = text_at graph.manifest.paths j.file in
+    let made : Option Cone = c.in_ok-grown.grown in
+    let put : c.put_cone.new.cone ≡ cone_then c.args.self.now.cone made = c.put_cone.ensures ∙ ap (λ (kept : Cone). cone_then kept made) c.grow.ensures.cone in
+    subst (λ (cone : Cone). GoesOnWith store graph c.grow.new.self.graph targets cone c.args.self.now.plan c.grow.new.self.plan file j.additions) (sym {A = Cone} put)
+    (subst (λ (of : Graph). GoesOnWith store graph of targets (cone_then c.args.self.now.cone made) c.args.self.now.plan c.grow.new.self.plan file j.additions) (sym {A = Graph} c.grow.ensures.graph)
     (record {
       joined = joined_file j.may j.undoes j.has c.files_stand.ensures joined;
       cone_of = c.in_ok-grown.ensures.cone (recorded_inputs store (declared_by c.join_inputs.new.graph).edges) recorded;
       planned = c.in_ok-grow.ensures.planned graph (may_go_on_by j.may j.undoes j.has c.files_stand.ensures joined by);
-    })
+    }))
 
 pub returns-clause-room : goal.returns-clause-room
 returns-clause-room c =
@@ -167,3 +196,9 @@ returns-clause-beside c = record {
   starts = c.grow.ensures.beside.starts;
   failed = c.grow.ensures.beside.failed;
 }
+
+pub returns-clause-stays : goal.returns-clause-stays
+returns-clause-stays c = subst (λ (of : Graph). HasGrownAt (numbers_in c.args.before.now.edges.items) c.args.self.now.graph of) (sym {A = Graph} c.grow.ensures.graph) c.join_inputs.ensures.grown
+
+pub returns-clause-answers : goal.returns-clause-answers
+returns-clause-answers c = c.in_ok-grow.ensures.answers

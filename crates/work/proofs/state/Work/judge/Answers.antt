@@ -6,12 +6,14 @@ use Rattle.graph.specs.Told.{declared_by}
 use Rattle.judge.specs.Seen.{IfKept}
 use Rattle.plan.specs.Planned.{is_stale}
 use Rattle.records.specs.Known.{AreKnown}
+use Rattle.judge.specs.declared.sums.Sums.{Sums}
 use Rattle.judge.specs.Lasting.{AreMarked}
 use Rattle.judge.specs.Summed.{AreSums}
 use Rattle.judge.specs.Judged.{IsAnswer, KeepsDepfile}
 use Rattle.work.proofs.WorkLeft.{judged_less}
 use Rattle.work.proofs.Noticed.{with_looks, on_looked}
 use Rattle.work.proofs.Unmade.{sums_asked, marks_asked}
+use Rattle.work.proofs.StillKept.{told_settled}
 use Rattle.work.proofs.Judging.{judged_on, judged_command, asked_outputs}
 use Rattle.work.proofs.state.Work.judge.Goals as goal
 
@@ -92,3 +94,17 @@ returns-clause-on g c course suits goes on =
     → IfKept tells graph.manifest.paths mid (g.S.Texts.world c.reason.new.site) c.ask_before.new.looks.seen.items (IsAnswer graph rs ds flags c.args.edge c.in_ok-reason.reason))
     c.deref.ensures.value c.in_ok-reason.ensures.reason)
     c.judged.new.self c.judged-2.new.self c.judged.ensures.planned c.judged.ensures.flags
+
+-- the answers that are kept are left alone
+pub returns-in_err-ask_before-clause-answers : goal.returns-in_err-ask_before-clause-answers
+returns-in_err-ask_before-clause-answers g c = ap (λ (s : Sums). s.answers) c.ask_before.ensures.sums
+
+pub returns-in_err-reason-clause-answers : goal.returns-in_err-reason-clause-answers
+returns-in_err-reason-clause-answers g c = c.reason.ensures.answers ∙ ap (λ (s : Sums). s.answers) c.ask_before.ensures.sums
+
+-- the plan tells of other edges what it told
+pub returns-clause-told : goal.returns-clause-told
+returns-clause-told g c = told_settled c.args.self.now.graph c.args.self.now.plan c.judged.new.self c.args.edge _ c.judged.ensures.stands
+
+pub returns-clause-answers : goal.returns-clause-answers
+returns-clause-answers g c = c.reason.ensures.answers ∙ ap (λ (s : Sums). s.answers) c.ask_before.ensures.sums

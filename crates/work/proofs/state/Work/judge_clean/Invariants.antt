@@ -1,5 +1,6 @@
 use Rattle.std.proofs.Common.{◌≡◌}
 use Rattle.plan.specs.Planned.{IsPlanOver}
+use Rattle.work.specs.Answered.{StaysKept}
 use Rattle.work.specs.Clean.{StaysKnowing}
 use Rattle.work.specs.Going.{work_left}
 use Rattle.work.proofs.KnownClean.{StayUnjudged}
@@ -10,7 +11,9 @@ invariant-loop-edge l = record {
   over : IsPlanOver l.self.graph l.self.plan;
   graph : l.self.graph ≡ l.fn.self.graph;
   looks : l.self.looks ≡ l.fn.self.looks;
+  records : l.self.records ≡ l.fn.self.records;
   due : l.self.due ≡ l.fn.self.due;
+  kept : StaysKept l.fn.self l.self;
   fresh : StayUnjudged l.fn.self.plan l.self.plan;
   on : StaysKnowing l.fn.self.graph l.fn.self l.self;
 }

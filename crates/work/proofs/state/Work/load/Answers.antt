@@ -2,11 +2,17 @@ use Rattle.std.proofs.Common.{List, Ok, refl, sym, subst}
 use Rattle.model.specs.SingleBuild.{asked_with}
 use Rattle.paths.specs.Told.{text_at}
 use Rattle.dyndep.specs.declared.addition.Addition.{Addition as Statement}
-use Rattle.work.specs.Standing.{RefusesAt, StopsAt, IsStopThere, IfRefused}
+use Rattle.work.specs.Standing.{RefusesAt, StopsAt, IsStopThere, IfRefused, task_over}
 use Rattle.work.specs.Joined.{WasHeld}
+use Rattle.graph.specs.declared.cone.Cone.{Cone}
+use Rattle.graph.specs.Told.{declared_by}
+use Rattle.judge.specs.Answers.{StandBoth, AreKnownStill}
+use Rattle.judge.specs.KeptDues.{AreKeptRight}
+use Rattle.judge.specs.UnderWay.{IsUnderWay}
+use Rattle.work.proofs.Asking.{under}
 use Rattle.work.specs.Loads.{IsSaying}
 use Rattle.work.proofs.LoadEnds.{load_stop, load_stop_by, stops_undone, refuses_undone}
-use Rattle.work.proofs.Loading.{may_join, unread_cause, unjoined_cause, has_begun, fewer_by}
+use Rattle.work.proofs.Loading.{may_join, stand_inside, unread_cause, unjoined_cause, has_begun, under_grown, fewer_by}
 use Rattle.work.proofs.Results.{on_err}
 use Rattle.work.proofs.StopCases.{refused_then, passed}
 use Rattle.work.proofs.state.Work.load.Goals as goal
@@ -55,12 +61,21 @@ returns-in_err-additions-clause-halted g c =
 
 -- ---- it was
 
-pub join-joined-requires : goal.join-joined-requires
-join-joined-requires g c =
+pub join-joined-requires-clause-may : goal.join-joined-requires-clause-may
+join-joined-requires-clause-may g c =
     let course = c.requires.at.0 in
     let edges = c.requires.at.1 in
     let phases = c.requires.at.2 in
-    record { may = (asked_with course.asked edges, course.store, may_join g.S.Texts.tells course edges phases c.args.self.now.graph c.args.self.now (g.S.Texts.world c.args.site.now) c.requires.at.3 c.args.file c.requires.at.4) }
+    (asked_with course.asked edges, course.store, may_join g.S.Texts.tells course edges phases c.args.self.now.graph c.args.self.now (g.S.Texts.world c.args.site.now) c.requires.at.3 c.args.file c.requires.at.4)
+
+pub join-joined-requires-clause-inside : goal.join-joined-requires-clause-inside
+join-joined-requires-clause-inside g c =
+    stand_inside g.S.Texts.tells c.requires.at.0 c.requires.at.1 c.requires.at.2 c.args.self.now.graph c.args.self.now (g.S.Texts.world c.args.site.now) c.requires.at.3 c.args.file c.requires.at.4
+
+pub join-joined-requires-clause-places : goal.join-joined-requires-clause-places
+join-joined-requires-clause-places g c on =
+    let kept = c.requires.known.kept on in
+    record { marks = kept.but.room.marks; room = kept.but.room.room }
 
 pub returns-in-Ok-clause-begun : goal.returns-in-Ok-clause-begun
 returns-in-Ok-clause-begun g c course edges phases at =
@@ -126,3 +141,42 @@ returns-clause-halted g c course edges phases at =
     (refused_then c.in-Err.stop c.in-Err.ensures.cause (λ refusal cause.
     unjoined_cause tells course edges phases graph state old at.stands file at.next c.log_stays.ensures new c.additions_in.ensures.looks c.one_answer.ensures adds read refusal
     (cause (asked_with course.asked edges) course.store (may_join tells course edges phases graph state old at.stands file at.next))))
+
+-- what was found of other edges is right after the load, and so are their flags
+pub returns-in-Ok-clause-known : goal.returns-in-Ok-clause-known
+returns-in-Ok-clause-known g c =
+    let tells = g.S.Texts.tells in
+    let course = c.requires.at.0 in
+    let edges = c.requires.at.1 in
+    let phases = c.requires.at.2 in
+    let stands = c.requires.at.3 in
+    let to_load = c.requires.at.4 in
+    let state = c.args.self.now in
+    let after = c.join-joined.new.self in
+    let file = c.args.file in
+    let old = g.S.Texts.world c.args.site.now in
+    let new = g.S.Texts.world c.additions_in.new.site in
+    let left = c.in-Ok.ensures.left in
+    let may = may_join tells course edges phases state.graph state old stands file to_load in
+    let both : StandBoth state.graph after.graph = record { before = c.lists_stand.ensures; after = c.lists_stand-2.ensures } in
+    let still : AreKnownStill state.graph after.graph state.records after.records = record { rs = course.store.records; ds = course.store.deps; known = may.known; stay = c.in-Ok.ensures.known } in
+    record {
+      known =
+          c.answers_follow.ensures.stay after.graph after.records state.looks.seen.items after.looks.seen.items (λ p asked. c.in-Ok.ensures.room.looks p) after.looks.sums.answers
+          (c.answers_follow.ensures.loaded left.edges state.graph after.graph left.grown both state.records after.records still state.looks.seen.items state.looks.sums.answers after.looks.sums.answers left.forgets c.requires.known.known);
+      kept = λ on.
+          let notes = left.notes on in
+          let adds = c.as_slice.result.now in
+          let read = subst (λ (l : List Statement). WasHeld tells (text_at state.graph.manifest.paths file) (IsSaying (Ok l)) old new) (sym {A = List Statement} c.as_slice.ensures) c.in_ok-additions.ensures.read in
+          let gone = c.in-Ok.ensures.goes (asked_with course.asked edges) course.store may in
+          let way = under tells course edges phases state.graph state old stands in
+          let way_then =
+          under_grown tells course edges phases state.graph state old stands file to_load c.log_stays.ensures new c.additions_in.ensures.looks c.one_answer.ensures adds read after.graph after gone c.lists_stand.ensures c.lists_stand-2.ensures c.task_of.ensures
+          c.in-Ok.ensures.room c.in-Ok.ensures.known c.in-Ok.ensures.logs in
+          let right =
+          c.dues_follow.ensures.loaded left.edges state.graph after.graph left.grown both state.records after.records still state.cone state.plan after.plan course.store course.store (task_over course edges).targets (task_over course (declared_by after.graph).edges).targets
+          stands.on.steps way (subst (λ (cone : Cone). IsUnderWay after.graph after.records cone after.plan course.store (task_over course (declared_by after.graph).edges).targets stands.on.steps) notes.cone way_then)
+          state.looks.sums.answers.dues after.looks.sums.answers.dues notes.noted state.looks.seen.items (c.requires.known.kept notes.known) in
+          subst (λ (cone : Cone). AreKeptRight after.graph after.records cone after.plan after.looks.seen.items after.looks.sums.answers.dues) (sym {A = Cone} notes.cone)
+          (c.dues_follow.ensures.stay after.graph after.records state.cone after.plan state.looks.seen.items after.looks.seen.items (λ p asked. c.in-Ok.ensures.room.looks p) after.looks.sums.answers.dues right);
+    }

@@ -27,3 +27,6 @@ returns-in-Err-clause-stop g c = c.given_up.ensures.stop (g.S.Texts.world c.args
 pub returns-in-Err-clause-halted : goal.returns-in-Err-clause-halted
 returns-in-Err-clause-halted g c course edges phases at =
     c.given_up.ensures.halted course (declared_by c.load.new.self.graph).edges c.load.new.self.graph c.load.new.self refl (c.in-Err.ensures.halted course edges phases at)
+
+pub returns-in-Ok-clause-known : goal.returns-in-Ok-clause-known
+returns-in-Ok-clause-known g c = c.in-Ok.ensures.known

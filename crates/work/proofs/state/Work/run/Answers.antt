@@ -1,5 +1,8 @@
-use Rattle.std.proofs.Common.{true, inl, refl, sym, ◌∙◌, subst}
+use Rattle.std.proofs.Common.{◌≡◌, true, inl, refl, sym, ◌∙◌, subst}
 use Rattle.graph.specs.declared.graph.Graph.{Graph}
+use Rattle.judge.specs.declared.answers.Answers.{Answers}
+use Rattle.judge.specs.Answers.{AreAnswers}
+use Rattle.judge.specs.KeptDues.{AreKeptRight}
 use Rattle.judge.specs.Lasting.{AreMarked}
 use Rattle.judge.specs.Summed.{AreSums}
 use Rattle.work.specs.After.{LooksUnlessMore}
@@ -22,6 +25,10 @@ run-init g c =
       unrefused = unrefused_none now c.requires.running;
       starts = inl refl;
       graph = refl;
+      known = record {
+        known = subst (λ (answers : Answers). AreAnswers graph state.records state.looks.seen.items answers) (sym {A = Answers} c.clear.ensures.answers) c.requires.known.known;
+        kept = subst (λ (answers : Answers). answers.dues.known ≡ true → AreKeptRight graph state.records state.cone state.plan state.looks.seen.items answers.dues) (sym {A = Answers} c.clear.ensures.answers) c.requires.known.kept;
+      };
       summed = c.clear.ensures.summed graph state.plan.changed.items state.looks.seen.items;
       marked = c.clear.ensures.marked graph state.plan.changed.items state.looks.seen.items;
       grows = after_same g.S.Texts.tells now;
@@ -69,6 +76,7 @@ run-preserved g c = record {
   unrefused = unrefused_then (g.S.Texts.world c.args.site.now) (g.S.Texts.world c.run.site) (g.S.Texts.world c.go_on.new.site) c.run.invariant.unrefused (unrefused_call (g.S.Texts.world c.run.site) (g.S.Texts.world c.go_on.new.site) _ c.in_ok-halt.ensures.cuts.cause);
   starts = starts_then (g.S.Texts.world c.args.site.now) (g.S.Texts.world c.run.site) (g.S.Texts.world c.go_on.new.site) c.run.invariant.unrefused c.run.invariant.starts c.in_ok-halt.ensures.cuts.starts;
   graph = c.go_on.ensures.graph ∙ c.run.invariant.graph;
+  known = c.in_ok-halt.ensures.known;
   summed = subst (λ (graph : Graph). AreSums graph c.go_on.new.self.plan.changed.items c.go_on.new.self.looks.seen.items c.go_on.new.self.looks.sums) (sym {A = Graph} c.go_on.ensures.graph) c.in_ok-halt.ensures.summed;
   marked = subst (λ (graph : Graph). AreMarked graph c.go_on.new.self.plan.changed.items c.go_on.new.self.looks.seen.items c.go_on.new.self.looks.sums) (sym {A = Graph} c.go_on.ensures.graph) c.in_ok-halt.ensures.marked;
   grows = after_then g.S.Texts.tells (g.S.Texts.world c.args.site.now) (g.S.Texts.world c.run.site) (g.S.Texts.world c.go_on.new.site) c.run.invariant.grows c.go_on.ensures.grows;
@@ -81,3 +89,9 @@ run-preserved g c = record {
       (Halts g.S.Texts.tells g.S.Texts.world c.run.site c.go_on.new.site c.args.self.now.graph c.run.self c.go_on.new.self) c.in_default.is
       (subst (λ (graph : Graph). TurnsTo g.S.Texts.tells g.S.Texts.world c.run.site c.go_on.new.site graph c.run.self c.go_on.new.self c.in_ok-halt.field-0) c.run.invariant.graph c.in_ok-halt.ensures.on) course suits goes (c.run.invariant.on course suits goes was);
 }
+
+pub go_on-requires-clause-known : goal.go_on-requires-clause-known
+go_on-requires-clause-known g c = c.run.invariant.known
+
+pub returns-in-Some-clause-known : goal.returns-in-Some-clause-known
+returns-in-Some-clause-known g c = c.in_ok-halt.ensures.known

@@ -6,8 +6,16 @@ use Rattle.work.specs.Ran.{AreEdgesOf, IsPauseOf}
 use Rattle.work.specs.Standing.{IsAtNextLoad, HasDone, HasHalted, HasFewerFiles}
 use Rattle.std.proofs.lemmas.Result.{err_from_is_err_and}
 use Rattle.work.proofs.Faults.{well_then}
+use Rattle.work.proofs.Pausing.{well_none}
 use Rattle.work.proofs.Rounds.{done_there, load_next, halted_there}
 use Rattle.work.proofs.state.Work.run_and_load.Goals as goal
+
+pub run-init : goal.run-init
+run-init g c = record {
+  known = c.requires.known;
+  well = well_none (g.S.Texts.world c.args.site.now) c.requires.running;
+  begins = λ course edges phases begins. (edges, phases, begins);
+}
 
 pub run_to_load-requires-clause-begins : goal.run_to_load-requires-clause-begins
 run_to_load-requires-clause-begins g c =
@@ -50,6 +58,7 @@ load_file-requires-clause-at g c =
 
 pub run-preserved : goal.run-preserved
 run-preserved g c = record {
+  known = c.in_ok-load_file-in-Load.ensures.known;
   well = well_then (g.S.Texts.world c.args.site.now) (g.S.Texts.world c.run_to_load.new.site) (g.S.Texts.world c.load_file.new.site)
       (well_then (g.S.Texts.world c.args.site.now) (g.S.Texts.world c.run.site) (g.S.Texts.world c.run_to_load.new.site) c.run.invariant.well c.in_ok-summary.ensures.well) c.in_ok-load_file-in-Load.ensures.well;
   begins = λ course edges phases begins.
@@ -74,3 +83,9 @@ returns-in_err-load_file-in-Load-clause-halted g c =
 
 pub run-smaller : goal.run-smaller
 run-smaller g c = subst (λ (of : Graph). HasFewerFiles of c.load_file.new.self.graph) c.run_to_load.ensures.graph c.in_ok-load_file-in-Load.ensures.fewer
+
+pub run_to_load-requires-clause-known : goal.run_to_load-requires-clause-known
+run_to_load-requires-clause-known g c = c.run.invariant.known
+
+pub load_file-requires-clause-known : goal.load_file-requires-clause-known
+load_file-requires-clause-known g c = c.in_ok-summary.ensures.known

@@ -6,6 +6,7 @@ use Rattle.work.proofs.After.{after_then}
 use Rattle.std.proofs.Common.{sym, subst}
 use Rattle.judge.specs.declared.looks.Looks.{Looks}
 use Rattle.work.specs.After.{LooksUnlessMore}
+use Rattle.work.proofs.StillKept.{same_answers}
 use Rattle.work.proofs.state.Work.run_plan.Goals as goal
 
 pub take_in_rest-requires-clause-many : goal.take_in_rest-requires-clause-many
@@ -41,3 +42,8 @@ returns-in-Ok-clause-looked g c = subst (λ (l : Looks). LooksUnlessMore g.S.Tex
 
 pub returns-in-Err-clause-seen : goal.returns-in-Err-clause-seen
 returns-in-Err-clause-seen g c = c.take_in_rest.ensures.seen (g.S.Texts.world c.args.site.now) (met_by (g.S.Texts.world c.args.site.now) (g.S.Texts.world c.run.new.site) c.in-Err.cut c.in-Err.ensures.cuts.cause)
+
+-- what is told of a pause changes nothing of that
+pub returns-in-Ok-clause-known : goal.returns-in-Ok-clause-known
+returns-in-Ok-clause-known g c =
+    same_answers c.run.new.self c.paused.new.self c.paused.ensures.graph c.paused.ensures.records c.paused.ensures.cone c.paused.ensures.plan c.paused.ensures.looks c.in-Ok.ensures.known

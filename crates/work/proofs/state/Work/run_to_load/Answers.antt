@@ -58,3 +58,12 @@ returns-in_err-run_plan-in-None-clause-halted g c =
     cut_from g.S.Texts.tells course edges phases c.args.self.now.graph c.ask_for_sources.new.self (g.S.Texts.world c.ask_for_sources.new.site) (c.in_ok-ask_for_sources-in-None.ensures.asked course edges phases begins) c.run_plan.new.self
     (g.S.Texts.world c.run_plan.new.site) c.run_plan.ensures.grows c.in_err-run_plan-in-None.field-0.0 c.in_err-run_plan-in-None.ensures.left
     (subst (λ (of : Graph). PausesSo g.S.Texts.tells g.S.Texts.world c.ask_for_sources.new.site c.run_plan.new.site of c.ask_for_sources.new.self c.run_plan.new.self (Err c.in_err-run_plan-in-None.field-0.0)) c.ask_for_sources.ensures.graph c.in_err-run_plan-in-None.ensures.ran))
+
+pub returns-in-Some-clause-known : goal.returns-in-Some-clause-known
+returns-in-Some-clause-known g c = c.requires.known
+
+pub run_plan-requires-clause-known : goal.run_plan-requires-clause-known
+run_plan-requires-clause-known g c = c.in_ok-ask_for_sources-in-None.ensures.known
+
+pub returns-in_ok-run_plan-in-None-clause-known : goal.returns-in_ok-run_plan-in-None-clause-known
+returns-in_ok-run_plan-in-None-clause-known g c = c.in_ok-run_plan-in-None.ensures.known

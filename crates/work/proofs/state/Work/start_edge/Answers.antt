@@ -1,4 +1,6 @@
-use Rattle.std.proofs.Common.{suc}
+use Rattle.std.proofs.Common.{suc, refl, sym, subst}
+use Rattle.records.specs.declared.records.Records.{Records}
+use Rattle.judge.specs.Answers.{TellSame}
 use Rattle.theory.proofs.SiteCalls.{looks_then}
 use Rattle.work.proofs.Results.{on_err, ok_then}
 use Rattle.work.proofs.Launched.{err_then}
@@ -82,3 +84,18 @@ returns-clause-grows g c = after_then g.S.Texts.tells (g.S.Texts.world c.args.si
 
 pub returns-clause-some : goal.returns-clause-some
 returns-clause-some g c = ok_then c.launch.result c.launch.ensures.some (λ some. some_after g.S.Texts.tells (g.S.Texts.world c.args.site.now) (g.S.Texts.world c.begin.new.site) (g.S.Texts.world c.launch.new.site) (after_then g.S.Texts.tells (g.S.Texts.world c.args.site.now) (g.S.Texts.world c.start.new.site) (g.S.Texts.world c.begin.new.site) (after_then g.S.Texts.tells (g.S.Texts.world c.args.site.now) (g.S.Texts.world c.make_folders.new.site) (g.S.Texts.world c.start.new.site) (after_looks g.S.Texts.tells (g.S.Texts.world c.args.site.now) (g.S.Texts.world c.make_folders.new.site) c.make_folders.ensures.looks) (after_looks g.S.Texts.tells (g.S.Texts.world c.make_folders.new.site) (g.S.Texts.world c.start.new.site) c.start.ensures.looks)) (after_writes g.S.Texts.tells c.args.self.now.records.logs.build_log.path (g.S.Texts.world c.start.new.site) (g.S.Texts.world c.begin.new.site) c.begin.ensures.writes)) some c.launch.ensures.grows)
+
+-- the log is written at its end, and tells what it told
+pub returns-in_err-make_folders-clause-told : goal.returns-in_err-make_folders-clause-told
+returns-in_err-make_folders-clause-told g c = record { build_log = refl; deps_log = refl; places = refl; deps_places = refl }
+
+pub returns-in_err-start-clause-told : goal.returns-in_err-start-clause-told
+returns-in_err-start-clause-told g c = record { build_log = refl; deps_log = refl; places = refl; deps_places = refl }
+
+pub returns-in_err-begin-clause-told : goal.returns-in_err-begin-clause-told
+returns-in_err-begin-clause-told g c = record { build_log = c.begin.ensures.same.build_log.log; deps_log = c.begin.ensures.same.deps_log.log; places = c.begin.ensures.places; deps_places = c.begin.ensures.deps_places }
+
+pub returns-clause-told : goal.returns-clause-told
+returns-clause-told g c =
+    subst (λ (records : Records). TellSame c.args.self.now.records records) (sym {A = Records} c.launch.ensures.records)
+    (record { build_log = c.begin.ensures.same.build_log.log; deps_log = c.begin.ensures.same.deps_log.log; places = c.begin.ensures.places; deps_places = c.begin.ensures.deps_places })
