@@ -1,0 +1,110 @@
+-- What a command did, by canonical paths, and where these lead.
+use Rattle.std.specs.Prelude.{◌≡◌, ℕ, ◌&&◌, ◌||◌, not, ◌×◌, Bool, true, false, List, [], ◌∷◌, Option, Some, None, is_some, if◌then◌else◌, ⊤, ⊥}
+use Rattle.lexer.specs.Path.{IsCanonical}
+use Rattle.trace.specs.declared.fact.Deed.{Deed}
+use Rattle.trace.specs.declared.fact.Deed.TheVariants.{Wrote, Into, Stamped, Emptied, Led, Missed, Sought, Folder, Connected}
+use Rattle.trace.specs.declared.fact.Fact.{Fact}
+use Rattle.audit.specs.declared.lead.Asks.{Asks}
+use Rattle.audit.specs.declared.lead.Lead.{Lead}
+use Rattle.audit.specs.declared.lead.Way.TheVariants.{Plain}
+use Rattle.audit.specs.declared.whole.Whole.{Whole}
+use Rattle.audit.specs.Leading.{is_twin, lead}
+use Rattle.audit.specs.Standing.{after, nowhere}
+use Rattle.audit.specs.Stood.{Stood}
+
+abbrev pub IsPath : List ℕ → List ℕ → Type 0
+IsPath text path = IsCanonical text path
+
+-- ---- what a fact asks for by its name
+
+-- the file is written, or its stamp is set
+abbrev pub writes : Deed → Bool
+writes Wrote = true
+writes Into = true
+writes Stamped = true
+writes Emptied = true
+writes _ = false
+
+abbrev pub sees_old : Deed → Bool
+sees_old Missed = false
+sees_old Sought = false
+sees_old Folder = false
+sees_old Connected = false
+sees_old _ = true
+
+-- links count that the command did not make
+abbrev pub sees_others : Fact → Bool
+sees_others fact = fact.up || (sees_old fact.deed && (not (is_some fact.real) || writes fact.deed))
+
+abbrev pub asks_of : Fact → Asks
+asks_of fact = record { follows = fact.follows; sees = sees_others fact; writes = writes fact.deed }
+
+-- what stands at the path itself is asked for
+abbrev pub peeks : Asks
+peeks = record { follows = false; sees = true; writes = false }
+
+-- ---- where its paths lead
+
+-- the kernel has a file by this path, which is reached so; by another one where the command gave it this path beside that
+abbrev pub IsKernelsSo : List ℕ → Option (List ℕ) → Type 0
+IsKernelsSo real None = ⊥
+IsKernelsSo real (Some path) = IsCanonical real path
+
+abbrev pub IsKernels : List ℕ → Lead → Type 0
+IsKernels real led = IsKernelsSo real led.path
+
+abbrev pub IsOpened : List ℕ → Option Lead → Lead → Type 0
+IsOpened real None led = IsKernels real led × (led.way ≡ Plain)
+IsOpened real (Some found) led = (led.way ≡ found.way) × (if is_twin found.way then led ≡ found else IsKernels real led)
+
+-- where a name leads, where the kernel tells by which path it has the file, or does not
+abbrev pub IsLedSo : Option (List ℕ) → Option Lead → Lead → Type 0
+IsLedSo None found led = found ≡ Some led
+IsLedSo (Some real) found led = IsOpened real found led
+
+abbrev pub IsLedBy : Stood → Stood → Fact → Lead → Type 0
+IsLedBy own old fact led = IsLedSo fact.real (lead own old (asks_of fact) fact.path) led
+
+-- where the other path of a fact leads, without what stands there
+abbrev pub IsPlacedSo : List ℕ → Option (List ℕ) → List ℕ → Type 0
+IsPlacedSo text None path = IsCanonical text path
+IsPlacedSo text (Some led) path = path ≡ led
+
+abbrev pub IsPlacedAt : List ℕ → Option Lead → List ℕ → Type 0
+IsPlacedAt text None path = ⊥
+IsPlacedAt text (Some found) path = IsPlacedSo text found.path path
+
+abbrev pub IsPlaced : Stood → Stood → List ℕ → List ℕ → Type 0
+IsPlaced own old text path = IsPlacedAt text (lead own old peeks text) path
+
+abbrev pub IsPlacedOther : Stood → Stood → List ℕ → Option (List ℕ) → Type 0
+IsPlacedOther own old text None = ⊥
+IsPlacedOther own old text (Some path) = IsPlaced own old text path
+
+abbrev pub IsOtherSo : Stood → Stood → Deed → Option (List ℕ) → Option (List ℕ) → Type 0
+IsOtherSo own old deed None other = other ≡ None
+IsOtherSo own old Led (Some text) other = other ≡ Some text
+IsOtherSo own old _ (Some text) other = IsPlacedOther own old text other
+
+-- of a link where it leads as it is written, else where the other path leads
+abbrev pub IsOtherOf : Stood → Stood → Fact → Option (List ℕ) → Type 0
+IsOtherOf own old fact other = IsOtherSo own old fact.deed fact.other other
+
+-- the same was done, by canonical paths, where these things stand that the command put there and others did
+pub record IsWholeOf (own old : Stood) (fact : Fact) (whole : Whole) : Type 0 where
+  pub deed : whole.deed ≡ fact.deed
+  pub path : IsCanonical fact.path whole.path
+  pub led : IsLedBy own old fact (record { path = whole.real; way = whole.way })
+  pub other : IsOtherOf own old fact whole.other
+  pub up : whole.up ≡ fact.up
+
+-- one thing after another, each by what stands where once those before it were done
+abbrev pub AreWholeFrom : Stood → Stood → List Fact → List Whole → Type 0
+AreWholeFrom own old [] [] = ⊤
+AreWholeFrom own old [] (whole ∷ wholes) = ⊥
+AreWholeFrom own old (fact ∷ facts) [] = ⊥
+AreWholeFrom own old (fact ∷ facts) (whole ∷ wholes) =
+    IsWholeOf own old fact whole × AreWholeFrom (after own whole) old facts wholes
+
+abbrev pub AreWhole : Stood → List Fact → List Whole → Type 0
+AreWhole old facts wholes = AreWholeFrom nowhere old facts wholes
