@@ -1,3 +1,4 @@
 pub mod Members
 pub mod Summed
+pub mod Places
 pub mod Breaking

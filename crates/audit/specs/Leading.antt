@@ -2,7 +2,7 @@
 use Rattle.std.specs.Prelude.{ℕ, zero, suc, ◌-◌, ◌==◌, ◌&&◌, ◌||◌, not, Bool, true, false, List, [], ◌∷◌, ◌++◌, Option, Some, None, if◌then◌else◌, bytes_eq, codes, length, nat_eq, slice_get, take, unwrap_or}
 use Rattle.std.specs.List.{ends_with, slice_split, starts_with}
 use Rattle.audit.specs.declared.lead.Asks.{Asks}
-use Rattle.audit.specs.declared.lead.Lead.{Lead}
+use Rattle.audit.specs.declared.lead.Trail.{Trail}
 use Rattle.audit.specs.declared.lead.Phase.{Phase}
 use Rattle.audit.specs.declared.lead.Phase.TheVariants.{Walks, Magic, Met, Lost}
 use Rattle.audit.specs.declared.lead.SoFar.{SoFar}
@@ -156,29 +156,29 @@ twin_of own place = twin_in own (stand_at own place)
 abbrev pub written_to : Bool → Stood → List ℕ → Option (List ℕ)
 written_to writes own place = if writes then twin_of own place else None
 
-abbrev pub ended_at : SoFar → List ℕ → Option (List ℕ) → Lead
+abbrev pub ended_at : SoFar → List ℕ → Option (List ℕ) → Trail
 ended_at so_far place None = record { path = if so_far.met then Some place else None; way = so_far.way }
 ended_at so_far place (Some twin) = record { path = Some twin; way = Twin }
 
-abbrev pub at_end : Stood → Bool → SoFar → List ℕ → Lead
+abbrev pub at_end : Stood → Bool → SoFar → List ℕ → Trail
 at_end own writes so_far place = ended_at so_far place (written_to writes own place)
 
 abbrev pub so_far : Bool → Way → SoFar
 so_far met way = record { met = met; way = way }
 
 -- it cannot be told where it leads; or it was come to its end; or to a link, behind which it goes on
-abbrev pub lead_on : (Bool → Way → List ℕ → Option Lead) → Stood → Asks → SoFar → Came → Option Lead
+abbrev pub lead_on : (Bool → Way → List ℕ → Option Trail) → Stood → Asks → SoFar → Came → Option Trail
 lead_on go own asks so came =
     if is_lost came.phase then None
     else (if not (goes_on came asks.follows) then Some (at_end own asks.writes so (done came.folders))
     else go true (way_after so.way came.own came.last) came.next)
 
 -- through no more links than so many
-abbrev pub lead_in : ℕ → Stood → Stood → Asks → Bool → Way → List ℕ → Option Lead
+abbrev pub lead_in : ℕ → Stood → Stood → Asks → Bool → Way → List ℕ → Option Trail
 lead_in zero own old asks met way name = None
 lead_in (suc left) own old asks met way name =
     lead_on (lead_in left own old asks) own asks (so_far met way) (walked (target_at own old asks.sees) name)
 
 -- Where a name leads, which begins at the root; without a path where no link stands on its way. The kernel follows 40 links.
-unfoldable pub lead : Stood → Stood → Asks → List ℕ → Option Lead
+unfoldable pub lead : Stood → Stood → Asks → List ℕ → Option Trail
 lead own old asks name = lead_in 40 own old asks false Plain name

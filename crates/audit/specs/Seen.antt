@@ -7,7 +7,7 @@ use Rattle.trace.specs.declared.fact.Deed.{Deed}
 use Rattle.trace.specs.declared.fact.Deed.TheVariants.{Connected, Left, Made, Moved, Read}
 use Rattle.audit.specs.declared.seen.Uses.{Uses}
 use Rattle.audit.specs.declared.used.Use.{Use}
-use Rattle.audit.specs.declared.below.Renamed.{Renamed}
+use Rattle.audit.specs.declared.below.Carried.{Carried}
 use Rattle.audit.specs.declared.whole.Whole.{Whole}
 use Rattle.audit.specs.declared.seen.By.{By}
 use Rattle.audit.specs.declared.seen.By.TheVariants.{Name, Kernel, Both}
@@ -74,16 +74,16 @@ abbrev pub folder_deed : Use → Deed
 folder_deed used = if used.made_folder then Made else Moved
 
 -- what stands below a folder goes along with it: a folder, or a file, if it was seen that one stands there
-abbrev pub with_pair_of : Use → Sums → Renamed → Sums
+abbrev pub with_pair_of : Use → Sums → Carried → Sums
 with_pair_of used sums pair =
     if used.is_folder then with_done (with_done sums pair.from Left) pair.to (folder_deed used)
     else (if not (stands used) then sums
     else with_done (with_done (with_done sums pair.from Read) pair.from Left) pair.to Moved)
 
-abbrev pub with_pair : Sums → Renamed → Sums
+abbrev pub with_pair : Sums → Carried → Sums
 with_pair sums pair = with_pair_of (use_at sums pair.from) sums pair
 
-abbrev pub with_pairs : Sums → List Renamed → Sums
+abbrev pub with_pairs : Sums → List Carried → Sums
 with_pairs sums [] = sums
 with_pairs sums (pair ∷ pairs) = with_pairs (with_pair sums pair) pairs
 

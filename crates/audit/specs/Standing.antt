@@ -3,7 +3,7 @@ use Rattle.std.specs.Prelude.{ℕ, zero, suc, Bool, true, false, List, [], ◌�
 use Rattle.model.specs.Graph.{has}
 use Rattle.trace.specs.declared.fact.Deed.{Deed}
 use Rattle.trace.specs.declared.fact.Deed.TheVariants.{Led, Linked, Moved, Removed}
-use Rattle.audit.specs.declared.below.Renamed.{Renamed}
+use Rattle.audit.specs.declared.below.Carried.{Carried}
 use Rattle.audit.specs.declared.standing.Stands.{Stands}
 use Rattle.audit.specs.declared.standing.Stands.TheVariants.{Unknown, Gone, Link, Twin}
 use Rattle.audit.specs.declared.whole.Whole.{Whole}
@@ -69,7 +69,7 @@ linked from (Some stands) = linked_so from stands
 abbrev pub with_pair : Stood → List ℕ → List ℕ → Stood
 with_pair stood from to = put (put stood from Gone) to (unwrap_or (stand_at stood from) Unknown)
 
-abbrev pub with_pairs : Stood → List Renamed → Stood
+abbrev pub with_pairs : Stood → List Carried → Stood
 with_pairs stood [] = stood
 with_pairs stood (pair ∷ pairs) = with_pairs (with_pair stood pair.from pair.to) pairs
 

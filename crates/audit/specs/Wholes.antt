@@ -5,7 +5,7 @@ use Rattle.trace.specs.declared.fact.Deed.{Deed}
 use Rattle.trace.specs.declared.fact.Deed.TheVariants.{Wrote, Into, Stamped, Emptied, Led, Missed, Sought, Folder, Connected}
 use Rattle.trace.specs.declared.fact.Fact.{Fact}
 use Rattle.audit.specs.declared.lead.Asks.{Asks}
-use Rattle.audit.specs.declared.lead.Lead.{Lead}
+use Rattle.audit.specs.declared.lead.Trail.{Trail}
 use Rattle.audit.specs.declared.lead.Way.TheVariants.{Plain}
 use Rattle.audit.specs.declared.whole.Whole.{Whole}
 use Rattle.audit.specs.Leading.{is_twin, lead}
@@ -50,19 +50,19 @@ abbrev pub IsKernelsSo : List ℕ → Option (List ℕ) → Type 0
 IsKernelsSo real None = ⊥
 IsKernelsSo real (Some path) = IsCanonical real path
 
-abbrev pub IsKernels : List ℕ → Lead → Type 0
+abbrev pub IsKernels : List ℕ → Trail → Type 0
 IsKernels real led = IsKernelsSo real led.path
 
-abbrev pub IsOpened : List ℕ → Option Lead → Lead → Type 0
+abbrev pub IsOpened : List ℕ → Option Trail → Trail → Type 0
 IsOpened real None led = IsKernels real led × (led.way ≡ Plain)
 IsOpened real (Some found) led = (led.way ≡ found.way) × (if is_twin found.way then led ≡ found else IsKernels real led)
 
 -- where a name leads, where the kernel tells by which path it has the file, or does not
-abbrev pub IsLedSo : Option (List ℕ) → Option Lead → Lead → Type 0
+abbrev pub IsLedSo : Option (List ℕ) → Option Trail → Trail → Type 0
 IsLedSo None found led = found ≡ Some led
 IsLedSo (Some real) found led = IsOpened real found led
 
-abbrev pub IsLedBy : Stood → Stood → Fact → Lead → Type 0
+abbrev pub IsLedBy : Stood → Stood → Fact → Trail → Type 0
 IsLedBy own old fact led = IsLedSo fact.real (lead own old (asks_of fact) fact.path) led
 
 -- where the other path of a fact leads, without what stands there
@@ -70,7 +70,7 @@ abbrev pub IsPlacedSo : List ℕ → Option (List ℕ) → List ℕ → Type 0
 IsPlacedSo text None path = IsCanonical text path
 IsPlacedSo text (Some led) path = path ≡ led
 
-abbrev pub IsPlacedAt : List ℕ → Option Lead → List ℕ → Type 0
+abbrev pub IsPlacedAt : List ℕ → Option Trail → List ℕ → Type 0
 IsPlacedAt text None path = ⊥
 IsPlacedAt text (Some found) path = IsPlacedSo text found.path path
 

@@ -10,7 +10,7 @@ use text::{Items, Path};
 
 /// A path that became another one.
 #[derive(Drop)]
-pub struct Renamed {
+pub struct Carried {
     pub from: Path,
     pub to: Path,
 }
@@ -21,7 +21,7 @@ pub fn below(
     paths: &Paths,
     from: &str,
     to: &str,
-) -> Result<Items<Renamed>, AllocError>
+) -> Result<Items<Carried>, AllocError>
     ensures { IfOk result (λ found. found ≡ below from.now to.now paths.now) }
 {
     let mut found = Items::new(alloc);
@@ -40,7 +40,7 @@ fn push(
     from: &str,
     to: &str,
     path: &str,
-    found: &mut Items<Renamed>,
+    found: &mut Items<Carried>,
 ) -> Result<(), AllocError>
     ensures { OnOk result (found.new ≡ found.old ++ with_one from.now to.now path.now) }
 {
@@ -51,13 +51,13 @@ fn push(
 }
 
 /// The path, and what it is called where its folder is this one.
-fn renamed(alloc: Global, to: &str, path: &str, rest: &str) -> Result<Renamed, AllocError>
+fn renamed(alloc: Global, to: &str, path: &str, rest: &str) -> Result<Carried, AllocError>
     ensures { IfOk result (λ one. one ≡ renamed to.now path.now rest.now) }
 {
     let mut name = String::from_str(alloc, to)?;
     name.push('/')?;
     name.push_str(rest)?;
-    Ok(Renamed {
+    Ok(Carried {
         from: Path::from_str(alloc, path)?,
         to: Path::from_string(name),
     })

@@ -40,7 +40,7 @@ pub enum Way {
 
 /// Where a name leads; without a path where no link stands on its way.
 #[derive(Drop)]
-pub struct Lead {
+pub struct Trail {
     pub path: Option<Path>,
     pub way: Way,
 }
@@ -150,7 +150,7 @@ pub fn lead(
     links: &Links<'_>,
     asks: Asks,
     name: &str,
-) -> Result<Option<Lead>, AllocError>
+) -> Result<Option<Trail>, AllocError>
     ensures { IfOk result (λ found. found ≡ lead links.now.own.now links.now.old.now asks name.now) }
 {
     let mut met = false;
@@ -182,12 +182,12 @@ fn at_end(
     writes: bool,
     so_far: SoFar,
     done: &str,
-) -> Result<Lead, AllocError>
+) -> Result<Trail, AllocError>
     ensures { IfOk result (λ found. found ≡ at_end links.now.own.now writes so_far done.now) }
 {
     if writes {
         if let Some(twin) = links.own.twin_of(done) {
-            return Ok(Lead {
+            return Ok(Trail {
                 path: Some(Path::from_str(alloc, twin)?),
                 way: Way::Twin,
             });
@@ -198,7 +198,7 @@ fn at_end(
     } else {
         None
     };
-    Ok(Lead {
+    Ok(Trail {
         path,
         way: so_far.way,
     })

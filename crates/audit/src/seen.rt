@@ -9,7 +9,7 @@ ghost use Rattle.audit.specs.Uses.{unused};
 ghost use Rattle.audit.specs.Wholes.{IsPath};
 ghost use Rattle.audit.specs.Seen.{IsWhole, again_at, folder_deed, is_connected, no_sums, path_by, put_last, sums_in, use_at, with_all_done, with_done, with_moved, with_pair, with_pairs, with_taken, with_thing, with_untouched};
 
-use crate::below::{Renamed, below};
+use crate::below::{Carried, below};
 use crate::used::Use;
 use crate::whole::Whole;
 use lexer::canonical;
@@ -132,7 +132,7 @@ impl Uses {
         self.take(alloc, to, folder_deed(used))
     }
 
-    fn take_pairs(&mut self, alloc: Global, pairs: &[Renamed]) -> Result<(), AllocError>
+    fn take_pairs(&mut self, alloc: Global, pairs: &[Carried]) -> Result<(), AllocError>
         ensures { OnOk result (sums_in self.new ≡ with_pairs (sums_in self.old) pairs.now) }
     {
         for pair in pairs {
@@ -142,7 +142,7 @@ impl Uses {
     }
 
     /// The same of what has one path, if something stands there.
-    fn take_pair(&mut self, alloc: Global, pair: &Renamed) -> Result<(), AllocError>
+    fn take_pair(&mut self, alloc: Global, pair: &Carried) -> Result<(), AllocError>
         ensures { OnOk result (sums_in self.new ≡ with_pair (sums_in self.old) pair.now) }
     {
         let used = self.at(pair.from.as_str());

@@ -5,7 +5,7 @@ ghost use Rattle.std.specs.Map.Iter.{deref};
 ghost use Rattle.audit.specs.Leading.{twin_of};
 ghost use Rattle.audit.specs.Standing.{after, is_gone, linked, moved, nowhere, other_in, place_of, put, put_at, stand_at, with_pair, with_pairs};
 
-use crate::below::{Renamed, below};
+use crate::below::{Carried, below};
 use crate::whole::Whole;
 use paths::Paths;
 use std::alloc::{AllocError, Global};
@@ -167,7 +167,7 @@ impl Standing {
         self.carry_one(alloc, from, to)
     }
 
-    fn carry_all(&mut self, alloc: Global, pairs: &[Renamed]) -> Result<(), AllocError>
+    fn carry_all(&mut self, alloc: Global, pairs: &[Carried]) -> Result<(), AllocError>
         ensures { OnOk result (self.new ≡ with_pairs self.old pairs.now) }
     {
         for pair in pairs {

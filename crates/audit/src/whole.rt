@@ -3,7 +3,7 @@
 ghost use Rattle.std.specs.Prelude.{◌≡◌, IfOk, IfSome};
 ghost use Rattle.audit.specs.Wholes.{AreWhole, IsLedBy, IsOtherOf, IsPath, IsPlaced, IsOpened, IsWholeOf, asks_of, peeks, sees_old, sees_others, writes};
 
-use crate::lead::{Asks, Lead, Links, Way, lead};
+use crate::lead::{Asks, Links, Trail, Way, lead};
 use crate::standing::Standing;
 use lexer::{ReadFault, canonical};
 use std::alloc::{AllocError, Global};
@@ -76,7 +76,7 @@ struct Other {
     path: Option<Path>,
 }
 
-fn whole_from(fact: &Fact, path: Path, led: Lead, other: Other) -> Whole {
+fn whole_from(fact: &Fact, path: Path, led: Trail, other: Other) -> Whole {
     Whole {
         deed: fact.deed,
         path,
@@ -88,7 +88,7 @@ fn whole_from(fact: &Fact, path: Path, led: Lead, other: Other) -> Whole {
 }
 
 /// By which path the kernel has the file of a fact, and what stands on the way to it; none where that is no text, or cannot be told.
-fn led_of(alloc: Global, links: &Links<'_>, fact: &Fact) -> Result<Option<Lead>, AllocError>
+fn led_of(alloc: Global, links: &Links<'_>, fact: &Fact) -> Result<Option<Trail>, AllocError>
     ensures { IfOk result (λ found. IfSome found (IsLedBy links.now.own.now links.now.old.now fact.now)) }
 {
     let Ok(name) = from_utf8(fact.path.as_slice()) else {
@@ -102,14 +102,14 @@ fn led_of(alloc: Global, links: &Links<'_>, fact: &Fact) -> Result<Option<Lead>,
 }
 
 /// The same of a file that the kernel has by this path, where its name leads there.
-fn opened(alloc: Global, real: &Bytes, found: Option<Lead>) -> Result<Option<Lead>, AllocError>
+fn opened(alloc: Global, real: &Bytes, found: Option<Trail>) -> Result<Option<Trail>, AllocError>
     ensures { IfOk result (λ led. IfSome led (IsOpened real.now found)) }
 {
     let Some(real) = path_of(alloc, real)? else {
         return Ok(None);
     };
     let Some(found) = found else {
-        return Ok(Some(Lead {
+        return Ok(Some(Trail {
             path: Some(real),
             way: Way::Plain,
         }));
@@ -117,7 +117,7 @@ fn opened(alloc: Global, real: &Bytes, found: Option<Lead>) -> Result<Option<Lea
     if found.way.is_twin() {
         return Ok(Some(found));
     }
-    Ok(Some(Lead {
+    Ok(Some(Trail {
         path: Some(real),
         way: found.way,
     }))
