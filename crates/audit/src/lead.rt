@@ -157,7 +157,7 @@ pub fn lead(
     let mut way = Way::Plain;
     let mut text = Text::from_str(alloc, name)?;
     let mut left = MOST;
-    while left > 0 {
+    'links: while left > 0 {
         left -= 1;
         let walk = walked(alloc, links, asks.sees, text.as_str())?;
         if walk.is_lost() {
@@ -439,7 +439,7 @@ fn has(text: &[u8], mark: &[u8]) -> bool
     ensures { result ≡ has mark.now text.now }
 {
     let mut rest = text;
-    while let Some((_, more)) = rest.split_first() {
+    'places: while let Some((_, more)) = rest.split_first() {
         if rest.starts_with(mark) {
             return true;
         }

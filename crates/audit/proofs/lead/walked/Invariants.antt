@@ -1,6 +1,6 @@
 use Rattle.std.proofs.Common.{◌≡◌}
 use Rattle.audit.specs.Leading.{nothing, steps, target_at}
-use Rattle.audit.proofs.Parts.{texts}
+use Rattle.lexer.specs.Path.{texts}
 use Rattle.audit.proofs.lead.walked.Given as goal
 
 abbrev pub invariant-loop-part : goal.invariant-loop-part
