@@ -12,7 +12,8 @@ ghost use Rattle.nj_run.specs.Traces.{IsTracePath};
 
 use crate::environment::Environment;
 use crate::given::Options as Asked;
-use crate::looked::look;
+use crate::left::left_before;
+use crate::looked::{Place, look};
 use crate::noted::Noted;
 use crate::program::{build_options, build_over, recall};
 use crate::told;
@@ -108,6 +109,7 @@ fn audit_here<W: Write>(
     let alloc = rt.alloc();
     let folder = env::current_dir(rt)?;
     let (options, targets) = build_options(alloc, asked, environment.pattern)?;
+    let left = left_before(rt);
     let mut host = traced_host(rt, program, out);
     host.draw(
         noted.look(asked.verbose),
@@ -120,7 +122,11 @@ fn audit_here<W: Write>(
     recall(&mut host, asked.keep, &report);
     noted.waited(host.wait_for_clock());
     noted.built(&mut host, asked.file, &report);
-    let tally = look(rt, &mut host, &options, targets.as_slice(), folder.to_str());
+    let place = Place {
+        folder: folder.to_str(),
+        left: left.as_ref(),
+    };
+    let tally = look(rt, &mut host, &options, targets.as_slice(), place);
     let trouble = host.into_trouble();
     Ok(Audited {
         report,

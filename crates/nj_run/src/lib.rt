@@ -7,6 +7,8 @@ mod audited;
 mod command;
 mod environment;
 mod given;
+mod left;
+mod links;
 mod looked;
 mod named;
 mod noted;
