@@ -70,7 +70,7 @@ set_past [] n new past = refl
 set_past (s ∷ stands) zero new past = absurd (omega (arith, past))
 set_past (s ∷ stands) (suc n) new past = ap (λ (ss : List Stands). s ∷ ss) (set_past stands n new (omega (arith, past)))
 
-stood : List (List ℕ) → List Stands → Stood
+abbrev stood : List (List ℕ) → List Stands → Stood
 stood paths stands = record { paths = paths; stands = stands }
 
 same_stood : (old : Stood) (paths : List (List ℕ)) (stands : List Stands) → old.paths ≡ paths → old.stands ≡ stands → old ≡ stood paths stands

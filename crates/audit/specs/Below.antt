@@ -7,10 +7,13 @@ abbrev pub is_slash : Option ℕ → Bool
 is_slash None = false
 is_slash (Some byte) = byte == 47
 
--- what stands behind the folder and a slash, where the path is below it
+-- the path begins with the folder and a slash
+abbrev pub is_below : List ℕ → List ℕ → Bool
+is_below folder path = starts_with nat_eq path folder && is_slash (slice_get path (length folder))
+
+-- what stands behind these, where the path is below the folder
 abbrev pub behind : List ℕ → List ℕ → Option (List ℕ)
-behind folder path =
-    if starts_with nat_eq path folder && is_slash (slice_get path (length folder)) then Some (drop (length folder + 1) path) else None
+behind folder path = if is_below folder path then Some (drop (length folder + 1) path) else None
 
 -- the path, and what it is called where its folder is this one
 abbrev pub renamed : List ℕ → List ℕ → List ℕ → Carried

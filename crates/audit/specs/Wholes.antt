@@ -1,5 +1,5 @@
 -- What a command did, by canonical paths, and where these lead.
-use Rattle.std.specs.Prelude.{◌≡◌, ℕ, ◌&&◌, ◌||◌, not, ◌×◌, Bool, true, false, List, [], ◌∷◌, Option, Some, None, is_some, if◌then◌else◌, ⊤, ⊥}
+use Rattle.std.specs.Prelude.{◌≡◌, ℕ, ◌&&◌, ◌||◌, not, Bool, true, false, List, [], ◌∷◌, Option, Some, None, is_some, ⊤}
 use Rattle.lexer.specs.Path.{IsCanonical}
 use Rattle.trace.specs.declared.fact.Deed.{Deed}
 use Rattle.trace.specs.declared.fact.Deed.TheVariants.{Wrote, Into, Stamped, Emptied, Led, Missed, Sought, Folder, Connected}
@@ -53,9 +53,13 @@ IsKernelsSo real (Some path) = IsCanonical real path
 abbrev pub IsKernels : List ℕ → Trail → Type 0
 IsKernels real led = IsKernelsSo real led.path
 
+abbrev pub IsOpenedBy : Bool → List ℕ → Trail → Trail → Type 0
+IsOpenedBy true real found led = led ≡ found
+IsOpenedBy false real found led = IsKernels real led
+
 abbrev pub IsOpened : List ℕ → Option Trail → Trail → Type 0
 IsOpened real None led = IsKernels real led × (led.way ≡ Plain)
-IsOpened real (Some found) led = (led.way ≡ found.way) × (if is_twin found.way then led ≡ found else IsKernels real led)
+IsOpened real (Some found) led = (led.way ≡ found.way) × IsOpenedBy (is_twin found.way) real found led
 
 -- where a name leads, where the kernel tells by which path it has the file, or does not
 abbrev pub IsLedSo : Option (List ℕ) → Option Trail → Trail → Type 0
@@ -70,25 +74,32 @@ abbrev pub IsPlacedSo : List ℕ → Option (List ℕ) → List ℕ → Type 0
 IsPlacedSo text None path = IsCanonical text path
 IsPlacedSo text (Some led) path = path ≡ led
 
-abbrev pub IsPlacedAt : List ℕ → Option Trail → List ℕ → Type 0
-IsPlacedAt text None path = ⊥
-IsPlacedAt text (Some found) path = IsPlacedSo text found.path path
+abbrev pub IsPlacedTo : List ℕ → Option (List ℕ) → Option (List ℕ) → Type 0
+IsPlacedTo text led None = ⊥
+IsPlacedTo text led (Some path) = IsPlacedSo text led path
 
-abbrev pub IsPlaced : Stood → Stood → List ℕ → List ℕ → Type 0
-IsPlaced own old text path = IsPlacedAt text (lead own old peeks text) path
+abbrev pub IsPlacedAt : List ℕ → Option Trail → Option (List ℕ) → Type 0
+IsPlacedAt text None other = ⊥
+IsPlacedAt text (Some found) other = IsPlacedTo text found.path other
 
 abbrev pub IsPlacedOther : Stood → Stood → List ℕ → Option (List ℕ) → Type 0
-IsPlacedOther own old text None = ⊥
-IsPlacedOther own old text (Some path) = IsPlaced own old text path
+IsPlacedOther own old text other = IsPlacedAt text (lead own old peeks text) other
 
-abbrev pub IsOtherSo : Stood → Stood → Deed → Option (List ℕ) → Option (List ℕ) → Type 0
-IsOtherSo own old deed None other = other ≡ None
-IsOtherSo own old Led (Some text) other = other ≡ Some text
-IsOtherSo own old _ (Some text) other = IsPlacedOther own old text other
+abbrev pub is_led : Deed → Bool
+is_led Led = true
+is_led _ = false
+
+abbrev pub IsOtherBy : Bool → Stood → Stood → List ℕ → Option (List ℕ) → Type 0
+IsOtherBy true own old text other = other ≡ Some text
+IsOtherBy false own old text other = IsPlacedOther own old text other
+
+abbrev pub IsOtherSo : Bool → Stood → Stood → Option (List ℕ) → Option (List ℕ) → Type 0
+IsOtherSo led own old None other = other ≡ None
+IsOtherSo led own old (Some text) other = IsOtherBy led own old text other
 
 -- of a link where it leads as it is written, else where the other path leads
 abbrev pub IsOtherOf : Stood → Stood → Fact → Option (List ℕ) → Type 0
-IsOtherOf own old fact other = IsOtherSo own old fact.deed fact.other other
+IsOtherOf own old fact other = IsOtherSo (is_led fact.deed) own old fact.other other
 
 -- the same was done, by canonical paths, where these things stand that the command put there and others did
 pub record IsWholeOf (own old : Stood) (fact : Fact) (whole : Whole) : Type 0 where

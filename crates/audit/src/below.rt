@@ -2,7 +2,7 @@
 
 ghost use Rattle.std.specs.Prelude.{◌≡◌, ◌++◌, IfOk, OnOk, option_map, slice_get};
 ghost use Rattle.std.specs.Map.Iter.{deref};
-ghost use Rattle.audit.specs.Below.{behind, below, is_slash, renamed, with_one};
+ghost use Rattle.audit.specs.Below.{behind, below, is_below, is_slash, renamed, with_one};
 
 use paths::{PathId, Paths};
 use std::alloc::{AllocError, Global};
@@ -67,12 +67,24 @@ fn renamed(alloc: Global, to: &str, path: &str, rest: &str) -> Result<Carried, A
 fn behind<'p>(folder: &str, path: &'p str) -> Option<&'p str>
     ensures { option_map (λ rest. rest.now) result ≡ behind folder.now path.now }
 {
-    let bytes = path.as_bytes();
-    let end = folder.len();
-    if bytes.starts_with(folder.as_bytes()) && is_slash(bytes.get(end).copied()) {
-        return Some(&path[end + 1..]);
+    if is_below(folder.as_bytes(), path.as_bytes()) {
+        return Some(&path[folder.len() + 1..]);
     }
     None
+}
+
+/// Whether the path begins with the folder and a slash.
+fn is_below(folder: &[u8], path: &[u8]) -> bool
+    ensures { result ≡ is_below folder.now path.now }
+{
+    path.starts_with(folder) && is_slash(byte_at(path, folder.len()))
+}
+
+/// The byte in this place.
+fn byte_at(bytes: &[u8], place: usize) -> Option<u8>
+    ensures { result ≡ slice_get bytes.now place }
+{
+    bytes.get(place).copied()
 }
 
 fn is_slash(byte: Option<u8>) -> bool

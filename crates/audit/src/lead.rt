@@ -145,6 +145,7 @@ impl Way {
 
 /// Where this name leads, which begins at the root. None where that cannot be told: it leads through what a process has open, or through more
 /// links than the kernel follows.
+#[tactic(auto, unfolding(crate::specs::Leading::lead))]
 pub fn lead(
     alloc: Global,
     links: &Links<'_>,

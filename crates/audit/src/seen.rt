@@ -1,6 +1,6 @@
 //! What a command did, path by path.
 
-ghost use Rattle.std.specs.Prelude.{◌≡◌, IfOk, IfSome, OnOk, false, length, slice_get, if◌then◌else◌};
+ghost use Rattle.std.specs.Prelude.{◌≡◌, IfOk, IfSome, OnOk, false, length, slice_get, unwrap_or, if◌then◌else◌};
 ghost use Rattle.std.specs.List.{list_any};
 ghost use Rattle.std.specs.Option.{option_map};
 ghost use Rattle.std.specs.Map.Iter.{deref};
@@ -163,7 +163,7 @@ impl Uses {
         ensures { result ≡ use_at (sums_in self.now) path.now }
     {
         match self.paths.number_of(path) {
-            Some(number) => self.used(number.index()).unwrap_or(Use::none()),
+            Some(number) => or_none(self.used(number.index())),
             None => Use::none(),
         }
     }
@@ -228,6 +228,16 @@ impl Uses {
             self.touch(alloc, path)?;
         }
         Ok(())
+    }
+}
+
+/// What was done, or nothing.
+fn or_none(used: Option<Use>) -> Use
+    ensures { result ≡ unwrap_or used unused }
+{
+    match used {
+        Some(used) => used,
+        None => Use::none(),
     }
 }
 

@@ -1,6 +1,6 @@
 //! What is known to stand at paths: links, and second paths of files.
 
-ghost use Rattle.std.specs.Prelude.{◌≡◌, OnOk, IfOk, option_map};
+ghost use Rattle.std.specs.Prelude.{◌≡◌, OnOk, IfOk, option_map, slice_get};
 ghost use Rattle.std.specs.Map.Iter.{deref};
 ghost use Rattle.audit.specs.Leading.{twin_of};
 ghost use Rattle.audit.specs.Standing.{after, is_gone, linked, moved, nowhere, other_in, place_of, put, put_at, stand_at, with_pair, with_pairs};
@@ -73,8 +73,10 @@ impl Standing {
     pub fn at(&self, path: &str) -> Option<&Stands>
         ensures { option_map (λ stands. stands.now) result ≡ stand_at self.now path.now }
     {
-        let number = self.paths.number_of(path)?;
-        self.stands.get(number.index())
+        match self.paths.number_of(path) {
+            Some(number) => in_place(self.stands.as_slice(), number.index()),
+            None => None,
+        }
     }
 
     /// Whether it is known that what stood at the path is gone.
@@ -186,6 +188,17 @@ impl Standing {
         };
         self.put(alloc, from, Stands::Gone)?;
         self.put(alloc, to, stands)
+    }
+}
+
+/// What stands in this place.
+fn in_place(stands: &[Stands], place: usize) -> Option<&Stands>
+    ensures { option_map (λ stands. stands.now) result ≡ slice_get stands.now place }
+{
+    if place < stands.len() {
+        Some(&stands[place])
+    } else {
+        None
     }
 }
 

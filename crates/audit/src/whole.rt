@@ -1,7 +1,7 @@
 //! What was done at each path, in canonical form, and where names lead.
 
 ghost use Rattle.std.specs.Prelude.{◌≡◌, IfOk, IfSome};
-ghost use Rattle.audit.specs.Wholes.{AreWhole, IsLedBy, IsOtherOf, IsPath, IsPlaced, IsOpened, IsWholeOf, asks_of, peeks, sees_old, sees_others, writes};
+ghost use Rattle.audit.specs.Wholes.{AreWhole, IsLedBy, IsOpened, IsOtherOf, IsPath, IsPlacedOther, IsPlacedTo, IsWholeOf, asks_of, is_led, peeks, sees_old, sees_others, writes};
 
 use crate::lead::{Asks, Links, Trail, Way, lead};
 use crate::standing::Standing;
@@ -168,36 +168,54 @@ fn other_of(alloc: Global, links: &Links<'_>, fact: &Fact) -> Result<Option<Othe
     let Some(other) = &fact.other else {
         return Ok(Some(Other { path: None }));
     };
-    let Ok(name) = from_utf8(other.as_slice()) else {
+    if is_led(fact.deed) {
+        return target_of(alloc, other);
+    }
+    placed(alloc, links, other)
+}
+
+/// Whether it is a link that was made.
+fn is_led(deed: Deed) -> bool
+    ensures { result ≡ is_led deed }
+{
+    matches!(deed, Deed::Led)
+}
+
+/// Where a link leads, as it is written, if that is a text.
+fn target_of(alloc: Global, bytes: &Bytes) -> Result<Option<Other>, AllocError>
+    ensures { IfOk result (λ found. IfSome found (λ other. other.path ≡ Some bytes.now)) }
+{
+    let Ok(name) = from_utf8(bytes.as_slice()) else {
         return Ok(None);
     };
-    if fact.deed == Deed::Led {
-        let path = Some(Path::from_str(alloc, name)?);
-        return Ok(Some(Other { path }));
-    }
-    placed_other(alloc, links, other, name)
+    let path = Path::from_str(alloc, name)?;
+    Ok(Some(Other { path: Some(path) }))
 }
 
 /// Where a path leads, what stands there not followed.
-fn placed_other(
-    alloc: Global,
-    links: &Links<'_>,
-    bytes: &Bytes,
-    name: &str,
-) -> Result<Option<Other>, AllocError>
-    ensures { bytes.now ≡ name.now → IfOk result (λ found. IfSome found (λ other. IfSome other.path (IsPlaced links.now.own.now links.now.old.now bytes.now))) }
+fn placed(alloc: Global, links: &Links<'_>, bytes: &Bytes) -> Result<Option<Other>, AllocError>
+    ensures { IfOk result (λ found. IfSome found (λ other. IsPlacedOther links.now.own.now links.now.old.now bytes.now other.path)) }
 {
-    let Some(found) = lead(alloc, links, peeks(), name)? else {
+    let Ok(name) = from_utf8(bytes.as_slice()) else {
         return Ok(None);
     };
-    if found.path.is_some() {
-        return Ok(Some(Other { path: found.path }));
+    match lead(alloc, links, peeks(), name)? {
+        Some(found) => placed_by(alloc, bytes, found.path),
+        None => Ok(None),
     }
-    let path = path_of(alloc, bytes)?;
-    if path.is_none() {
-        return Ok(None);
+}
+
+/// The path that was led to, or else the canonical form of these bytes.
+fn placed_by(alloc: Global, bytes: &Bytes, led: Option<Path>) -> Result<Option<Other>, AllocError>
+    ensures { IfOk result (λ found. IfSome found (λ other. IsPlacedTo bytes.now led other.path)) }
+{
+    if let Some(led) = led {
+        return Ok(Some(Other { path: Some(led) }));
     }
-    Ok(Some(Other { path }))
+    match path_of(alloc, bytes)? {
+        Some(path) => Ok(Some(Other { path: Some(path) })),
+        None => Ok(None),
+    }
 }
 
 /// What stands at the path itself is asked for.
