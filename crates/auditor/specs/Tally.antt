@@ -38,9 +38,8 @@ abbrev pub is_clean : Counts → Bool
 is_clean counts = (counts.looked == counts.commands) && (counts.kept == counts.looked)
 
 -- the same was counted, and left
-pub record IsKept (old new : Tally) : Type 0 where
-  pub counts : new.counts ≡ old.counts
-  pub left : new.left ≡ old.left
+abbrev pub IsKept : Tally → Tally → Type 0
+IsKept old new = (new.counts ≡ old.counts) × (new.left ≡ old.left)
 
 -- ---- what is counted
 

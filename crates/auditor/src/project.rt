@@ -10,7 +10,7 @@ ghost use Rattle.model.specs.Graph.{has};
 ghost use Rattle.auditor.specs.Left.{with_left, with_one};
 ghost use Rattle.auditor.specs.Links.{CountsThrough};
 ghost use Rattle.auditor.specs.Scratch.{AreAround, IsFrontIn, is_scratch};
-ghost use Rattle.auditor.specs.Tally.{AreCounted, AreFound, AreSums, IsCountedBy, IsCountedOf, IsKept, TakesIn, TakesTold, Tells};
+ghost use Rattle.auditor.specs.Tally.{AreCounted, AreFound, AreSums, IsCountedBy, IsCountedOf, TakesIn, TakesTold, Tells};
 ghost use Rattle.auditor.specs.Things.{AreThings};
 
 use crate::above::above;
@@ -319,7 +319,8 @@ impl Auditor {
         tally: &mut Tally,
     ) -> Result<usize, AllocError>
         ensures found { IfOk result (AreFound self.now.scratch tally.old.left lists.now (sums_in uses.now)) }
-        ensures kept { IsKept tally.old tally.new }
+        ensures counts { tally.new.counts ≡ tally.old.counts }
+        ensures left { tally.new.left ≡ tally.old.left }
     {
         let found = self.found(edge, lists, uses, &tally.left)?;
         self.tell_found(edge, uses, found.as_slice(), tally)?;
@@ -334,7 +335,8 @@ impl Auditor {
         found: &[Breach],
         tally: &mut Tally,
     ) -> Result<(), AllocError>
-        ensures { IsKept tally.old tally.new }
+        ensures counts { tally.new.counts ≡ tally.old.counts }
+        ensures left { tally.new.left ≡ tally.old.left }
     {
         for breach in found {
             let path = self.names.short(uses.path(breach.place).unwrap_or(""));
@@ -417,7 +419,8 @@ impl Auditor {
         uses: &Uses,
         tally: &mut Tally,
     ) -> Result<usize, AllocError>
-        ensures { IsKept tally.old tally.new }
+        ensures counts { tally.new.counts ≡ tally.old.counts }
+        ensures left { tally.new.left ≡ tally.old.left }
     {
         let mut count = 0usize;
         for place in 0..uses.len() {
@@ -438,7 +441,8 @@ impl Auditor {
         first: usize,
         tally: &mut Tally,
     ) -> Result<(), AllocError>
-        ensures { IsKept tally.old tally.new }
+        ensures counts { tally.new.counts ≡ tally.old.counts }
+        ensures left { tally.new.left ≡ tally.old.left }
     {
         let path = self.names.short(path);
         let mut next = Some(first);
@@ -462,7 +466,8 @@ impl Auditor {
         uses: &Uses,
         tally: &mut Tally,
     ) -> Result<(), AllocError>
-        ensures { IsKept tally.old tally.new }
+        ensures counts { tally.new.counts ≡ tally.old.counts }
+        ensures left { tally.new.left ≡ tally.old.left }
     {
         let later = Later::of(self.alloc, lists, uses)?;
         for place in 0..uses.len() {
@@ -483,7 +488,8 @@ impl Auditor {
         found: &str,
         tally: &mut Tally,
     ) -> Result<(), AllocError>
-        ensures { IsKept tally.old tally.new }
+        ensures counts { tally.new.counts ≡ tally.old.counts }
+        ensures left { tally.new.left ≡ tally.old.left }
     {
         if !self.names.counts(found) {
             return tally.outside.look(self.alloc, missed);
@@ -497,13 +503,15 @@ impl Auditor {
     }
 
     fn tell_note(&self, edge: EdgeId, note: &str, tally: &mut Tally) -> Result<(), AllocError>
-        ensures { IsKept tally.old tally.new }
+        ensures counts { tally.new.counts ≡ tally.old.counts }
+        ensures left { tally.new.left ≡ tally.old.left }
     {
         tally.note(self.alloc, self.name_of(edge), note)
     }
 
     fn tell_not_understood(&self, edge: EdgeId, tally: &mut Tally) -> Result<(), AllocError>
-        ensures { IsKept tally.old tally.new }
+        ensures counts { tally.new.counts ≡ tally.old.counts }
+        ensures left { tally.new.left ≡ tally.old.left }
     {
         tally.tell_not_understood(self.alloc, self.name_of(edge))
     }

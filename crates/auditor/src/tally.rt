@@ -2,7 +2,7 @@
 
 ghost use Rattle.std.specs.Prelude.{◌≡◌, [], OnOk};
 ghost use Rattle.auditor.specs.Left.{with_path};
-ghost use Rattle.auditor.specs.Tally.{IsKept, is_clean, none_looked_at, with_one};
+ghost use Rattle.auditor.specs.Tally.{is_clean, none_looked_at, with_one};
 
 use crate::outside::Outside;
 use crate::spelled::Spelled;
@@ -105,7 +105,8 @@ impl Tally {
         finding: Finding,
         path: &str,
     ) -> Result<(), AllocError>
-        ensures { IsKept self.old self.new }
+        ensures counts { self.new.counts ≡ self.old.counts }
+        ensures left { self.new.left ≡ self.old.left }
     {
         let verb = finding.verb();
         let why = finding.why();
@@ -122,21 +123,24 @@ impl Tally {
         path: &str,
         both: &str,
     ) -> Result<(), AllocError>
-        ensures { IsKept self.old self.new }
+        ensures counts { self.new.counts ≡ self.old.counts }
+        ensures left { self.new.left ≡ self.old.left }
     {
         let before = self.counts.looked;
         self.spelled.take(alloc, name, path, both, before)
     }
 
     pub fn note(&mut self, alloc: Global, name: &str, note: &str) -> Result<(), AllocError>
-        ensures { IsKept self.old self.new }
+        ensures counts { self.new.counts ≡ self.old.counts }
+        ensures left { self.new.left ≡ self.old.left }
     {
         let line = format!(in alloc; "note: {name}: {note}\n")?;
         self.lines.push_str(line.as_str())
     }
 
     pub fn tell_not_understood(&mut self, alloc: Global, name: &str) -> Result<(), AllocError>
-        ensures { IsKept self.old self.new }
+        ensures counts { self.new.counts ≡ self.old.counts }
+        ensures left { self.new.left ≡ self.old.left }
     {
         let line = format!(in alloc; "{name}: its trace is not understood\n")?;
         self.lines.push_str(line.as_str())
