@@ -1,7 +1,7 @@
 -- A name, part by part.
 use Rattle.std.proofs.Common.{◌≡◌, ℕ, zero, suc, ◌+◌, ◌-◌, ◌<◌, Bool, true, false, List, [], ◌∷◌, ◌++◌, length, get_or, slice_get, refl, sym, ap, ◌∙◌, Option, Some, None, Bor, arith}
-use Rattle.std.proofs.lemmas.Bool.{false≢true}
-use Rattle.std.specs.Prelude.{◌&&◌, nat_eq, if◌then◌else◌}
+use Rattle.std.proofs.lemmas.Bool.{eqb-true, false≢true}
+use Rattle.std.specs.Prelude.{◌&&◌, not, nat_eq}
 use Rattle.std.specs.List.{starts_with}
 use Rattle.lexer.specs.Path.{texts}
 use Rattle.audit.specs.declared.lead.Asks.{Asks}
@@ -10,7 +10,7 @@ use Rattle.audit.specs.declared.lead.Trail.{Trail}
 use Rattle.audit.specs.declared.lead.Way.{Way}
 use Rattle.audit.specs.Below.{is_below, is_slash}
 use Rattle.audit.specs.Came.{Came}
-use Rattle.audit.specs.Leading.{at_end, done, goes_on, is_lost, lead_in, lead_on, so_far, step, steps, target_at, walked, way_after}
+use Rattle.audit.specs.Leading.{at_end, come_to, done, entered, goes_on, is_here, is_lost, is_up, joined, lead_in, lead_on, passed, so_far, step, steps, target_at, walked, way_after}
 use Rattle.audit.specs.Stood.{Stood}
 
 -- one part more
@@ -22,6 +22,12 @@ pub texts_more : (parts : List (Bor (List ℕ))) (part : Bor (List ℕ)) → tex
 texts_more [] part = refl
 texts_more (p ∷ parts) part = ap (λ (ps : List (List ℕ)). p.now ∷ ps) (texts_more parts part)
 
+-- a part that names something, at which no link stands
+pub passed_on : (links : List ℕ → Option Target) (came : Came) (part place : List ℕ) → is_here part ≡ false → is_up part ≡ false → place ≡ joined (done came.folders) part → links place ≡ None
+    → entered came place ≡ passed links came part
+passed_on links came part place here up at none =
+    sym (rw (here, up) (ap (λ (p : List ℕ). come_to came p (links p)) (sym at) ∙ ap (λ (t : Option Target). come_to came place t) none))
+
 -- ---- a path below a folder
 
 both_left : (x y : Bool) → (x && y) ≡ true → x ≡ true
@@ -32,13 +38,14 @@ both_right : (x y : Bool) → (x && y) ≡ true → y ≡ true
 both_right true y e = e
 both_right false y e = absurd (false≢true e)
 
-slash_there : (path : List ℕ) (n : ℕ) → is_slash (slice_get path n) ≡ true → (n < length path) × (is_slash (Some (get_or path n 0)) ≡ true)
-slash_there [] n is = absurd (false≢true is)
-slash_there (b ∷ path) zero is = (omega arith, is)
+slash_there : (path : List ℕ) (n : ℕ) → is_slash (slice_get path n) ≡ true → (n < length path) × (get_or path n 0 ≡ 47)
+slash_there [] zero is = absurd (false≢true is)
+slash_there [] (suc n) is = absurd (false≢true is)
+slash_there (b ∷ path) zero is = (omega arith, eqb-true b 47 is)
 slash_there (b ∷ path) (suc n) is = let there = slash_there path n is in (omega (arith, there.0), there.1)
 
 -- a slash stands behind the folder
-pub slash_behind : (folder path : List ℕ) → is_below folder path ≡ true → (length folder < length path) × (is_slash (Some (get_or path (length folder) 0)) ≡ true)
+pub slash_behind : (folder path : List ℕ) → is_below folder path ≡ true → (length folder < length path) × (get_or path (length folder) 0 ≡ 47)
 slash_behind folder path is =
     slash_there path (length folder) (both_right (starts_with nat_eq path folder) (is_slash (slice_get path (length folder))) is)
 
@@ -55,7 +62,8 @@ on_walk left own old asks met way name walk some is =
 
 pub lead_lost : (left : ℕ) (own old : Stood) (asks : Asks) (met : Bool) (way : Way) (name : List ℕ) (walk : Came) → 0 < left → walk ≡ walked (target_at own old asks.sees) name
     → is_lost walk.phase ≡ true → lead_in left own old asks met way name ≡ None
-lead_lost left own old asks met way name walk some is lost = on_walk left own old asks met way name walk some is ∙ rw lost refl
+lead_lost left own old asks met way name walk some is lost =
+    on_walk left own old asks met way name walk some is ∙ rw lost refl
 
 pub lead_ended : (left : ℕ) (own old : Stood) (asks : Asks) (met : Bool) (way : Way) (name : List ℕ) (walk : Came) → 0 < left → walk ≡ walked (target_at own old asks.sees) name
     → is_lost walk.phase ≡ false → goes_on walk asks.follows ≡ false
@@ -66,3 +74,11 @@ pub lead_next : (left : ℕ) (own old : Stood) (asks : Asks) (met : Bool) (way :
     → is_lost walk.phase ≡ false → goes_on walk asks.follows ≡ true
     → lead_in left own old asks met way name ≡ lead_in (left - 1) own old asks true (way_after way walk.own walk.last) walk.next
 lead_next left own old asks met way name walk some is lost goes = on_walk left own old asks met way name walk some is ∙ rw (lost, goes) refl
+
+pub ends : (b : Bool) → not b ≡ true → b ≡ false
+ends true is = absurd (false≢true is)
+ends false is = refl
+
+pub goes : (b : Bool) → not b ≡ false → b ≡ true
+goes true is = refl
+goes false is = absurd (false≢true (sym is))

@@ -98,11 +98,18 @@ abbrev pub come_to : Came → List ℕ → Option Target → Came
 come_to came place None = entered came place
 come_to came place (Some target) = met came place target
 
+-- the part names nothing, or what is above
+abbrev pub is_here : List ℕ → Bool
+is_here part = bytes_eq part [] || bytes_eq part (codes ".")
+
+abbrev pub is_up : List ℕ → Bool
+is_up part = bytes_eq part (codes "..")
+
 -- one part of the name more, where these links stand at paths, and none was come to yet
 abbrev pub passed : (List ℕ → Option Target) → Came → List ℕ → Came
 passed links came part =
-    if bytes_eq part [] || bytes_eq part (codes ".") then came
-    else (if bytes_eq part (codes "..") then record came { folders = take (length came.folders - 1) came.folders }
+    if is_here part then came
+    else (if is_up part then record came { folders = take (length came.folders - 1) came.folders }
     else come_to came (joined (done came.folders) part) (links (joined (done came.folders) part)))
 
 abbrev pub step_by : Phase → (List ℕ → Option Target) → Came → List ℕ → Came
@@ -179,6 +186,10 @@ lead_in zero own old asks met way name = None
 lead_in (suc left) own old asks met way name =
     lead_on (lead_in left own old asks) own asks (so_far met way) (walked (target_at own old asks.sees) name)
 
--- Where a name leads, which begins at the root; without a path where no link stands on its way. The kernel follows 40 links.
-unfoldable pub lead : Stood → Stood → Asks → List ℕ → Option Trail
-lead own old asks name = lead_in 40 own old asks false Plain name
+-- the kernel follows so many links
+unfoldable pub most : ℕ
+most = 40
+
+-- where a name leads, which begins at the root; without a path where no link stands on its way
+abbrev pub lead : Stood → Stood → Asks → List ℕ → Option Trail
+lead own old asks name = lead_in most own old asks false Plain name

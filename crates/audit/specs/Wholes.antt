@@ -101,6 +101,11 @@ IsOtherSo led own old (Some text) other = IsOtherBy led own old text other
 abbrev pub IsOtherOf : Stood → Stood → Fact → Option (List ℕ) → Type 0
 IsOtherOf own old fact other = IsOtherSo (is_led fact.deed) own old fact.other other
 
+-- a fact by this path, which leads there, and with this other one
+abbrev pub whole_from : Fact → List ℕ → Trail → Option (List ℕ) → Whole
+whole_from fact path led other =
+    record { deed = fact.deed; path = path; real = led.path; other = other; up = fact.up; way = led.way }
+
 -- the same was done, by canonical paths, where these things stand that the command put there and others did
 pub record IsWholeOf (own old : Stood) (fact : Fact) (whole : Whole) : Type 0 where
   pub deed : whole.deed ≡ fact.deed

@@ -1,7 +1,7 @@
 //! Where names lead, by the links on their way.
 
-ghost use Rattle.std.specs.Prelude.{◌≡◌, IfOk, OnOk};
-ghost use Rattle.audit.specs.Leading.{at_end, behind_link, done, entered, goes_on, has, is_lost, is_magic, is_twin, joined, lead, met, nothing, old_target, passed, phase_at, step, target_at, target_of, walked, way_after, way_at_old, way_at_own};
+ghost use Rattle.std.specs.Prelude.{◌≡◌, IfOk, OnOk, not};
+ghost use Rattle.audit.specs.Leading.{at_end, behind_link, done, entered, goes_on, has, is_here, is_lost, is_magic, is_twin, is_up, joined, lead, met, most, nothing, old_target, passed, phase_at, step, target_at, target_of, walked, way_after, way_at_old, way_at_own};
 
 use crate::standing::{Standing, Stands};
 use paths::Paths;
@@ -145,7 +145,6 @@ impl Way {
 
 /// Where this name leads, which begins at the root. None where that cannot be told: it leads through what a process has open, or through more
 /// links than the kernel follows.
-#[tactic(auto, unfolding(crate::specs::Leading::lead))]
 pub fn lead(
     alloc: Global,
     links: &Links<'_>,
@@ -157,14 +156,14 @@ pub fn lead(
     let mut met = false;
     let mut way = Way::Plain;
     let mut text = Text::from_str(alloc, name)?;
-    let mut left = MOST;
+    let mut left = most();
     'links: while left > 0 {
         left -= 1;
         let walk = walked(alloc, links, asks.sees, text.as_str())?;
         if walk.is_lost() {
             return Ok(None);
         }
-        if !walk.goes_on(asks.follows) {
+        if walk.ends(asks.follows) {
             let so_far = SoFar { met, way };
             let found = at_end(alloc, links, asks.writes, so_far, walk.done())?;
             return Ok(Some(found));
@@ -174,6 +173,14 @@ pub fn lead(
         text = walk.into_next();
     }
     Ok(None)
+}
+
+/// How many links are followed.
+#[tactic(auto, unfolding(crate::specs::Leading::most))]
+fn most() -> u32
+    ensures { result ≡ most }
+{
+    MOST
 }
 
 /// Where a name leads that was followed to this path, through links or not.
@@ -241,6 +248,13 @@ impl Walk {
         ensures { result ≡ goes_on self.now follows }
     {
         matches!(self.phase, Phase::Met) && (follows || !self.last)
+    }
+
+    /// Whether nothing is followed any more.
+    fn ends(&self, follows: bool) -> bool
+        ensures { result ≡ not (goes_on self.now follows) }
+    {
+        !self.goes_on(follows)
     }
 
     /// What stands on the way, with the link that was come to.
@@ -318,10 +332,10 @@ impl Walk {
     ) -> Result<(), AllocError>
         ensures { OnOk result (self.new ≡ passed (target_at links.now.own.now links.now.old.now sees) self.old part.now) }
     {
-        if part.is_empty() || part == "." {
+        if is_here(part) {
             return Ok(());
         }
-        if part == ".." {
+        if is_up(part) {
             self.folders.pop();
             return Ok(());
         }
@@ -363,6 +377,20 @@ fn phase_at(place: &str) -> Phase
     } else {
         Phase::Walks
     }
+}
+
+/// Whether the part of a name names nothing.
+fn is_here(part: &str) -> bool
+    ensures { result ≡ is_here part.now }
+{
+    part == "" || part == "."
+}
+
+/// Whether it names what is above.
+fn is_up(part: &str) -> bool
+    ensures { result ≡ is_up part.now }
+{
+    part == ".."
 }
 
 /// Whether the path is one of those by which processes tell what they have open, or where they are.

@@ -74,8 +74,19 @@ impl Standing {
         ensures { option_map (λ stands. stands.now) result ≡ stand_at self.now path.now }
     {
         match self.paths.number_of(path) {
-            Some(number) => in_place(self.stands.as_slice(), number.index()),
+            Some(number) => self.in_place(number.index()),
             None => None,
+        }
+    }
+
+    /// What stands in this place.
+    fn in_place(&self, place: usize) -> Option<&Stands>
+        ensures { option_map (λ stands. stands.now) result ≡ slice_get self.now.stands place }
+    {
+        if place < self.stands.len() {
+            Some(&self.stands[place])
+        } else {
+            None
         }
     }
 
@@ -111,7 +122,7 @@ impl Standing {
     {
         match self.paths.number_of(path) {
             Some(number) => {
-                self.set(number.index(), stands);
+                set(&mut self.stands, number.index(), stands);
                 Ok(())
             }
             None => {
@@ -119,16 +130,6 @@ impl Standing {
                 self.stands.push(stands)?;
                 Ok(())
             }
-        }
-    }
-
-    /// Takes in what stands at the path in this place.
-    fn set(&mut self, place: usize, stands: Stands)
-        ensures paths { self.new.paths ≡ self.old.paths }
-        ensures stands { self.new.stands ≡ put_at self.old.stands place stands }
-    {
-        if place < self.stands.len() {
-            self.stands[place] = stands;
         }
     }
 
@@ -191,14 +192,12 @@ impl Standing {
     }
 }
 
-/// What stands in this place.
-fn in_place(stands: &[Stands], place: usize) -> Option<&Stands>
-    ensures { option_map (λ stands. stands.now) result ≡ slice_get stands.now place }
+/// Puts a thing into this place.
+fn set(stands: &mut Vec<Stands>, place: usize, new: Stands)
+    ensures { stands.new.items ≡ put_at stands.old.items place new }
 {
     if place < stands.len() {
-        Some(&stands[place])
-    } else {
-        None
+        stands[place] = new;
     }
 }
 

@@ -1,7 +1,7 @@
 //! What was done at each path, in canonical form, and where names lead.
 
 ghost use Rattle.std.specs.Prelude.{◌≡◌, IfOk, IfSome};
-ghost use Rattle.audit.specs.Wholes.{AreWhole, IsLedBy, IsOpened, IsOtherOf, IsPath, IsPlacedOther, IsPlacedTo, IsWholeOf, asks_of, is_led, peeks, sees_old, sees_others, writes};
+ghost use Rattle.audit.specs.Wholes.{AreWhole, IsLedBy, IsOpened, IsOtherOf, IsPath, IsPlacedOther, IsPlacedTo, IsWholeOf, asks_of, is_led, peeks, sees_old, sees_others, whole_from, writes};
 
 use crate::lead::{Asks, Links, Trail, Way, lead};
 use crate::standing::Standing;
@@ -76,7 +76,9 @@ struct Other {
     path: Option<Path>,
 }
 
-fn whole_from(fact: &Fact, path: Path, led: Trail, other: Other) -> Whole {
+fn whole_from(fact: &Fact, path: Path, led: Trail, other: Other) -> Whole
+    ensures { result ≡ whole_from fact.now path led other.path }
+{
     Whole {
         deed: fact.deed,
         path,

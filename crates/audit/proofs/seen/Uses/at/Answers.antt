@@ -16,4 +16,4 @@ returns-in-Some c =
 pub returns-in-None : goal.returns-in-None
 returns-in-None c =
     let sums = sums_in c.args.self.now in
-    c.none-in-None.ensures ∙ use_nowhere sums.paths sums.uses c.args.path.now c.in-None.ensures.place
+    c.none.ensures ∙ use_nowhere sums.paths sums.uses c.args.path.now c.in-None.ensures.place
