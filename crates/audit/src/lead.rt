@@ -290,7 +290,7 @@ impl Walk {
     ) -> Result<(), AllocError> {
         for folder in &self.folders {
             let path = folder.as_str();
-            if links.own.at(path).is_none() && links.old.at(path).is_none() {
+            if links.old.at(path).is_none() {
                 found.add(alloc, path)?;
             }
         }

@@ -26,8 +26,11 @@ fn learn_all(rt: &HostRuntime, auditor: &mut Auditor, asked: &Paths) -> Option<(
     Some(())
 }
 
-/// Tells where the link leads that stands at a path, or that none does.
+/// Tells where the link leads that stands at a path, or that none does. What processes have open is another thing for each of them.
 fn learn(rt: &HostRuntime, auditor: &mut Auditor, path: &str) -> Option<()> {
+    if path.as_bytes().starts_with(b"/proc/") {
+        return auditor.learn(path, None).ok();
+    }
     match fs::read_link(rt, path) {
         Ok(target) => auditor.learn(path, Some(target.as_str())).ok(),
         Err(_) => auditor.learn(path, None).ok(),
