@@ -46,6 +46,7 @@ slash_there (b ∷ path) (suc n) is = let there = slash_there path n is in (omeg
 
 -- a slash stands behind the folder
 pub slash_behind : (folder path : List ℕ) → is_below folder path ≡ true → (length folder < length path) × (get_or path (length folder) 0 ≡ 47)
+unfolding is_below
 slash_behind folder path is =
     slash_there path (length folder) (both_right (starts_with nat_eq path folder) (is_slash (slice_get path (length folder))) is)
 

@@ -8,7 +8,7 @@ is_slash None = false
 is_slash (Some byte) = byte == 47
 
 -- the path begins with the folder and a slash
-abbrev pub is_below : List ℕ → List ℕ → Bool
+unfoldable pub is_below : List ℕ → List ℕ → Bool
 is_below folder path = starts_with nat_eq path folder && is_slash (slice_get path (length folder))
 
 -- what stands behind these, where the path is below the folder

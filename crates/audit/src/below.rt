@@ -1,6 +1,7 @@
 //! What is below a folder that was given another path.
 
-ghost use Rattle.std.specs.Prelude.{◌≡◌, ◌++◌, IfOk, OnOk, option_map, slice_get};
+ghost use Rattle.std.specs.Prelude.{◌≡◌, ◌++◌, IfOk, OnOk, nat_eq, option_map, slice_get};
+ghost use Rattle.std.specs.List.{starts_with};
 ghost use Rattle.std.specs.Map.Iter.{deref};
 ghost use Rattle.audit.specs.Below.{behind, below, is_below, is_slash, renamed, with_one};
 
@@ -67,17 +68,31 @@ fn renamed(alloc: Global, to: &str, path: &str, rest: &str) -> Result<Carried, A
 fn behind<'p>(folder: &str, path: &'p str) -> Option<&'p str>
     ensures { option_map (λ rest. rest.now) result ≡ behind folder.now path.now }
 {
-    if is_below(folder.as_bytes(), path.as_bytes()) {
+    if is_below(folder, path) {
         return Some(&path[folder.len() + 1..]);
     }
     None
 }
 
 /// Whether the path begins with the folder and a slash.
-fn is_below(folder: &[u8], path: &[u8]) -> bool
+#[tactic(auto, unfolding(crate::specs::Below::is_below))]
+fn is_below(folder: &str, path: &str) -> bool
     ensures { result ≡ is_below folder.now path.now }
 {
-    path.starts_with(folder) && is_slash(byte_at(path, folder.len()))
+    begins(path, folder) && is_slash_at(path, folder.len())
+}
+
+fn begins(path: &str, front: &str) -> bool
+    ensures { result ≡ starts_with nat_eq path.now front.now }
+{
+    path.as_bytes().starts_with(front.as_bytes())
+}
+
+/// Whether a slash stands in this place.
+fn is_slash_at(path: &str, place: usize) -> bool
+    ensures { result ≡ is_slash (slice_get path.now place) }
+{
+    is_slash(byte_at(path.as_bytes(), place))
 }
 
 /// The byte in this place.

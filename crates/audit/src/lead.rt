@@ -9,9 +9,6 @@ use std::alloc::{AllocError, Global};
 use std::marker::Model;
 use text::{Path, Text};
 
-/// How many links are followed, as the kernel does it.
-const MOST: u32 = 40;
-
 /// What a thing asks for by its name.
 #[derive(Clone, Copy)]
 pub struct Asks {
@@ -175,12 +172,12 @@ pub fn lead(
     Ok(None)
 }
 
-/// How many links are followed.
+/// How many links are followed, as the kernel does it.
 #[tactic(auto, unfolding(crate::specs::Leading::most))]
 fn most() -> u32
     ensures { result ≡ most }
 {
-    MOST
+    40
 }
 
 /// Where a name leads that was followed to this path, through links or not.

@@ -10,6 +10,7 @@ use crate::whole::Whole;
 use paths::Paths;
 use std::alloc::{AllocError, Global};
 use std::marker::Model;
+use std::mem;
 use text::Path;
 use trace::Deed;
 
@@ -74,19 +75,8 @@ impl Standing {
         ensures { option_map (λ stands. stands.now) result ≡ stand_at self.now path.now }
     {
         match self.paths.number_of(path) {
-            Some(number) => self.in_place(number.index()),
+            Some(number) => in_place(self.stands.as_slice(), number.index()),
             None => None,
-        }
-    }
-
-    /// What stands in this place.
-    fn in_place(&self, place: usize) -> Option<&Stands>
-        ensures { option_map (λ stands. stands.now) result ≡ slice_get self.now.stands place }
-    {
-        if place < self.stands.len() {
-            Some(&self.stands[place])
-        } else {
-            None
         }
     }
 
@@ -192,13 +182,30 @@ impl Standing {
     }
 }
 
-/// Puts a thing into this place.
+/// What stands in this place.
+fn in_place(stands: &[Stands], place: usize) -> Option<&Stands>
+    ensures { option_map (λ stands. stands.now) result ≡ slice_get stands.now place }
+{
+    if place < stands.len() {
+        Some(&stands[place])
+    } else {
+        None
+    }
+}
+
+/// Another thing stands in this place.
 fn set(stands: &mut Vec<Stands>, place: usize, new: Stands)
     ensures { stands.new.items ≡ put_at stands.old.items place new }
 {
     if place < stands.len() {
-        stands[place] = new;
+        turn(&mut stands[place], new);
     }
+}
+
+fn turn(there: &mut Stands, new: Stands)
+    ensures { there.new ≡ new }
+{
+    let _ = mem::replace(there, new);
 }
 
 /// The path at which a thing was done.

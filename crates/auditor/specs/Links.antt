@@ -1,5 +1,5 @@
 -- Links that a command made itself, and what was done through them.
-use Rattle.std.specs.Prelude.{◌≡◌, ℕ, ◌&&◌, ◌≢◌, not, Bool, true, false, List, Option, Some, None, bytes_eq}
+use Rattle.std.specs.Prelude.{◌≡◌, ◌≢◌, ℕ, ◌&&◌, not, Bool, true, false, List, Option, Some, None, bytes_eq}
 use Rattle.audit.specs.declared.lead.Way.{Way}
 use Rattle.audit.specs.declared.lead.Way.TheVariants.{Own, At, Twin}
 use Rattle.audit.specs.declared.seen.By.{By}
@@ -20,16 +20,16 @@ abbrev pub leads_through : Way → Bool
 leads_through Own = true
 leads_through _ = false
 
--- a link that the command made stands at the path itself, or the command gave the file that path beside another one
-abbrev pub is_at_own : Whole → Bool
-is_at_own whole = leads_at whole.way
+-- the file has another path, and a link that the command made stands at the path itself, or the command gave it that path beside the other one
+unfoldable pub is_at_own : Whole → Bool
+is_at_own whole = is_elsewhere whole.path whole.real && leads_at whole.way
 
--- a link to a folder that the command made stands on the way
-abbrev pub is_through_own : Whole → Bool
-is_through_own whole = leads_through whole.way
+-- the file has another path, and a link to a folder that the command made stands on the way
+unfoldable pub is_through_own : Whole → Bool
+is_through_own whole = is_elsewhere whole.path whole.real && leads_through whole.way
 
 -- What was done through a link of the command's own counts by where it leads: by both paths, where that stands at the path itself, and else not
 -- by its name alone.
 pub record CountsThrough (whole : Whole) (by : By) : Type 0 where
-  pub at : (is_elsewhere whole.path whole.real && is_at_own whole) ≡ true → by ≡ Both
-  pub through : (is_elsewhere whole.path whole.real && is_through_own whole) ≡ true → by ≢ Name
+  pub at : is_at_own whole ≡ true → by ≡ Both
+  pub through : is_through_own whole ≡ true → by ≢ Name

@@ -94,19 +94,28 @@ fn renamed_by(
 ) -> Result<Whole, AllocError>
     ensures { IfOk result (IsGiven whole.now) }
 {
-    let path = if whole.real.is_none() {
-        Path::from_str(alloc, name_by(given, whole.deed, whole.path.as_str()))?
-    } else {
-        whole.path.clone()?
-    };
     Ok(Whole {
         deed: whole.deed,
-        path,
+        path: path_by(alloc, given, whole)?,
         real: copied(&whole.real)?,
         other: copied(&whole.other)?,
         up: whole.up,
         way: whole.way,
     })
+}
+
+/// The path of what was done, or the name by which the file was opened.
+fn path_by(
+    alloc: Global,
+    given: &IndexMap<String, String>,
+    whole: &Whole,
+) -> Result<Path, AllocError>
+    ensures { IfOk result (λ path. may_be_renamed whole.now.deed ≡ false → path ≡ whole.now.path) }
+{
+    match &whole.real {
+        Some(_) => Ok(whole.path.clone()?),
+        None => Path::from_str(alloc, name_by(given, whole.deed, whole.path.as_str())),
+    }
 }
 
 /// A copy of a path, if there is one.

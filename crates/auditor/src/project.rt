@@ -374,8 +374,8 @@ impl Auditor {
         for place in 0..uses.len() {
             let path = path_at(uses, place);
             let maker = self.other_maker(edge, path);
-            let is_upper = is_listed(lists, path) || is_marked(is_above.as_slice(), maker);
-            arounds.push(self.around(path, maker.is_some(), is_upper, left))?;
+            let upper = is_upper(lists, is_above.as_slice(), path, maker);
+            arounds.push(self.around(path, maker.is_some(), upper, left))?;
         }
         Ok(arounds)
     }
@@ -548,6 +548,11 @@ fn push_all(wholes: Items<Whole>, things: &mut Items<Whole>) -> Result<(), Alloc
 /// Whether the path is an input of the edge with these lists.
 fn is_listed(lists: &Lists, path: &str) -> bool {
     has(&lists.inputs, path) || has(&lists.order_only, path)
+}
+
+/// Whether the path is an input of the edge with these lists, or an edge makes it that is marked.
+fn is_upper(lists: &Lists, marks: &[bool], path: &str, maker: Option<EdgeId>) -> bool {
+    is_listed(lists, path) || is_marked(marks, maker)
 }
 
 /// Whether the edge is marked.

@@ -16,19 +16,29 @@ use trace::Deed;
 pub fn by_of(names: &Names, scratch: &Scratch, whole: &Whole) -> By
     ensures { CountsThrough whole.now result }
 {
-    let Some(real) = &whole.real else {
-        return By::Name;
-    };
-    if real.as_str() == whole.path.as_str() {
-        return By::Name;
-    }
     if is_at_own(whole) {
         return By::Both;
     }
     if is_through_own(whole) {
-        return by_known(names.knows(whole.path.as_str()) && !whole.up);
+        return by_known(is_known(names, whole));
     }
-    by_shown(names, scratch, whole, real.as_str())
+    match &whole.real {
+        Some(real) => by_real(names, scratch, whole, real.as_str()),
+        None => By::Name,
+    }
+}
+
+/// Whether build lines or records name the path that was given, which does not go up behind a name.
+fn is_known(names: &Names, whole: &Whole) -> bool {
+    names.knows(whole.path.as_str()) && !whole.up
+}
+
+/// By which path a thing counts that was not done through a link of the command's own, where this is the kernel's.
+fn by_real(names: &Names, scratch: &Scratch, whole: &Whole, real: &str) -> By {
+    if real == whole.path.as_str() {
+        return By::Name;
+    }
+    by_shown(names, scratch, whole, real)
 }
 
 /// Of a name that leads through a link of the command's own to a folder: whether that is one that build lines name.
@@ -38,8 +48,7 @@ fn by_known(is_known: bool) -> By
     if is_known { By::Both } else { By::Kernel }
 }
 
-/// By which path a thing counts that was not done through a link of the command's own, where this is the kernel's. One that went up behind the
-/// name of a link leads elsewhere than it says.
+/// The same where that is another one. A name that went up behind that of a link leads elsewhere than it says.
 fn by_shown(names: &Names, scratch: &Scratch, whole: &Whole, real: &str) -> By {
     let path = whole.path.as_str();
     if whole.up || !scratch.counts_by_name(names, path) {
