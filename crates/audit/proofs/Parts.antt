@@ -6,7 +6,6 @@ use Rattle.std.specs.List.{starts_with}
 use Rattle.lexer.specs.Path.{texts}
 use Rattle.audit.specs.declared.lead.Asks.{Asks}
 use Rattle.audit.specs.declared.lead.Target.{Target}
-use Rattle.audit.specs.declared.lead.Trail.{Trail}
 use Rattle.audit.specs.declared.lead.Way.{Way}
 use Rattle.audit.specs.Below.{is_below, is_slash}
 use Rattle.audit.specs.Came.{Came}

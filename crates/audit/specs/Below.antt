@@ -1,5 +1,5 @@
 -- What is below a folder that was given another path.
-use Rattle.std.specs.Prelude.{ℕ, ◌+◌, ◌==◌, ◌&&◌, Bool, false, List, [], ◌∷◌, ◌++◌, Option, Some, None, option_map, if◌then◌else◌, codes, drop, length, nat_eq, slice_get}
+use Rattle.std.specs.Prelude.{ℕ, ◌+◌, ◌==◌, ◌&&◌, Bool, false, List, [], ◌∷◌, ◌++◌, Option, Some, None, if◌then◌else◌, codes, drop, length, nat_eq, slice_get}
 use Rattle.std.specs.List.{starts_with}
 use Rattle.audit.specs.declared.below.Carried.{Carried}
 

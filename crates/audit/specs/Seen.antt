@@ -1,5 +1,5 @@
 -- What a command did, path by path.
-use Rattle.std.specs.Prelude.{ℕ, zero, suc, not, Bool, true, false, List, [], ◌∷◌, ◌++◌, Option, Some, None, if◌then◌else◌, codes, nat_eq, bytes_eq, unwrap_or}
+use Rattle.std.specs.Prelude.{ℕ, zero, suc, not, Bool, true, false, List, [], ◌∷◌, ◌++◌, Option, Some, if◌then◌else◌, codes, nat_eq, bytes_eq, unwrap_or}
 use Rattle.std.specs.List.{starts_with}
 use Rattle.lexer.specs.Path.{IsCanonical}
 use Rattle.model.specs.Graph.{has}

@@ -1,5 +1,5 @@
 -- By which path each thing counts, one after another.
-use Rattle.std.proofs.Common.{ℕ, List, [], ◌∷◌, ◌++◌}
+use Rattle.std.proofs.Common.{List, [], ◌∷◌, ◌++◌}
 use Rattle.std.specs.List.{AllZip}
 use Rattle.audit.specs.declared.seen.By.{By}
 use Rattle.audit.specs.declared.whole.Whole.{Whole}

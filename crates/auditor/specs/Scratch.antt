@@ -31,12 +31,12 @@ abbrev pub is_scratch : Scratch → List ℕ → Bool
 is_scratch scratch path = is_in scratch.front path && not (has scratch.known path)
 
 -- of each of these paths it is told whether it is a scratch file, and whether it may have stood there before
-abbrev pub scratches : List Around → List Bool
-scratches arounds = map (λ (around : Around). around.scratch) arounds
+abbrev pub scratches_of : List Around → List Bool
+scratches_of arounds = map (λ (around : Around). around.scratch) arounds
 
-abbrev pub lefts : List Around → List Bool
-lefts arounds = map (λ (around : Around). around.left) arounds
+abbrev pub lefts_of : List Around → List Bool
+lefts_of arounds = map (λ (around : Around). around.left) arounds
 
 pub record AreAround (scratch : Scratch) (left : List (List ℕ)) (paths : List (List ℕ)) (arounds : List Around) : Type 0 where
-  pub scratches : scratches arounds ≡ map (is_scratch scratch) paths
-  pub lefts : lefts arounds ≡ map (has left) paths
+  pub scratches : scratches_of arounds ≡ map (is_scratch scratch) paths
+  pub lefts : lefts_of arounds ≡ map (has left) paths

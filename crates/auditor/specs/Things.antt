@@ -1,5 +1,5 @@
 -- The things that a command did, as they are judged, and the facts that a trace tells.
-use Rattle.std.specs.Prelude.{◌≡◌, Bool, true, false, List, ◌++◌, None}
+use Rattle.std.specs.Prelude.{◌≡◌, Bool, true, false, List, ◌++◌}
 use Rattle.std.specs.List.{AllByRecursion, AllZip}
 use Rattle.trace.specs.declared.fact.Deed.{Deed}
 use Rattle.trace.specs.declared.fact.Deed.TheVariants.{Asked, Emptied, Folder, Listed}

@@ -1,4 +1,4 @@
-use Rattle.std.proofs.Common.{◌≡◌, ◌∙◌, ◌-◌, ◌<◌, List, ℕ, Bool, true, false, Some, None, ap, sym, arith}
+use Rattle.std.proofs.Common.{◌≡◌, ◌∙◌, ◌-◌, List, ℕ, true, false, Some, ap, sym, arith}
 use Rattle.audit.specs.declared.lead.Way.{Way}
 use Rattle.audit.specs.Leading.{at_end, goes_on, lead_in, so_far, target_at, walked}
 use Rattle.audit.proofs.Parts.{ends, goes, lead_ended, lead_lost, lead_next}

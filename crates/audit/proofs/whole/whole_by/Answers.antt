@@ -1,4 +1,4 @@
-use Rattle.std.proofs.Common.{◌≡◌, List, ℕ, Option, IfSome, refl, sym, subst}
+use Rattle.std.proofs.Common.{List, ℕ, Option, IfSome, refl, sym, subst}
 use Rattle.audit.specs.declared.lead.Trail.{Trail}
 use Rattle.audit.specs.declared.whole.Other.{Other}
 use Rattle.audit.specs.declared.whole.Whole.{Whole}

@@ -1,4 +1,4 @@
-use Rattle.std.proofs.Common.{◌≡◌, ◌∙◌, ◌++◌, ◌∷◌, [], List, Option, IfSome, ap, get_or, sym, subst, arith, take}
+use Rattle.std.proofs.Common.{◌∙◌, ◌++◌, ◌∷◌, [], List, Option, IfSome, ap, get_or, sym, subst, arith, take}
 use Rattle.std.proofs.lemmas.List.{take_more}
 use Rattle.trace.specs.declared.fact.Fact.{Fact}
 use Rattle.audit.specs.declared.whole.Whole.{Whole}
