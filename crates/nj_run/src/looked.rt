@@ -1,9 +1,10 @@
 //! What an audit finds, once a build has ended: each command that was started in it has left a trace.
 
 use crate::anew::{auditor_of, take_trace};
+use crate::shared::look_at_shares;
 use auditor::{Auditor, Tally};
 use builder::{Options, Reading};
-use host::Host;
+use host::{Host, SHARED_TRACE};
 use model::Event;
 use site::Site;
 use std::alloc::{AllocError, Global};
@@ -25,12 +26,15 @@ pub fn look<W: Write>(
     options: &Options,
     targets: &[Text],
     folder: Option<&str>,
+    is_shared: bool,
 ) -> Option<Tally> {
     let tally = match folder {
-        Some(folder) => look_here(rt, host, options, targets, folder),
+        Some(folder) => look_here(rt, host, options, targets, folder, is_shared),
         None => None,
     };
-    if tally.is_none() {
+    if is_shared {
+        let _ = host.remove(SHARED_TRACE);
+    } else if tally.is_none() {
         let _ = let_traces_go(rt.alloc(), host);
     }
     tally
@@ -42,11 +46,15 @@ fn look_here<W: Write>(
     options: &Options,
     targets: &[Text],
     folder: &str,
+    is_shared: bool,
 ) -> Option<Tally> {
     let alloc = rt.alloc();
     let Reading { manifest, asked } = builder::read(alloc, host, options, targets).ok()?;
     let auditor = auditor_of(rt, host, manifest, asked.folder.as_str(), folder)?;
     let commands = auditor.commands(asked.targets.as_slice())?;
+    if is_shared {
+        return look_at_shares(alloc, host, &auditor, commands);
+    }
     look_at_all(alloc, host, &auditor, commands)
 }
 

@@ -24,3 +24,8 @@ pub record ReadsTo {T : Type 0} (Read : List (List ℕ) → T → Type 0) (text 
 -- whatever was read before, these bytes and a line feed were read behind it
 abbrev pub ReadsWhole : {T : Type 0} → (List (List ℕ) → T → Type 0) → List ℕ → Lines T → Lines T → Type 0
 ReadsWhole Read front old new = (text : List ℕ) → ReadsTo Read text old → ReadsTo Read ((text ++ front) ++ 10 ∷ []) new
+
+-- whatever text was read, its whole lines were taken
+abbrev pub HasRead : {T : Type 0} → (List (List ℕ) → T → Type 0) → Lines T → T → Type 0
+HasRead Read it taker =
+    (text : List ℕ) → ReadsTo Read text it → (lines : List (List ℕ)) × (text ≡ text_of_lines lines ++ it.rest.items) × Read lines taker

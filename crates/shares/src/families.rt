@@ -6,6 +6,7 @@ ghost use Rattle.shares.specs.Families.{after, after_body, after_child, after_en
 use crate::lines::{child_of, is_end, is_left_out, leaves_numbers, numbered};
 use crate::numbers::{Numbered, Numbers};
 use crate::processes::{Origin, Process, Processes};
+use crate::reading::TakesLines;
 use std::alloc::{AllocError, Global};
 use text::{Bytes, Items};
 
@@ -36,7 +37,7 @@ impl Families {
 
     /// Reads a line more, and answers the place of its process if a share may have it. Where memory is refused, what was read counts for
     /// nothing.
-    pub fn take_line(&mut self, alloc: Global, line: &[u8]) -> Result<Option<usize>, AllocError>
+    pub fn take(&mut self, alloc: Global, line: &[u8]) -> Result<Option<usize>, AllocError>
         ensures place { IfOk result (λ place. place ≡ place_of_line self.old line.now) }
         ensures after { OnOk result (self.new ≡ after self.old line.now) }
     {
@@ -46,11 +47,7 @@ impl Families {
         };
         let place = self.take_number(alloc, number)?;
         self.take_body(alloc, place, number, body)?;
-        Ok(if is_left_out(body) {
-            None
-        } else {
-            Some(place)
-        })
+        Ok(if is_left_out(body) { None } else { Some(place) })
     }
 
     /// Takes in that there is a line of the process with this number, and answers its place.
@@ -185,5 +182,17 @@ impl Families {
             number: Bytes::from_slice(alloc, number)?,
             place,
         })
+    }
+}
+
+impl TakesLines for Families {
+    ghost use Rattle.std.specs.Prelude.{◌≡◌};
+    ghost use Rattle.shares.specs.Families.{after_all, nothing_yet};
+
+    ghost Read = { λ lines families. families ≡ after_all nothing_yet lines };
+
+    fn take_line(&mut self, alloc: Global, line: &[u8]) -> Result<(), AllocError> {
+        self.take(alloc, line)?;
+        Ok(())
     }
 }

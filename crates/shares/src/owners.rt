@@ -61,11 +61,7 @@ pub struct Owned {
 }
 
 /// Whose each of these processes is, where so many commands were started.
-pub fn owned_of(
-    alloc: Global,
-    commands: usize,
-    processes: &[Process],
-) -> Result<Owned, AllocError>
+pub fn owned_of(alloc: Global, commands: usize, processes: &[Process]) -> Result<Owned, AllocError>
     ensures { IfOk result (λ owned. owned ≡ owned_all processes.now (none_owned commands)) }
 {
     let mut owned = Owned {

@@ -2,7 +2,7 @@
 
 ghost use Rattle.std.specs.Prelude.{◌≡◌, ◌∷◌, ◌++◌, [], List, ℕ, OnOk};
 ghost use Rattle.text.specs.Marks.{Lacks};
-ghost use Rattle.shares.specs.Reading.{ReadsOn, ReadsTo, ReadsWhole};
+ghost use Rattle.shares.specs.Reading.{HasRead, ReadsOn, ReadsTo, ReadsWhole};
 
 use std::alloc::{AllocError, Global};
 use text::{Takes, cut};
@@ -37,6 +37,14 @@ impl<T: TakesLines> Lines<T> {
             taker,
             rest: Vec::new(alloc),
         }
+    }
+
+    /// Who took the lines. What stands behind the last line feed is let go.
+    pub fn into_taker(self) -> T
+        ensures { HasRead T.Read self result }
+    {
+        let Lines { taker, .. } = self;
+        taker
     }
 
     /// Takes what stands in front of the next line feed.

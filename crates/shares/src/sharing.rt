@@ -125,7 +125,7 @@ impl Shares {
         ensures command { IfOk result (λ command. command ≡ command_of self.old line.now) }
         ensures read { OnOk result (self.new ≡ read_more self.old line.now) }
     {
-        let place = self.families.take_line(alloc, line)?;
+        let place = self.families.take(alloc, line)?;
         match place {
             Some(place) => Ok(owner_at(self.owners.as_slice(), place)),
             None => Ok(None),
