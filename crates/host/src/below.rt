@@ -15,7 +15,7 @@ pub const SHARED_TRACE: &str = ".nj_trace.all";
 /// The words before that, each ended by a NUL: those by which one command is traced, and besides that the tracer stands aside, so that this
 /// program is the parent, and that a call is written by which a process that the C library starts is told early to have its filter.
 const WORDS: &[u8] =
-    b"strace\0-D\0-f\0-y\0-xx\0-s\065536\0--seccomp-bpf\0-e\0signal=none\0-e\0verbose=stat,lstat,newfstatat,statx,clone3,openat2\0-e\0trace=%file,fork,vfork,clone,clone3,execveat,fchdir,getdents,getdents64,ftruncate,connect,bind,unshare,setns,open_by_handle_at,io_uring_setup,fsmount,move_mount,rt_sigprocmask\0-o\0";
+    b"strace\0-D\0-f\0-y\0-xx\0-s\065536\0--seccomp-bpf\0-e\0signal=!SIGCHLD\0-e\0verbose=stat,lstat,newfstatat,statx,clone3,openat2\0-e\0trace=%file,fork,vfork,clone,clone3,execveat,fchdir,getdents,getdents64,ftruncate,connect,bind,unshare,setns,open_by_handle_at,io_uring_setup,fsmount,move_mount,rt_sigprocmask\0-o\0";
 
 /// What is run below a tracer.
 #[derive(Drop)]
