@@ -1,3 +1,4 @@
 pub mod Cutting
 pub mod Pieces
 pub mod Behind
+pub mod Counting

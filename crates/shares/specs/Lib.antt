@@ -6,3 +6,4 @@ pub mod Owners
 pub mod Processes
 pub mod Reading
 pub mod Sharing
+pub mod Whole

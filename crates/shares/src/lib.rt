@@ -2,6 +2,7 @@
 #![tactic(auto)]
 
 mod families;
+mod laws;
 mod lines;
 mod marks;
 mod numbers;
@@ -11,5 +12,6 @@ mod reading;
 mod sharing;
 
 pub use families::Families;
+pub use laws::each_share_is_whole;
 pub use reading::{Lines, TakesLines};
 pub use sharing::{Share, Shares};
