@@ -59,7 +59,7 @@ sum_more c owners i [] place q within more = absurd (omega arith)
 sum_more c owners i (p ∷ ps) zero q within more =
     let here : i + zero ≡ i = omega arith in
     let is : counts c (owner_at i owners) q.lines ≡ counts c (owner_at i owners) 1 + counts c (owner_at i owners) p.lines =
-        ap (λ (n : ℕ). counts c (owner_at i owners) n) more ∙ one_more (is_of c (owner_at i owners)) p.lines in
+    ap (λ (n : ℕ). counts c (owner_at i owners) n) more ∙ one_more (is_of c (owner_at i owners)) p.lines in
     let at : counts c (owner_at (i + zero) owners) 1 ≡ counts c (owner_at i owners) 1 = ap (λ (j : ℕ). counts c (owner_at j owners) 1) here in
     omega (arith, is, at)
 sum_more c owners i (p ∷ ps) (suc place) q within more =
@@ -109,7 +109,7 @@ with_process_at : (c : ℕ) (owners : List (Option ℕ)) (n : ℕ) (number : Lis
 with_process_at c owners n number origin families is =
     let size : length (families.processes ++ process_of origin ∷ []) ≡ length families.processes + 1 = length-append families.processes (process_of origin ∷ []) in (
       within_last (length (families.processes ++ process_of origin ∷ [])) families.numbers (record { number = number; place = length families.processes }) (omega (arith, size))
-      (within_more (length families.processes) (length (families.processes ++ process_of origin ∷ [])) families.numbers (omega (arith, size)) is.0),
+          (within_more (length families.processes) (length (families.processes ++ process_of origin ∷ [])) families.numbers (omega (arith, size)) is.0),
       sum_fresh c owners 0 families.processes (process_of origin) refl ∙ is.1,
     )
 
@@ -148,6 +148,7 @@ seen_within number (Some place) families all is = by (process_at place families.
   where
     below : place < length families.processes
     below = within_place (length families.processes) number families.numbers place all is
+
     by : (b : Bool) → place < length (if b then mixed place families else families).processes
     by true = omega (arith, below, length-set families.processes place (is_mixed_now (process_at place families.processes)))
     by false = below
@@ -165,7 +166,7 @@ child_at c owners n by place number origin families is =
     (if (process_at place families.processes).has_ended then freed number (with_changed place (from_one origin) families) else with_changed place (from_one origin) families)
     (mixed_at c owners n by (mixed place families) (mixed_at c owners n place families is))
     (either_at c owners n (process_at place families.processes).has_ended (freed number (with_changed place (from_one origin) families)) (with_changed place (from_one origin) families)
-      (freed_at c owners n number (with_changed place (from_one origin) families) changed) changed)
+    (freed_at c owners n number (with_changed place (from_one origin) families) changed) changed)
 
 child_found_at : (c : ℕ) (owners : List (Option ℕ)) (n by : ℕ) (number : List ℕ) (origin : Origin) (found : Option ℕ) (families : Families) → IsAt c owners n families → IsAt c owners n (after_child_at by number origin found families)
 child_found_at c owners n by number origin None families is = with_process_at c owners n number origin families is
@@ -190,9 +191,9 @@ line_at : (c : ℕ) (owners : List (Option ℕ)) (n place : ℕ) (families : Fam
 line_at c owners n place families within is = (
   changed_within place one_line_more families is.0,
   (let more = sum_more c owners 0 families.processes place (one_line_more (process_at place families.processes)) within refl in
-  let here : 0 + place ≡ place = omega arith in
-  let at : counts c (owner_at (0 + place) owners) 1 ≡ counts c (owner_at place owners) 1 = ap (λ (j : ℕ). counts c (owner_at j owners) 1) here in
-  more ∙ (ap (λ (k : ℕ). k + sum_of c owners 0 families.processes) at ∙ ap (λ (k : ℕ). counts c (owner_at place owners) 1 + k) is.1)),
+      let here : 0 + place ≡ place = omega arith in
+      let at : counts c (owner_at (0 + place) owners) 1 ≡ counts c (owner_at place owners) 1 = ap (λ (j : ℕ). counts c (owner_at j owners) 1) here in
+      more ∙ (ap (λ (k : ℕ). k + sum_of c owners 0 families.processes) at ∙ ap (λ (k : ℕ). counts c (owner_at place owners) 1 + k) is.1)),
 )
 
 left_or_not : (c : ℕ) (owners : List (Option ℕ)) (n place : ℕ) (families : Families) (b : Bool) → place < length families.processes → IsAt c owners n families
@@ -212,7 +213,7 @@ parts_at c owners n families (Some parts) is =
     let counted = left_or_not c owners n place next (is_left_out parts.1) within seen in
     told_at c owners k place parts.0 parts.1 (is_mixed_by place parts.1 (with_line place parts.1 next))
     (either_at c owners k (leaves_numbers parts.1) (mixed place (with_line place parts.1 next)) (with_line place parts.1 next)
-      (mixed_at c owners k place (with_line place parts.1 next) counted) counted)
+    (mixed_at c owners k place (with_line place parts.1 next) counted) counted)
 
 all_at : (c : ℕ) (owners : List (Option ℕ)) (n : ℕ) (families : Families) (lines : List (List ℕ)) → IsAt c owners n families
     → IsAt c owners (count_of c owners families lines + n) (after_all families lines)
