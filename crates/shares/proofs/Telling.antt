@@ -11,10 +11,10 @@ use Rattle.shares.specs.declared.sharing.Shares.{Shares}
 use Rattle.shares.specs.Families.{after, after_all, nothing_yet, place_of_line}
 use Rattle.shares.specs.Owners.{no_left, owner_at}
 use Rattle.shares.specs.Sharing.{command_of, owned_by, read_more, shared, shared_by, shared_left, shared_of, shared_to, shares_of, text_of, told, told_by, told_of, told_to, with_this, without_open}
-use Rattle.shares.specs.Whole.{EachShareIsWhole, is_of, line_for, lines_of, owner_of, read_of, shared_all}
+use Rattle.shares.specs.Whole.{AllFine, EachShareIsWhole, is_of, line_for, lines_of, owner_of, read_of, shared_all}
 use Rattle.shares.proofs.Behind.{after_more}
 use Rattle.shares.proofs.Counting.{both_count, count_of, counts, if_so}
-use Rattle.shares.proofs.Owning.{left_total}
+use Rattle.shares.proofs.Owning.{all_fine, left_total}
 
 -- ---- lines behind others
 
@@ -379,11 +379,13 @@ whole_of lines front line back share n parts has last =
 whole_by : (lines front : List (List ℕ)) (line : List ℕ) (back : List (List ℕ)) (share : Share) (left : Option ℕ) → lines ≡ front ++ line ∷ back
     → get_or (owned_by (read_of lines)).left share.command no_left ≡ left
     → IsLast (shared_all (shares_of (read_of lines)) front) line (command_of (shared_all (shares_of (read_of lines)) front) line) share
-    → share.text ≡ lines_of share.command (owned_by (read_of lines)).owners nothing_yet lines
+    → (share.text ≡ lines_of share.command (owned_by (read_of lines)).owners nothing_yet lines)
+    × AllFine share.command (owned_by (read_of lines)).owners 0 (read_of lines).processes
 whole_by lines front line back share None parts has last =
     let none = none_run share.command front (shares_of (read_of lines)) has in
     absurd (let clash : None ≡ Some 1 = sym none ∙ last.1 in cc)
-whole_by lines front line back share (Some n) parts has last = whole_of lines front line back share n parts has last
+whole_by lines front line back share (Some n) parts has last =
+    (whole_of lines front line back share n parts has last, all_fine share.command (read_of lines) n has)
 
 pub each_share : EachShareIsWhole
 each_share lines front line back share parts is =
