@@ -4,9 +4,10 @@ use crate::audited::named_here;
 use crate::command::options;
 use crate::given::Options as Asked;
 use crate::tracer::tracer_aside;
-use host::Below;
+use host::{Below, SHARED_TRACE};
 use std::alloc::Global;
 use std::convert::AsStr;
+use std::fs::{File, OpenOptions};
 use std::{env, fs, io};
 
 /// The word in front of all others by which the program is told that it runs so.
@@ -75,13 +76,30 @@ fn run_below<S: AsStr>(
     if fs::metadata(rt, program).is_err() {
         return Ok(None);
     }
+    let Some(held) = held_trace(rt)? else {
+        return Ok(None);
+    };
     let below = Below {
         tracer,
         program,
         first: BELOW,
     };
-    Ok(Some(match below.run(alloc, words)? {
+    let status = match below.run(alloc, words)? {
         Some(0) => 0,
         _ => 1,
-    }))
+    };
+    drop(held);
+    Ok(Some(status))
+}
+
+/// The file of the trace, which no other audit in this folder writes as long as it is held; none where one does.
+fn held_trace(rt: &HostRuntime) -> io::Result<Option<File>> {
+    let file = OpenOptions::new()
+        .append(true)
+        .create(true)
+        .open(rt, SHARED_TRACE)?;
+    match file.try_lock() {
+        Ok(()) => Ok(Some(file)),
+        Err(_) => Ok(None),
+    }
 }
