@@ -37,14 +37,15 @@ pub struct Below<'a> {
 }
 
 impl<'a> Below<'a> {
-    /// Runs the program with these words and the program's own variables, input and output, and answers its status, unless a signal ended it.
+    /// Runs the program with these words and the program's own variables, input and output, and answers its status, unless a signal ended it or
+    /// that is not known. It fails where nothing was started.
     pub fn run<S: AsStr>(&self, alloc: Global, words: &[S]) -> io::Result<Option<i32>> {
         let block = variables(alloc)?;
         let words = self.words(alloc, words, sets_locale(block.as_slice()))?;
         let mut process = Process::start(&self.handed(alloc, words, block.as_slice())?)?;
-        match process.wait()? {
-            Some(status) => Ok(ExitStatus::from_raw(status.bits).code()),
-            None => Ok(None),
+        match process.wait() {
+            Ok(Some(status)) => Ok(ExitStatus::from_raw(status.bits).code()),
+            _ => Ok(None),
         }
     }
 

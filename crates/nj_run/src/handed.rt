@@ -1,5 +1,8 @@
 //! An audit that is handed to this program once more, below one tracer of it and of all commands.
 
+ghost use Rattle.std.specs.Prelude.{◌≤◌, IfOk, IfSome, IsTrue, map};
+ghost use Rattle.nj_run.specs.Handed.{AsksAudit, IsHandedFor, IsHandedOn};
+
 use crate::audited::named_here;
 use crate::command::options;
 use crate::given::Options as Asked;
@@ -27,7 +30,9 @@ pub enum Handed {
 
 /// Hands these words on where they ask for an audit, one tracer over all commands serves that, and nothing is written where build lines name
 /// it. Nothing is told of why they stay.
-pub fn hand_on<S: AsStr>(rt: &HostRuntime, words: &[S]) -> Handed {
+pub fn hand_on<S: AsStr>(rt: &HostRuntime, words: &[S]) -> Handed
+    ensures { IsHandedOn (map S.text words.entry.now) result }
+{
     let alloc = rt.alloc();
     match options(alloc, words) {
         Ok(asked) => hand_asked(alloc, rt, &asked, words),
@@ -37,9 +42,11 @@ pub fn hand_on<S: AsStr>(rt: &HostRuntime, words: &[S]) -> Handed {
     }
 }
 
-fn hand_asked<S: AsStr>(alloc: Global, rt: &HostRuntime, asked: &Asked<'_>, words: &[S]) -> Handed {
+fn hand_asked<S: AsStr>(alloc: Global, rt: &HostRuntime, asked: &Asked<'_>, words: &[S]) -> Handed
+    ensures { IsHandedFor asked.now result }
+{
     let mut is_in_folder = false;
-    if asked.why || !asked.audits() || asked.jobs > TOGETHER {
+    if !asks_audit(asked) {
         return Handed::Stays { is_in_folder };
     }
     let Some(tracer) = tracer_aside(rt) else {
@@ -57,6 +64,13 @@ fn hand_asked<S: AsStr>(alloc: Global, rt: &HostRuntime, asked: &Asked<'_>, word
     }
 }
 
+/// Whether an audit is asked for in which few commands run at once. Where their number has no limit they are not few.
+fn asks_audit(asked: &Asked<'_>) -> bool
+    ensures { IsTrue result → AsksAudit asked.now }
+{
+    !asked.why && asked.audits() && 0 < asked.jobs && asked.jobs <= TOGETHER
+}
+
 /// Runs the program below this tracer, and answers its status; none where build lines name what the trace is written to.
 fn run_below<S: AsStr>(
     alloc: Global,
@@ -64,7 +78,9 @@ fn run_below<S: AsStr>(
     asked: &Asked<'_>,
     tracer: &str,
     words: &[S],
-) -> io::Result<Option<u8>> {
+) -> io::Result<Option<u8>>
+    ensures { IfOk result (λ ended. IfSome ended (λ status. status ≤ 1)) }
+{
     let mut unseen = io::sink();
     if named_here(asked, None, &mut unseen, rt)?.is_some() {
         return Ok(None);

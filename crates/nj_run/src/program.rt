@@ -1,6 +1,6 @@
 //! The run of the program.
 
-ghost use Rattle.std.specs.Prelude.{◌≡◌, ◌≤◌, IfOk, true, false, map};
+ghost use Rattle.std.specs.Prelude.{◌≡◌, ◌≤◌, IfOk, IfSome, Some, true, false, map};
 ghost use Rattle.clap.specs.Words.{takes};
 ghost use Rattle.model.specs.Calls.{OnlyLooks};
 ghost use Rattle.model.specs.World.{World, IsIdle};
@@ -118,7 +118,7 @@ fn build_asked<W: Write, E: Write>(
 
 /// The folder that is asked for, unless it has been gone to.
 fn to_go_to<'a>(asked: &Asked<'a>, environment: Environment<'_>) -> Option<&'a str>
-    ensures { IfSome result (λ folder. option_map (λ path. path.now) asked.now.folder ≡ Some folder.now) }
+    ensures { IfSome result (λ folder. asked.now.folder ≡ Some folder.now) }
 {
     if environment.is_in_folder {
         return None;
