@@ -31,9 +31,7 @@ fn tracer_so(rt: &HostRuntime, is_aside: bool) -> Option<String> {
     for folder in folders.split(':') {
         let program = format!(in alloc; "{folder}/{NAME}").ok()?;
         if folder.as_bytes().starts_with(b"/") && is_file(rt, program.as_str()) {
-            return traces(alloc, rt, program.as_str(), is_aside)
-                .unwrap_or(false)
-                .then_some(program);
+            return traces_so(alloc, rt, program.as_str(), is_aside).then_some(program);
         }
     }
     None
@@ -44,6 +42,15 @@ fn is_file(rt: &HostRuntime, path: &str) -> bool {
         Ok(found) => found.is_file(),
         Err(_) => false,
     }
+}
+
+/// Whether the program traces here, and, where that is asked for, aside as well. Below another tracer it does neither, but the second try alone
+/// would not tell that: what runs there has a tracer.
+fn traces_so(alloc: Global, rt: &HostRuntime, program: &str, is_aside: bool) -> bool {
+    if !traces(alloc, rt, program, false).unwrap_or(false) {
+        return false;
+    }
+    !is_aside || traces(alloc, rt, program, true).unwrap_or(false)
 }
 
 /// What is traced aside: a shell that ends well where the system tells that it has a tracer. Where the tracer could not be that, the shell runs
