@@ -51,8 +51,7 @@ pub fn audit_asked<W: Write, E: Write>(
     ensures comes { Comes (EndsFor asked.now) W.contents E.contents out.old out.new err.old err.new result }
 {
     if environment.is_below {
-        let audited = audit_here(asked, environment, None, out, noted)?;
-        return tell_all(noted.rt().alloc(), &audited, asked.audit_all, out, err);
+        return audit_below(asked, environment, out, err, noted);
     }
     let Some(program) = tracer(noted.rt()) else {
         return untraced(err);
@@ -62,6 +61,23 @@ pub fn audit_asked<W: Write, E: Write>(
         return told::traced_over(path.as_str(), err);
     }
     let audited = audit_here(asked, environment, Some(program), out, noted)?;
+    tell_all(noted.rt().alloc(), &audited, asked.audit_all, out, err)
+}
+
+/// The same of a run that one tracer is over, and over all commands.
+fn audit_below<W: Write, E: Write>(
+    asked: &Asked<'_>,
+    environment: Environment<'_>,
+    out: &mut W,
+    err: &mut E,
+    noted: &mut Noted<'_>,
+) -> io::Result<u8>
+    requires plain { asked.now.why ≡ false }
+    requires audits { audits asked.now ≡ true }
+    ensures range { IfOk result (λ status. status ≤ 1) }
+    ensures comes { Comes (EndsFor asked.now) W.contents E.contents out.old out.new err.old err.new result }
+{
+    let audited = audit_here(asked, environment, None, out, noted)?;
     tell_all(noted.rt().alloc(), &audited, asked.audit_all, out, err)
 }
 
