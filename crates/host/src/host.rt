@@ -198,7 +198,7 @@ impl<'a, W: Write> Host<'a, W> {
     }
 
     /// From now on the number of the process of each command is kept, and the build does not go on without the process that started this one.
-    pub fn is_below(&mut self)
+    pub fn run_below_tracer(&mut self)
         ensures { world_of self.new ≡ world_of self.old }
     {
         self.jobs.keep_numbers();

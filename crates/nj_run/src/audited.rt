@@ -163,7 +163,7 @@ fn traced_host<'a, W: Write>(rt: &'a HostRuntime, program: Option<String>, out: 
     let mut host = Host::new(rt.alloc(), rt, out);
     match program {
         Some(program) => host.trace_by(program),
-        None => host.is_below(),
+        None => host.run_below_tracer(),
     }
     host
 }
