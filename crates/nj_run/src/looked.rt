@@ -2,9 +2,10 @@
 
 use crate::anew::{auditor_of, take_trace};
 use crate::links::learn_links;
+use crate::shared::look_at_shares;
 use auditor::{Auditor, Tally};
 use builder::{Options, Reading};
-use host::Host;
+use host::{Host, SHARED_TRACE};
 use model::Event;
 use paths::{PathId, Paths};
 use site::Site;
@@ -17,6 +18,7 @@ use text::Text;
 pub struct Here<'p> {
     pub folder: &'p str,
     pub left: Option<&'p Paths>,
+    pub is_shared: bool,
 }
 
 /// A command that ended.
@@ -33,6 +35,8 @@ pub struct Place<'p> {
     pub folder: Option<&'p str>,
     /// The files that stood below the folder for scratch files before it, if that is known.
     pub left: Option<&'p Paths>,
+    /// Whether one trace has the lines of all commands.
+    pub is_shared: bool,
 }
 
 /// Looks at all commands that were started and ended well, and removes their traces. None where the working folder is no text, the build files
@@ -44,6 +48,7 @@ pub fn look<W: Write>(
     targets: &[Text],
     place: Place<'_>,
 ) -> Option<Tally> {
+    let is_shared = place.is_shared;
     let tally = match place.folder {
         Some(folder) => look_here(
             rt,
@@ -53,11 +58,14 @@ pub fn look<W: Write>(
             Here {
                 folder,
                 left: place.left,
+                is_shared,
             },
         ),
         None => None,
     };
-    if tally.is_none() {
+    if is_shared {
+        let _ = host.remove(SHARED_TRACE);
+    } else if tally.is_none() {
         let _ = let_traces_go(rt.alloc(), host);
     }
     tally
@@ -76,7 +84,11 @@ fn look_here<W: Write>(
     let commands = auditor.commands(asked.targets.as_slice())?;
     let mut tally = Tally::new(alloc, commands);
     take_left(alloc, here, &mut tally)?;
-    look_at_all(rt, host, &mut auditor, &mut tally)?;
+    if here.is_shared {
+        look_at_shares(rt, host, &mut auditor, &mut tally)?;
+    } else {
+        look_at_all(rt, host, &mut auditor, &mut tally)?;
+    }
     Some(tally)
 }
 
