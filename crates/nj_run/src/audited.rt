@@ -129,7 +129,7 @@ fn audit_here<W: Write>(
     let alloc = rt.alloc();
     let folder = env::current_dir(rt)?;
     let (options, targets) = build_options(alloc, asked, environment.pattern)?;
-    let left = left_before(rt);
+    let stood = left_before(rt);
     let mut host = traced_host(rt, program, out);
     host.draw(
         noted.look(asked.verbose),
@@ -144,7 +144,7 @@ fn audit_here<W: Write>(
     noted.built(&mut host, asked.file, &report);
     let place = Place {
         folder: folder.to_str(),
-        left: left.as_ref(),
+        left: stood.as_ref(),
         is_shared: environment.is_below,
     };
     let tally = look(rt, &mut host, &options, targets.as_slice(), place);
