@@ -6,7 +6,7 @@ use Rattle.paths.specs.Numbers.{HaveOnePlace}
 use Rattle.trace.specs.declared.fact.Deed.{Deed}
 use Rattle.audit.specs.declared.used.Use.{Use}
 use Rattle.audit.specs.declared.seen.By.{By}
-use Rattle.audit.specs.declared.seen.Whole.{Whole}
+use Rattle.audit.specs.declared.whole.Whole.{Whole}
 use Rattle.audit.specs.Uses.{unused, with_deed}
 use Rattle.audit.specs.Seen.{Sums, again_at, put_last, use_again, with_all_done, with_done, with_untouched}
 use Rattle.audit.proofs.Members.{in_has, next, past_all}

@@ -9,10 +9,14 @@ use Rattle.audit.specs.declared.finding.Finding.TheVariants as found
 unfoldable pub counts : Place → Bool
 counts place = (place.around.inside || place.around.named) && not place.around.own
 
--- A file was read or asked for; also one that was written into before, where an earlier run may have left it. Below a folder for scratch files
--- compilers write into files of names that they have made up.
+-- Something of before the command may stand there, where it writes into it. Below a folder for scratch files compilers write into files of names
+-- that they have made up, where none stood there.
+abbrev pub may_be_old : Place → Bool
+may_be_old place = not place.around.scratch || place.around.left
+
+-- a file was read or asked for; also one that was written into before, where an earlier run may have left it
 unfoldable pub looks : Place → Use → Bool
-looks place used = ((used.reads || (used.takes && not place.around.scratch)) || used.asks) && not used.is_folder
+looks place used = ((used.reads || (used.takes && may_be_old place)) || used.asks) && not used.is_folder
 
 -- ---- reading: a command's outcome depends only on its inputs and on what it reports
 
@@ -62,9 +66,9 @@ spoils_stray place =
 abbrev pub is_scratch : Use → Bool
 is_scratch used = used.gone && not used.removes
 
--- an output was not written, or is gone
+-- an output was not written, or is gone; a folder that was made is one
 unfoldable pub is_unwritten : Place → Use → Bool
-is_unwritten place used = place.output && (used.gone || not (place.restat || used.writes))
+is_unwritten place used = place.output && (used.gone || not ((place.restat || used.writes) || used.made_folder))
 
 -- ---- what is told
 

@@ -1,5 +1,11 @@
 pub mod Uses
 pub mod Places
 pub mod Findings
+pub mod Below
+pub mod Stood
+pub mod Standing
+pub mod Came
+pub mod Leading
+pub mod Wholes
 pub mod Seen
 pub mod Breaches

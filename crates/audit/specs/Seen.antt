@@ -1,20 +1,18 @@
 -- What a command did, path by path.
-use Rattle.std.specs.Prelude.{◌≡◌, ℕ, zero, suc, Bool, true, false, List, [], ◌∷◌, ◌++◌, Option, Some, None, if◌then◌else◌, codes, nat_eq, bytes_eq, unwrap_or, ⊤}
-use Rattle.std.specs.List.{AllZip, starts_with}
+use Rattle.std.specs.Prelude.{ℕ, zero, suc, not, Bool, true, false, List, [], ◌∷◌, ◌++◌, Option, Some, if◌then◌else◌, codes, nat_eq, bytes_eq, unwrap_or}
+use Rattle.std.specs.List.{starts_with}
 use Rattle.lexer.specs.Path.{IsCanonical}
-use Rattle.trace.specs.declared.fact.Fact.{Fact}
 use Rattle.model.specs.Graph.{has}
 use Rattle.trace.specs.declared.fact.Deed.{Deed}
-use Rattle.trace.specs.declared.fact.Deed.TheVariants.{Connected}
+use Rattle.trace.specs.declared.fact.Deed.TheVariants.{Connected, Left, Made, Moved, Read}
 use Rattle.audit.specs.declared.seen.Uses.{Uses}
 use Rattle.audit.specs.declared.used.Use.{Use}
-use Rattle.audit.specs.declared.seen.Whole.{Whole}
+use Rattle.audit.specs.declared.below.Carried.{Carried}
+use Rattle.audit.specs.declared.whole.Whole.{Whole}
 use Rattle.audit.specs.declared.seen.By.{By}
 use Rattle.audit.specs.declared.seen.By.TheVariants.{Name, Kernel, Both}
-use Rattle.audit.specs.Uses.{unused, with_deed}
-
-abbrev pub IsPath : List ℕ → List ℕ → Type 0
-IsPath text path = IsCanonical text path
+use Rattle.audit.specs.Below.{below}
+use Rattle.audit.specs.Uses.{stands, unused, with_deed}
 
 -- the path of a build, from the root
 abbrev pub whole_path : List ℕ → List ℕ → List ℕ
@@ -23,24 +21,6 @@ whole_path folder path = if starts_with nat_eq path (codes "/") then path else (
 -- its canonical form
 abbrev pub IsWhole : List ℕ → List ℕ → List ℕ → Type 0
 IsWhole folder path found = IsCanonical (whole_path folder path) found
-
--- ---- facts in canonical form
-
-abbrev pub IsRealOf : Option (List ℕ) → Option (List ℕ) → Type 0
-IsRealOf None None = ⊤
-IsRealOf None (Some path) = ⊥
-IsRealOf (Some real) None = ⊥
-IsRealOf (Some real) (Some path) = IsCanonical real path
-
--- the same was done, and the paths are in their canonical form
-pub record IsWholeOf (fact : Fact) (whole : Whole) : Type 0 where
-  pub deed : whole.deed ≡ fact.deed
-  pub path : IsCanonical fact.path whole.path
-  pub real : IsRealOf fact.real whole.real
-  pub up : whole.up ≡ fact.up
-
-abbrev pub AreWhole : List Fact → List Whole → Type 0
-AreWhole = AllZip IsWholeOf
 
 -- ---- path by path
 
@@ -78,6 +58,49 @@ with_done sums path deed =
     if has sums.paths path then record { paths = sums.paths; uses = use_again sums.paths sums.uses path deed }
     else put_last sums path (with_deed unused deed)
 
+-- what was done at a path
+abbrev pub use_in : List (List ℕ) → List Use → List ℕ → Use
+use_in [] uses path = unused
+use_in (other ∷ paths) [] path = unused
+use_in (other ∷ paths) (used ∷ uses) path = if bytes_eq other path then used else use_in paths uses path
+
+abbrev pub use_at : Sums → List ℕ → Use
+use_at sums path = use_in sums.paths sums.uses path
+
+-- ---- what is given another path
+
+-- what was done at the new path of a folder, one that the command made or another one
+abbrev pub folder_deed : Use → Deed
+folder_deed used = if used.made_folder then Made else Moved
+
+-- what stands below a folder goes along with it: a folder, or a file, if it was seen that one stands there
+abbrev pub with_pair_of : Use → Sums → Carried → Sums
+with_pair_of used sums pair =
+    if used.is_folder then with_done (with_done sums pair.from Left) pair.to (folder_deed used)
+    else (if not (stands used) then sums
+    else with_done (with_done (with_done sums pair.from Read) pair.from Left) pair.to Moved)
+
+abbrev pub with_pair : Sums → Carried → Sums
+with_pair sums pair = with_pair_of (use_at sums pair.from) sums pair
+
+abbrev pub with_pairs : Sums → List Carried → Sums
+with_pairs sums [] = sums
+with_pairs sums (pair ∷ pairs) = with_pairs (with_pair sums pair) pairs
+
+-- what has the first path was given the second one: where it is a folder, all that was seen below it goes along
+abbrev pub with_moved : Sums → List ℕ → List ℕ → Sums
+with_moved sums from to =
+    if not (use_at sums from).is_folder then with_done sums to Moved
+    else with_done (with_pairs sums (below from to sums.paths)) to (folder_deed (use_at sums from))
+
+abbrev pub with_thing_by : Deed → Option (List ℕ) → Sums → List ℕ → Sums
+with_thing_by Moved (Some from) sums path = with_moved sums from path
+with_thing_by deed other sums path = with_done sums path deed
+
+-- one thing more was done, by this path
+abbrev pub with_thing : Sums → List ℕ → Whole → Sums
+with_thing sums path whole = with_thing_by whole.deed whole.other sums path
+
 -- the path by which a thing counts: the one that was given, or the one that the kernel has where that is asked for and known
 abbrev pub path_by : Whole → Bool → List ℕ
 path_by whole false = whole.path
@@ -85,9 +108,9 @@ path_by whole true = unwrap_or whole.real whole.path
 
 -- one thing more was done, by the path that is asked for, or by both
 abbrev pub with_taken : Sums → Whole → By → Sums
-with_taken sums whole Name = with_done sums (path_by whole false) whole.deed
-with_taken sums whole Kernel = with_done sums (path_by whole true) whole.deed
-with_taken sums whole Both = with_done (with_done sums (path_by whole false) whole.deed) (path_by whole true) whole.deed
+with_taken sums whole Name = with_thing sums (path_by whole false) whole
+with_taken sums whole Kernel = with_thing sums (path_by whole true) whole
+with_taken sums whole Both = with_thing (with_thing sums (path_by whole false) whole) (path_by whole true) whole
 
 -- these things were done, one after another, each by the path that is asked for, or by both
 abbrev pub with_all_done : Sums → List Whole → List By → Sums

@@ -1,7 +1,7 @@
 //! What breaks a premise.
 
 ghost use Rattle.std.specs.Prelude.{◌≡◌, ◌++◌, OnOk, IfOk, []};
-ghost use Rattle.audit.specs.Findings.{counts, findings, found_read, found_removed, found_written, is_kept, is_listed, is_not_above, is_order_only, is_read_itself, is_scratch, is_stamped, is_strange, is_unreported, is_unwritten, looks, spoils_known, spoils_made, spoils_stray, when};
+ghost use Rattle.audit.specs.Findings.{counts, findings, found_read, found_removed, found_written, is_kept, is_listed, is_not_above, is_order_only, is_read_itself, is_scratch, is_stamped, is_strange, is_unreported, is_unwritten, looks, may_be_old, spoils_known, spoils_made, spoils_stray, when};
 
 use crate::place::Place;
 use crate::used::Use;
@@ -188,12 +188,19 @@ fn counts(place: Place) -> bool
 }
 
 /// Whether a file was read or asked for; also one that it wrote into before, where an earlier run may have left it. Below a folder for scratch
-/// files compilers write into files of names that they have made up.
+/// files compilers write into files of names that they have made up, where none stood there.
 #[tactic(auto, unfolding(crate::specs::Findings::looks))]
 fn looks(place: Place, used: Use) -> bool
     ensures { result ≡ looks place used }
 {
-    (used.reads || (used.takes && !place.around.scratch) || used.asks) && !used.is_folder
+    (used.reads || (used.takes && may_be_old(place)) || used.asks) && !used.is_folder
+}
+
+/// Whether something of before the command may stand there, where it writes into it.
+fn may_be_old(place: Place) -> bool
+    ensures { result ≡ may_be_old place }
+{
+    !place.around.scratch || place.around.left
 }
 
 #[tactic(auto, unfolding(crate::specs::Findings::is_unreported))]
@@ -295,5 +302,5 @@ fn spoils_stray(place: Place) -> bool
 fn is_unwritten(place: Place, used: Use) -> bool
     ensures { result ≡ is_unwritten place used }
 {
-    place.output && (used.gone || !(place.restat || used.writes))
+    place.output && (used.gone || !(place.restat || used.writes || used.made_folder))
 }

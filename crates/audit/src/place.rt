@@ -39,6 +39,8 @@ pub struct Around {
     pub own: bool,
     /// It is one of the scratch files that stand below a folder for these.
     pub scratch: bool,
+    /// It may have stood there before the command began, as one of these.
+    pub left: bool,
     /// It leads to a plain file that is not empty.
     pub filled: bool,
 }

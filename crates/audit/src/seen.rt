@@ -1,31 +1,22 @@
 //! What a command did, path by path.
 
-ghost use Rattle.std.specs.Prelude.{◌≡◌, IfOk, IfSome, OnOk, false, length, slice_get, if◌then◌else◌};
+ghost use Rattle.std.specs.Prelude.{◌≡◌, IfOk, IfSome, OnOk, false, length, slice_get, unwrap_or, if◌then◌else◌};
 ghost use Rattle.std.specs.List.{list_any};
 ghost use Rattle.std.specs.Option.{option_map};
 ghost use Rattle.std.specs.Map.Iter.{deref};
 ghost use Rattle.model.specs.Graph.{has};
 ghost use Rattle.audit.specs.Uses.{unused};
-ghost use Rattle.audit.specs.Seen.{AreWhole, IsPath, IsWhole, IsWholeOf, again_at, is_connected, no_sums, path_by, put_last, sums_in, with_all_done, with_done, with_taken, with_untouched};
+ghost use Rattle.audit.specs.Wholes.{IsPath};
+ghost use Rattle.audit.specs.Seen.{IsWhole, again_at, folder_deed, is_connected, no_sums, path_by, put_last, sums_in, use_at, with_all_done, with_done, with_moved, with_pair, with_pairs, with_taken, with_thing, with_untouched};
 
+use crate::below::{Carried, below};
 use crate::used::Use;
-use lexer::{ReadFault, canonical};
+use crate::whole::Whole;
+use lexer::canonical;
 use paths::{PathId, Paths};
 use std::alloc::{AllocError, Global};
-use std::str::from_utf8;
-use text::{Bytes, Items, Path};
-use trace::{Deed, Fact};
-
-/// What was done at a path, which is canonical. Where it is one of the build, it begins at the root.
-#[derive(Drop)]
-pub struct Whole {
-    pub deed: Deed,
-    pub path: Path,
-    /// By which path the kernel has the file, where the trace tells it.
-    pub real: Option<Path>,
-    /// The path went up behind a name before it was made canonical.
-    pub up: bool,
-}
+use text::Path;
+use trace::Deed;
 
 /// By which of its two paths a thing counts that was done.
 #[derive(Clone, Copy, Debug, PartialEq, Eq)]
@@ -36,62 +27,6 @@ pub enum By {
     Kernel,
     /// By each of them.
     Both,
-}
-
-/// The facts with their paths in canonical form; none where a path is no text.
-pub fn wholes_of(alloc: Global, facts: &[Fact]) -> Result<Option<Items<Whole>>, AllocError>
-    ensures { IfOk result (λ found. IfSome found (AreWhole facts.now)) }
-{
-    let mut wholes = Items::new(alloc);
-    for fact in facts {
-        let Some(whole) = whole_of(alloc, fact)? else {
-            return Ok(None);
-        };
-        wholes.push(whole)?;
-    }
-    Ok(Some(wholes))
-}
-
-/// A fact with its paths in canonical form; none where a path is no text.
-fn whole_of(alloc: Global, fact: &Fact) -> Result<Option<Whole>, AllocError>
-    ensures { IfOk result (λ found. IfSome found (IsWholeOf fact.now)) }
-{
-    let Some(path) = path_of(alloc, &fact.path)? else {
-        return Ok(None);
-    };
-    let deed = fact.deed;
-    let up = fact.up;
-    let Some(real) = &fact.real else {
-        return Ok(Some(Whole {
-            deed,
-            path,
-            real: None,
-            up,
-        }));
-    };
-    match path_of(alloc, real)? {
-        Some(real) => Ok(Some(Whole {
-            deed,
-            path,
-            real: Some(real),
-            up,
-        })),
-        None => Ok(None),
-    }
-}
-
-/// The canonical path of these bytes, if they are a text. The empty one has none.
-fn path_of(alloc: Global, path: &Bytes) -> Result<Option<Path>, AllocError>
-    ensures { IfOk result (λ found. IfSome found (IsPath path.now)) }
-{
-    let Ok(path) = from_utf8(path.as_slice()) else {
-        return Ok(None);
-    };
-    match canonical(alloc, path) {
-        Ok(path) => Ok(Some(Path::from_string(path))),
-        Err(ReadFault::EmptyPath) => Ok(None),
-        Err(ReadFault::Memory) => Err(AllocError),
-    }
 }
 
 /// The canonical path from the root of a path of the build, whose folder is this one.
@@ -162,12 +97,74 @@ impl Uses {
         ensures { OnOk result (sums_in self.new ≡ with_taken (sums_in self.old) whole.now by) }
     {
         match by {
-            By::Name => self.take(alloc, path_by(whole, false), whole.deed),
-            By::Kernel => self.take(alloc, path_by(whole, true), whole.deed),
+            By::Name => self.take_thing(alloc, path_by(whole, false), whole),
+            By::Kernel => self.take_thing(alloc, path_by(whole, true), whole),
             By::Both => {
-                self.take(alloc, path_by(whole, false), whole.deed)?;
-                self.take(alloc, path_by(whole, true), whole.deed)
+                self.take_thing(alloc, path_by(whole, false), whole)?;
+                self.take_thing(alloc, path_by(whole, true), whole)
             }
+        }
+    }
+
+    /// Takes in one thing more that was done, by this path.
+    fn take_thing(&mut self, alloc: Global, path: &str, whole: &Whole) -> Result<(), AllocError>
+        ensures { OnOk result (sums_in self.new ≡ with_thing (sums_in self.old) path.now whole.now) }
+    {
+        match whole.deed {
+            Deed::Moved => match &whole.other {
+                Some(from) => self.take_moved(alloc, from.as_str(), path),
+                None => self.take(alloc, path, whole.deed),
+            },
+            _ => self.take(alloc, path, whole.deed),
+        }
+    }
+
+    /// Takes in that what has the first path was given the second one: where it is a folder, all that was seen below it goes along.
+    fn take_moved(&mut self, alloc: Global, from: &str, to: &str) -> Result<(), AllocError>
+        ensures { OnOk result (sums_in self.new ≡ with_moved (sums_in self.old) from.now to.now) }
+    {
+        let used = self.at(from);
+        if !used.is_folder {
+            return self.take(alloc, to, Deed::Moved);
+        }
+        let pairs = below(alloc, &self.paths, from, to)?;
+        self.take_pairs(alloc, pairs.as_slice())?;
+        self.take(alloc, to, folder_deed(used))
+    }
+
+    fn take_pairs(&mut self, alloc: Global, pairs: &[Carried]) -> Result<(), AllocError>
+        ensures { OnOk result (sums_in self.new ≡ with_pairs (sums_in self.old) pairs.now) }
+    {
+        for pair in pairs {
+            self.take_pair(alloc, pair)?;
+        }
+        Ok(())
+    }
+
+    /// The same of what has one path, if something stands there.
+    fn take_pair(&mut self, alloc: Global, pair: &Carried) -> Result<(), AllocError>
+        ensures { OnOk result (sums_in self.new ≡ with_pair (sums_in self.old) pair.now) }
+    {
+        let used = self.at(pair.from.as_str());
+        if used.is_folder {
+            self.take(alloc, pair.from.as_str(), Deed::Left)?;
+            return self.take(alloc, pair.to.as_str(), folder_deed(used));
+        }
+        if !used.stands() {
+            return Ok(());
+        }
+        self.take(alloc, pair.from.as_str(), Deed::Read)?;
+        self.take(alloc, pair.from.as_str(), Deed::Left)?;
+        self.take(alloc, pair.to.as_str(), Deed::Moved)
+    }
+
+    /// What was done at a path.
+    fn at(&self, path: &str) -> Use
+        ensures { result ≡ use_at (sums_in self.now) path.now }
+    {
+        match self.paths.number_of(path) {
+            Some(number) => or_none(self.used(number.index())),
+            None => Use::none(),
         }
     }
 
@@ -231,6 +228,27 @@ impl Uses {
             self.touch(alloc, path)?;
         }
         Ok(())
+    }
+}
+
+/// What was done, or nothing.
+fn or_none(used: Option<Use>) -> Use
+    ensures { result ≡ unwrap_or used unused }
+{
+    match used {
+        Some(used) => used,
+        None => Use::none(),
+    }
+}
+
+/// What was done at the new path of a folder of which this was seen.
+fn folder_deed(used: Use) -> Deed
+    ensures { result ≡ folder_deed used }
+{
+    if used.made_folder {
+        Deed::Made
+    } else {
+        Deed::Moved
     }
 }
 

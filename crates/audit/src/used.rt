@@ -1,7 +1,7 @@
 //! What a command did at one path.
 
 ghost use Rattle.std.specs.Prelude.{◌≡◌, false};
-ghost use Rattle.audit.specs.Uses.{is_new, unused, with_deed};
+ghost use Rattle.audit.specs.Uses.{is_new, stands, unused, with_deed};
 
 use trace::Deed;
 
@@ -14,7 +14,7 @@ pub struct Use {
     pub asks: bool,
     /// It asked, and nothing was there.
     pub misses: bool,
-    /// It listed the folder there, which it had not made itself.
+    /// It listed the folder there, or gave it another path, and had not made it itself.
     pub lists: bool,
     /// It wrote there.
     pub writes: bool,
@@ -58,6 +58,13 @@ impl Use {
         }
     }
 
+    /// Whether a file stands there, as far as it was seen.
+    pub fn stands(self) -> bool
+        ensures { result ≡ stands self }
+    {
+        (self.writes || self.reads || self.asks) && !self.gone
+    }
+
     /// Whether nothing of an earlier run stands there.
     fn is_new(self) -> bool
         ensures { result ≡ is_new self }
@@ -87,7 +94,7 @@ impl Use {
                 lists: self.lists || !self.made_folder,
                 ..self
             },
-            Deed::Wrote | Deed::Linked | Deed::Led | Deed::Emptied => Use {
+            Deed::Wrote | Deed::Linked | Deed::Moved | Deed::Led | Deed::Emptied => Use {
                 writes: true,
                 gone: false,
                 own: true,
@@ -112,6 +119,13 @@ impl Use {
                 removes: self.removes || !self.writes,
                 gone: true,
                 stamps: false,
+                ..self
+            },
+            Deed::Left => Use {
+                removes: self.removes || !(self.writes || self.made_folder),
+                gone: true,
+                stamps: false,
+                lists: self.lists || (self.is_folder && !self.made_folder),
                 ..self
             },
             Deed::Folder => Use {

@@ -1,4 +1,5 @@
 pub mod Things
 pub mod Scratch
+pub mod Left
 pub mod Links
 pub mod Tally

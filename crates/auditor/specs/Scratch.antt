@@ -30,6 +30,13 @@ is_in (Some front) path = starts_with nat_eq path front
 abbrev pub is_scratch : Scratch → List ℕ → Bool
 is_scratch scratch path = is_in scratch.front path && not (has scratch.known path)
 
--- of each of these paths it is told whether it is a scratch file
-abbrev pub AreAround : Scratch → List (List ℕ) → List Around → Type 0
-AreAround scratch paths arounds = map (λ (around : Around). around.scratch) arounds ≡ map (is_scratch scratch) paths
+-- of each of these paths it is told whether it is a scratch file, and whether it may have stood there before
+abbrev pub scratches_of : List Around → List Bool
+scratches_of arounds = map (λ (around : Around). around.scratch) arounds
+
+abbrev pub lefts_of : List Around → List Bool
+lefts_of arounds = map (λ (around : Around). around.left) arounds
+
+pub record AreAround (scratch : Scratch) (left : List (List ℕ)) (paths : List (List ℕ)) (arounds : List Around) : Type 0 where
+  pub scratches : scratches_of arounds ≡ map (is_scratch scratch) paths
+  pub lefts : lefts_of arounds ≡ map (has left) paths

@@ -7,11 +7,14 @@ use Rattle.audit.specs.declared.place.Lists.{Lists}
 use Rattle.audit.specs.declared.place.Around.{Around}
 use Rattle.audit.specs.Breaches.{breaches}
 use Rattle.audit.specs.declared.seen.By.{By}
-use Rattle.audit.specs.declared.seen.Whole.{Whole}
+use Rattle.audit.specs.declared.whole.Whole.{Whole}
+use Rattle.audit.specs.Stood.{Stood}
 use Rattle.audit.specs.Seen.{Sums, no_sums, with_all_done, with_untouched}
 use Rattle.auditor.specs.declared.tally.Counts.{Counts}
+use Rattle.auditor.specs.declared.tally.Tally.{Tally}
 use Rattle.auditor.specs.declared.scratch.Scratch.{Scratch}
-use Rattle.auditor.specs.Links.{CountsThrough, links_of}
+use Rattle.auditor.specs.Left.{with_left}
+use Rattle.auditor.specs.Links.{CountsThrough}
 use Rattle.auditor.specs.Scratch.{AreAround}
 use Rattle.auditor.specs.Things.{AreThings}
 
@@ -34,22 +37,26 @@ with_one counts keeps = record {
 abbrev pub is_clean : Counts → Bool
 is_clean counts = (counts.looked == counts.commands) && (counts.kept == counts.looked)
 
+-- the same was counted, and left
+abbrev pub IsKept : Tally → Tally → Type 0
+IsKept old new = (new.counts ≡ old.counts) × (new.left ≡ old.left)
+
 -- ---- what is counted
 
--- Of a command which did this in sum, with a judgement of each path: it counts as one that keeps all premises only where nothing breaks one.
-pub record IsCountedBy (scratch : Scratch) (lists : Lists) (sums : Sums) (old new : Counts) : Type 0 where
+-- Of a command which did this in sum, with a judgement of each path: it counts as one that keeps all premises only where nothing breaks one. What
+-- scratch files it left may stand there before the next one begins.
+pub record IsCountedBy (scratch : Scratch) (lists : Lists) (sums : Sums) (old new : Tally) : Type 0 where
   pub keeps : Bool
   pub arounds : List Around
-  pub each : AreAround scratch sums.paths arounds
+  pub each : AreAround scratch old.left sums.paths arounds
   pub found : keeps ≡ true → breaches lists arounds sums ≡ []
-  pub is : new ≡ with_one old keeps
+  pub is : new.counts ≡ with_one old.counts keeps
+  pub left : new.left ≡ with_left scratch old.left sums.paths sums.uses
 
--- each of these things counts by one of its two paths or by both; what was opened through a link of the command's own by both
+-- each of these things counts by one of its two paths or by both; what was done through a link of the command's own by where that leads
 pub record AreCounted (wholes : List Whole) (bys : List By) : Type 0 where
-  pub links : List (List ℕ)
-  pub linked : links ≡ links_of wholes
   pub each : length bys ≡ length wholes
-  pub through : AllZip (CountsThrough links) wholes bys
+  pub through : AllZip CountsThrough wholes bys
 
 -- what these things come to, each of them as it counts, and at each output of the command
 pub record AreSums (wholes : List Whole) (outputs : List (List ℕ)) (sums : Sums) : Type 0 where
@@ -58,28 +65,28 @@ pub record AreSums (wholes : List Whole) (outputs : List (List ℕ)) (sums : Sum
   pub are : sums ≡ with_untouched (with_all_done no_sums wholes bys) outputs
 
 -- of a command that did these things
-pub record IsCountedOf (scratch : Scratch) (wholes : List Whole) (old new : Counts) : Type 0 where
+pub record IsCountedOf (scratch : Scratch) (wholes : List Whole) (old new : Tally) : Type 0 where
   pub lists : Lists
   pub sums : Sums
   pub are : AreSums wholes lists.outputs sums
   pub is : IsCountedBy scratch lists sums old new
 
--- so much breaks a premise of that which came to these sums, with a judgement of each path
-abbrev pub AreFound : Scratch → Lists → Sums → ℕ → Type 0
-AreFound scratch lists sums count =
-    (arounds : List Around) × AreAround scratch sums.paths arounds × (count ≡ length (breaches lists arounds sums))
+-- so much breaks a premise of that which came to these sums, with a judgement of each path, where these may have stood there before
+abbrev pub AreFound : Scratch → List (List ℕ) → Lists → Sums → ℕ → Type 0
+AreFound scratch left lists sums count =
+    (arounds : List Around) × AreAround scratch left sums.paths arounds × (count ≡ length (breaches lists arounds sums))
 
--- the trace of a command that began in this folder tells these things
-abbrev pub Tells : List ℕ → List ℕ → List Whole → Type 0
-Tells start trace wholes = (facts : List Fact) × (told start trace ≡ Some facts) × AreThings facts wholes
+-- the trace of a command that began in this folder tells these things, by where links of others stand
+abbrev pub Tells : Stood → List ℕ → List ℕ → List Whole → Type 0
+Tells links start trace wholes = (facts : List Fact) × (told start trace ≡ Some facts) × AreThings links facts wholes
 
--- of a command of which a trace tells these facts; one with a path that is no text does not count as looked at
-abbrev pub TakesTold : Scratch → Option (List Fact) → Counts → Counts → Type 0
-TakesTold scratch None old new = new ≡ old
-TakesTold scratch (Some facts) old new =
-    (new ≡ old) ⊎ ((wholes : List Whole) × AreThings facts wholes × IsCountedOf scratch wholes old new)
+-- of a command of which a trace tells these facts; one with a path that is no text, or leads nobody knows where, does not count as looked at
+abbrev pub TakesTold : Stood → Scratch → Option (List Fact) → Tally → Tally → Type 0
+TakesTold links scratch None old new = IsKept old new
+TakesTold links scratch (Some facts) old new =
+    IsKept old new ⊎ ((wholes : List Whole) × AreThings links facts wholes × IsCountedOf scratch wholes old new)
 
 -- Of a command that began in this folder and left this trace, if any. It counts as looked at only where the trace is understood.
-abbrev pub TakesIn : Scratch → List ℕ → Option (List ℕ) → Counts → Counts → Type 0
-TakesIn scratch start None old new = new ≡ old
-TakesIn scratch start (Some trace) old new = TakesTold scratch (told start trace) old new
+abbrev pub TakesIn : Stood → Scratch → List ℕ → Option (List ℕ) → Tally → Tally → Type 0
+TakesIn links scratch start None old new = IsKept old new
+TakesIn links scratch start (Some trace) old new = TakesTold links scratch (told start trace) old new

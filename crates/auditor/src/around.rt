@@ -6,7 +6,7 @@ use crate::graphs::{maker_of, text_of};
 use audit::{Around, canonical_at};
 use graph::Graph;
 use indexmap::IndexMap;
-use log_text::BuildLog;
+use log_text::{BuildLog, DepsLog};
 use paths::{EdgeId, PathId, Paths};
 use std::alloc::{AllocError, Global};
 use text::Path;
@@ -19,6 +19,8 @@ pub struct Names {
     makers: IndexMap<String, Option<EdgeId>>,
     /// Those that a command makes, and that lead to plain files which are not empty.
     filled: Paths,
+    /// Those that the deps log names, from the root and canonical.
+    reported: Paths,
     /// The build log, if there is one.
     log: Option<BuildLog>,
 }
@@ -35,6 +37,7 @@ impl Names {
             folder: String::from_str(alloc, folder)?,
             makers: IndexMap::new(alloc),
             filled: Paths::new(alloc),
+            reported: Paths::new(alloc),
             log,
         };
         for place in 0..graph.paths() {
@@ -59,6 +62,21 @@ impl Names {
         let whole = self.whole(alloc, path)?;
         if self.maker(whole.as_str()).is_some() {
             self.filled.add(alloc, whole.as_str())?;
+        }
+        Ok(())
+    }
+
+    /// Takes in each path that the deps log names.
+    pub fn report(&mut self, alloc: Global, log: Option<&DepsLog>) -> Result<(), AllocError> {
+        let Some(log) = log else {
+            return Ok(());
+        };
+        for number in 0..u32::MAX {
+            let Some(path) = log.path(number) else {
+                return Ok(());
+            };
+            let whole = self.whole(alloc, path)?;
+            self.reported.add(alloc, whole.as_str())?;
         }
         Ok(())
     }
@@ -116,24 +134,36 @@ impl Names {
         }
     }
 
-    /// Whether a build line names the path, or a record in force as an output.
-    pub fn knows(&self, path: &str) -> bool {
-        self.makers.get(path).is_some() || self.is_recorded(path)
+    /// Whether a build line names the path.
+    pub fn is_named(&self, path: &str) -> bool {
+        self.makers.get(path).is_some()
     }
 
-    /// What the path is to the build, where it is known whether another command makes it, and one that is above, and whether it is a scratch
-    /// file below a folder for these.
-    pub fn around(&self, path: &str, made: bool, above: bool, scratch: bool) -> Around
-        ensures { result.scratch ≡ scratch }
+    /// Whether a command reported that it reads the path.
+    pub fn is_reported(&self, path: &str) -> bool {
+        self.reported.number_of(path).is_some()
+    }
+
+    /// Whether a build line names the path, or a record in force as an output, or one of the deps log.
+    pub fn knows(&self, path: &str) -> bool {
+        self.is_named(path) || self.is_recorded(path) || self.is_reported(path)
+    }
+
+    /// What the path is to the build, where it is known whether another command makes it, and one that is above, and what it is below a folder
+    /// for scratch files.
+    pub fn around(&self, path: &str, made: bool, above: bool, below: ScratchPlace) -> Around
+        ensures scratch { result.scratch ≡ below.scratch }
+        ensures left { result.left ≡ below.left }
     {
         Around {
             made,
             above,
-            named: self.makers.get(path).is_some(),
-            recorded: self.is_recorded(path),
+            named: self.is_named(path),
+            recorded: self.is_recorded(path) || self.is_reported(path),
             inside: self.is_inside(path),
             own: is_own(path),
-            scratch,
+            scratch: below.scratch,
+            left: below.left,
             filled: self.filled.number_of(path).is_some(),
         }
     }
@@ -148,10 +178,28 @@ fn below<'p>(folder: &str, path: &'p str) -> Option<&'p str> {
     rest.strip_prefix('/')
 }
 
+/// What a path is below a folder for scratch files: one of these, and one that may have stood there before the command began.
+#[derive(Clone, Copy)]
+pub struct ScratchPlace {
+    pub scratch: bool,
+    pub left: bool,
+}
+
 /// Whether the path is of a file of the program's own: its logs, and what it writes beside them.
 fn is_own(path: &str) -> bool {
     match path.rsplit_once('/') {
-        Some((_, name)) => name.as_bytes().starts_with(b".nj_"),
+        Some((_, name)) => is_own_name(name),
         None => false,
     }
+}
+
+fn is_own_name(name: &str) -> bool {
+    let name = name.as_bytes();
+    name.starts_with(b".nj_log")
+        || name.starts_with(b".nj_deps")
+        || name.starts_with(b".nj_seen")
+        || name.starts_with(b".nj_tick")
+        || name.starts_with(b".nj_in")
+        || name.starts_with(b".nj_out.")
+        || name.starts_with(b".nj_trace")
 }

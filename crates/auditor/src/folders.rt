@@ -1,43 +1,47 @@
 //! Which folders a trace shows.
 
-ghost use Rattle.std.specs.Prelude.{OnOk};
-ghost use Rattle.auditor.specs.Things.{AddsFolders};
+ghost use Rattle.std.specs.Prelude.{IfOk};
+ghost use Rattle.auditor.specs.Things.{AreFolders};
 
-use audit::Whole;
+use audit::{Way, Whole};
 use paths::{PathId, Paths};
 use std::alloc::{AllocError, Global};
 use text::{Items, Path};
 use trace::Deed;
 
-/// Puts at the end that the working folder is one, that for scratch files, of which the front is given, and each path above another at which
-/// something was: of a call that only asks whether a path is there, a trace does not tell whether that is a folder.
-pub fn push_folders(
+/// That the working folder is one, that for scratch files, of which the front is given, and each path above another at which something was: of a
+/// call that only asks whether a path is there, a trace does not tell whether that is a folder. It stands in front of the things, so that a
+/// folder is known to be one once it is given another path.
+pub fn folders_of(
     alloc: Global,
     folder: &str,
     scratch: &str,
-    wholes: &mut Items<Whole>,
-) -> Result<(), AllocError>
-    ensures { OnOk result (AddsFolders wholes.old wholes.new) }
+    wholes: &[Whole],
+) -> Result<Items<Whole>, AllocError>
+    ensures { IfOk result AreFolders }
 {
-    let folders = folders_in(alloc, folder, scratch, wholes.as_slice())?;
-    push_all(alloc, &folders, wholes)
+    let folders = folders_in(alloc, folder, scratch, wholes)?;
+    told(alloc, &folders)
 }
 
-/// Puts at the end that each of these is a folder.
-fn push_all(alloc: Global, folders: &Paths, wholes: &mut Items<Whole>) -> Result<(), AllocError>
-    ensures { OnOk result (AddsFolders wholes.old wholes.new) }
+/// That each of these is a folder.
+fn told(alloc: Global, folders: &Paths) -> Result<Items<Whole>, AllocError>
+    ensures { IfOk result AreFolders }
 {
+    let mut wholes = Items::new(alloc);
     for place in 0..folders.len() {
         if let Some(number) = PathId::at(place) {
             wholes.push(Whole {
                 deed: Deed::Folder,
                 path: Path::from_str(alloc, folders.get(number).unwrap_or(""))?,
                 real: None,
+                other: None,
                 up: false,
+                way: Way::Plain,
             })?;
         }
     }
-    Ok(())
+    Ok(wholes)
 }
 
 /// The working folder and that for scratch files, and all that is above these or above a path at which something was. Each is looked at once.

@@ -5,12 +5,11 @@ ghost use Rattle.std.specs.List.{AllZip};
 ghost use Rattle.auditor.specs.Things.{IsGiven, may_be_renamed};
 
 use crate::around::Names;
-use crate::links::{goes_through, is_opened, links_of};
+use crate::links::is_at_own;
 use crate::scratch::Scratch;
 use crate::ways::counts_by_given;
-use audit::Whole;
+use audit::{Whole, writes};
 use indexmap::IndexMap;
-use paths::Paths;
 use std::alloc::{AllocError, Global};
 use text::{Items, Path};
 use trace::Deed;
@@ -54,22 +53,10 @@ fn given_names(
     scratch: &Scratch,
     wholes: &[Whole],
 ) -> Result<IndexMap<String, String>, AllocError> {
-    let links = links_of(alloc, wholes)?;
-    given_but_by(alloc, names, scratch, &links, wholes)
-}
-
-/// The same, where these are the paths at which the command put links.
-fn given_but_by(
-    alloc: Global,
-    names: &Names,
-    scratch: &Scratch,
-    links: &Paths,
-    wholes: &[Whole],
-) -> Result<IndexMap<String, String>, AllocError> {
     let mut given = IndexMap::new(alloc);
     for whole in wholes {
         if let Some(real) = &whole.real {
-            if *real != whole.path && is_given(names, scratch, links, whole) {
+            if *real != whole.path && is_given(names, scratch, whole) {
                 push_name(alloc, real.as_str(), whole.path.as_str(), &mut given)?;
             }
         }
@@ -78,10 +65,13 @@ fn given_but_by(
 }
 
 /// Whether a file was opened by a name by which that counts, and which is not that of a link of the command's own.
-fn is_given(names: &Names, scratch: &Scratch, links: &Paths, whole: &Whole) -> bool {
-    is_opened(whole.deed)
-        && !goes_through(links, whole)
-        && counts_by_given(names, scratch, links, whole)
+fn is_given(names: &Names, scratch: &Scratch, whole: &Whole) -> bool {
+    is_opened(whole.deed) && !is_at_own(whole) && counts_by_given(names, scratch, whole)
+}
+
+/// Whether such a thing may be that a file was opened.
+fn is_opened(deed: Deed) -> bool {
+    writes(deed) || matches!(deed, Deed::Read | Deed::Asked | Deed::Folder)
 }
 
 fn push_name(
@@ -104,22 +94,38 @@ fn renamed_by(
 ) -> Result<Whole, AllocError>
     ensures { IfOk result (IsGiven whole.now) }
 {
-    let deed = whole.deed;
-    let up = whole.up;
-    let Some(real) = &whole.real else {
-        return Ok(Whole {
-            deed,
-            path: Path::from_str(alloc, name_by(given, deed, whole.path.as_str()))?,
-            real: None,
-            up,
-        });
-    };
     Ok(Whole {
-        deed,
-        path: whole.path.clone()?,
-        real: Some(real.clone()?),
-        up,
+        deed: whole.deed,
+        path: path_by(alloc, given, whole)?,
+        real: copied(&whole.real)?,
+        other: copied(&whole.other)?,
+        up: whole.up,
+        way: whole.way,
     })
+}
+
+/// The path of what was done, or the name by which the file was opened.
+fn path_by(
+    alloc: Global,
+    given: &IndexMap<String, String>,
+    whole: &Whole,
+) -> Result<Path, AllocError>
+    ensures { IfOk result (λ path. may_be_renamed whole.now.deed ≡ false → path ≡ whole.now.path) }
+{
+    match &whole.real {
+        Some(_) => Ok(whole.path.clone()?),
+        None => Path::from_str(alloc, name_by(given, whole.deed, whole.path.as_str())),
+    }
+}
+
+/// A copy of a path, if there is one.
+fn copied(path: &Option<Path>) -> Result<Option<Path>, AllocError>
+    ensures { IfOk result (λ copy. copy ≡ path.now) }
+{
+    match path {
+        Some(path) => Ok(Some(path.clone()?)),
+        None => Ok(None),
+    }
 }
 
 /// The name by which the file at this path was opened, of what may be told by a descriptor alone; else the path.

@@ -1,29 +1,33 @@
 //! A project that is audited: what is declared and recorded, and what is told of the trace of each command.
 
-ghost use Rattle.std.specs.Prelude.{◌≡◌, IfOk, IfSome, OnOk, [], length, slice_get, string_bytes, unwrap_or};
+ghost use Rattle.std.specs.Prelude.{◌≡◌, ◌++◌, IfOk, IfSome, OnOk, [], length, slice_get, string_bytes, unwrap_or};
 ghost use Rattle.std.specs.Map.Iter.{deref};
 ghost use Rattle.std.specs.List.{AllZip};
 ghost use Rattle.std.specs.Option.{option_map};
 ghost use Rattle.trace.specs.Lines.{IsTold, told};
 ghost use Rattle.audit.specs.Seen.{sums_in};
+ghost use Rattle.model.specs.Graph.{has};
+ghost use Rattle.auditor.specs.Left.{with_left, with_one};
 ghost use Rattle.auditor.specs.Links.{CountsThrough};
 ghost use Rattle.auditor.specs.Scratch.{AreAround, IsFrontIn, is_scratch};
 ghost use Rattle.auditor.specs.Tally.{AreCounted, AreFound, AreSums, IsCountedBy, IsCountedOf, TakesIn, TakesTold, Tells};
 ghost use Rattle.auditor.specs.Things.{AreThings};
 
 use crate::above::above;
-use crate::around::Names;
-use crate::folders::push_folders;
+use crate::around::{Names, ScratchPlace};
+use crate::folders::folders_of;
 use crate::given::by_given_names;
 use crate::graphs::{is_command, outputs_of, text_of};
 use crate::later::Later;
-use crate::links::links_of;
 use crate::listed::{Declared, lists_of};
-use crate::scratch::Scratch;
+use crate::scratch::{Scratch, has};
 use crate::tally::Tally;
 use crate::twins::Twins;
 use crate::ways::by_of;
-use audit::{Around, Breach, By, Lists, Use, Uses, Whole, breaches, connects, uses_of, wholes_of};
+use audit::{
+    Around, Breach, By, Lists, Standing, Stands, Use, Uses, Whole, breaches, connects, unasked,
+    uses_of, wholes_of,
+};
 use graph::Graph;
 use log_text::{BuildLog, DepsLog};
 use paths::{EdgeId, PathId, Paths};
@@ -41,6 +45,8 @@ pub struct Auditor {
     names: Names,
     twins: Twins,
     scratch: Scratch,
+    /// Where links stand that stand there once the build has ended.
+    links: Standing,
 }
 
 impl Auditor {
@@ -52,7 +58,8 @@ impl Auditor {
         log: Option<BuildLog>,
         deps: Option<DepsLog>,
     ) -> Result<Auditor, AllocError> {
-        let names = Names::of(alloc, &graph, folder, log)?;
+        let mut names = Names::of(alloc, &graph, folder, log)?;
+        names.report(alloc, deps.as_ref())?;
         Ok(Auditor {
             alloc,
             graph,
@@ -60,7 +67,26 @@ impl Auditor {
             names,
             twins: Twins::new(alloc),
             scratch: Scratch::none(alloc),
+            links: Standing::none(alloc),
         })
+    }
+
+    /// The paths at which it has to be asked whether a link stands, before this trace is taken in; none where it is not understood. Behind such
+    /// links there may be others: what is answered here is asked until nothing is.
+    pub fn unasked(&self, trace: &[u8]) -> Result<Paths, AllocError> {
+        match self.told_in(trace)? {
+            Told::Facts(facts) => unasked(self.alloc, &self.links, facts.as_slice()),
+            Told::NotUnderstood => Ok(Paths::new(self.alloc)),
+        }
+    }
+
+    /// Takes in where a link leads that stands at a path, as it is written, or that none does.
+    pub fn learn(&mut self, path: &str, target: Option<&str>) -> Result<(), AllocError> {
+        let stands = match target {
+            Some(target) => Stands::Link(Path::from_str(self.alloc, target)?),
+            None => Stands::File,
+        };
+        self.links.put(self.alloc, path, stands)
     }
 
     /// Takes in that scratch files stand below this folder, where it is below the working one; else nothing. It takes a time of the order of
@@ -118,7 +144,7 @@ impl Auditor {
         trace: Option<&[u8]>,
         tally: &mut Tally,
     ) -> Result<(), AllocError>
-        ensures { OnOk result (TakesIn self.now.scratch (string_bytes self.now.names.folder) (option_map deref trace.entry) tally.old.counts tally.new.counts) }
+        ensures { OnOk result (TakesIn self.now.links self.now.scratch (string_bytes self.now.names.folder) (option_map deref trace.entry) tally.old tally.new) }
     {
         let Some(edge) = EdgeId::at(job.saturating_sub(1)) else {
             return Ok(());
@@ -140,7 +166,7 @@ impl Auditor {
 
     /// Tells what breaks a premise of that which a trace tells of the command of the edge.
     fn take_trace(&self, edge: EdgeId, trace: &[u8], tally: &mut Tally) -> Result<(), AllocError>
-        ensures { OnOk result (TakesTold self.now.scratch (told (string_bytes self.now.names.folder) trace.now) tally.old.counts tally.new.counts) }
+        ensures { OnOk result (TakesTold self.now.links self.now.scratch (told (string_bytes self.now.names.folder) trace.now) tally.old tally.new) }
     {
         match self.wholes_told(trace)? {
             Some(wholes) => self.take_wholes(edge, wholes.as_slice(), tally),
@@ -150,7 +176,7 @@ impl Auditor {
 
     /// What a trace tells of a command, if it is understood and its paths are texts.
     fn wholes_told(&self, trace: &[u8]) -> Result<Option<Items<Whole>>, AllocError>
-        ensures { IfOk result (λ found. IfSome found (Tells (string_bytes self.now.names.folder) trace.now)) }
+        ensures { IfOk result (λ found. IfSome found (Tells self.now.links (string_bytes self.now.names.folder) trace.now)) }
     {
         match self.told_in(trace)? {
             Told::Facts(facts) => self.wholes_by(facts.as_slice()),
@@ -167,15 +193,16 @@ impl Auditor {
 
     /// What these facts tell by canonical paths, by the names that were given, and which folders that shows; none where a path is no text.
     fn wholes_by(&self, facts: &[Fact]) -> Result<Option<Items<Whole>>, AllocError>
-        ensures { IfOk result (λ found. IfSome found (AreThings facts.now)) }
+        ensures { IfOk result (λ found. IfSome found (AreThings self.now.links facts.now)) }
     {
-        let Some(wholes) = wholes_of(self.alloc, facts)? else {
+        let Some(wholes) = wholes_of(self.alloc, &self.links, facts)? else {
             return Ok(None);
         };
-        let mut wholes = by_given_names(self.alloc, &self.names, &self.scratch, wholes)?;
+        let wholes = by_given_names(self.alloc, &self.names, &self.scratch, wholes)?;
         let scratch = self.scratch.front();
-        push_folders(self.alloc, self.names.folder(), scratch, &mut wholes)?;
-        Ok(Some(wholes))
+        let mut things = folders_of(self.alloc, self.names.folder(), scratch, wholes.as_slice())?;
+        push_all(wholes, &mut things)?;
+        Ok(Some(things))
     }
 
     /// Tells what breaks a premise of that which the command of the edge did.
@@ -185,7 +212,7 @@ impl Auditor {
         wholes: &[Whole],
         tally: &mut Tally,
     ) -> Result<(), AllocError>
-        ensures { OnOk result (IsCountedOf self.now.scratch wholes.now tally.old.counts tally.new.counts) }
+        ensures { OnOk result (IsCountedOf self.now.scratch wholes.now tally.old tally.new) }
     {
         if connects(wholes) {
             self.tell_note(
@@ -205,7 +232,7 @@ impl Auditor {
         lists: &Lists,
         tally: &mut Tally,
     ) -> Result<(), AllocError>
-        ensures { OnOk result (IsCountedOf self.now.scratch wholes.now tally.old.counts tally.new.counts) }
+        ensures { OnOk result (IsCountedOf self.now.scratch wholes.now tally.old tally.new) }
     {
         let uses = self.uses_in(wholes, &lists.outputs)?;
         self.take_uses(edge, lists, &uses, tally)
@@ -218,13 +245,39 @@ impl Auditor {
         uses: &Uses,
         tally: &mut Tally,
     ) -> Result<(), AllocError>
-        ensures { OnOk result (IsCountedBy self.now.scratch lists.now (sums_in uses.now) tally.old.counts tally.new.counts) }
+        ensures { OnOk result (IsCountedBy self.now.scratch lists.now (sums_in uses.now) tally.old tally.new) }
     {
         let found = self.judge(edge, lists, uses, tally)?;
         let spelled = self.tell_spellings(edge, uses, tally)?;
         self.tell_looked(edge, lists, uses, tally)?;
         tally.outside.take(self.alloc, &self.names, uses)?;
+        self.leave(uses, &mut tally.left)?;
         tally.count(found == 0 && spelled == 0);
+        Ok(())
+    }
+
+    /// Takes in the scratch files that a command left.
+    fn leave(&self, uses: &Uses, left: &mut Paths) -> Result<(), AllocError>
+        ensures { OnOk result (left.new ≡ with_left self.now.scratch left.old (sums_in uses.now).paths (sums_in uses.now).uses) }
+    {
+        for place in 0..uses.len() {
+            let Some(path) = uses.path(place) else {
+                return Ok(());
+            };
+            let Some(used) = uses.used(place) else {
+                return Ok(());
+            };
+            self.leave_at(path, used, left)?;
+        }
+        Ok(())
+    }
+
+    fn leave_at(&self, path: &str, used: Use, left: &mut Paths) -> Result<(), AllocError>
+        ensures { OnOk result (left.new ≡ with_one self.now.scratch left.old path.now used) }
+    {
+        if self.scratch.holds(path) && used.writes && !used.gone {
+            left.add(self.alloc, path)?;
+        }
         Ok(())
     }
 
@@ -242,19 +295,17 @@ impl Auditor {
     fn bys_in(&self, wholes: &[Whole]) -> Result<Vec<By>, AllocError>
         ensures { IfOk result (λ bys. AreCounted wholes.now bys.items) }
     {
-        let links = links_of(self.alloc, wholes)?;
-        let bys = self.bys_of(&links, wholes)?;
+        let bys = self.bys_of(wholes)?;
         Ok(bys)
     }
 
-    /// The same, where these are the paths at which the command put links.
-    fn bys_of(&self, links: &Paths, wholes: &[Whole]) -> Result<Vec<By>, AllocError>
+    fn bys_of(&self, wholes: &[Whole]) -> Result<Vec<By>, AllocError>
         ensures each { IfOk result (λ bys. length bys.items ≡ length wholes.now) }
-        ensures through { IfOk result (λ bys. AllZip (CountsThrough links.now) wholes.now bys.items) }
+        ensures through { IfOk result (λ bys. AllZip CountsThrough wholes.now bys.items) }
     {
         let mut bys = Vec::with_capacity(self.alloc, wholes.len())?;
         for whole in wholes {
-            bys.push(by_of(&self.names, &self.scratch, links, whole))?;
+            bys.push(by_of(&self.names, &self.scratch, whole))?;
         }
         Ok(bys)
     }
@@ -267,10 +318,11 @@ impl Auditor {
         uses: &Uses,
         tally: &mut Tally,
     ) -> Result<usize, AllocError>
-        ensures found { IfOk result (AreFound self.now.scratch lists.now (sums_in uses.now)) }
+        ensures found { IfOk result (AreFound self.now.scratch tally.old.left lists.now (sums_in uses.now)) }
         ensures counts { tally.new.counts ≡ tally.old.counts }
+        ensures left { tally.new.left ≡ tally.old.left }
     {
-        let found = self.found(edge, lists, uses)?;
+        let found = self.found(edge, lists, uses, &tally.left)?;
         self.tell_found(edge, uses, found.as_slice(), tally)?;
         Ok(found.len())
     }
@@ -283,7 +335,8 @@ impl Auditor {
         found: &[Breach],
         tally: &mut Tally,
     ) -> Result<(), AllocError>
-        ensures { tally.new.counts ≡ tally.old.counts }
+        ensures counts { tally.new.counts ≡ tally.old.counts }
+        ensures left { tally.new.left ≡ tally.old.left }
     {
         for breach in found {
             let path = self.names.short(uses.path(breach.place).unwrap_or(""));
@@ -293,10 +346,16 @@ impl Auditor {
     }
 
     /// What breaks a premise.
-    fn found(&self, edge: EdgeId, lists: &Lists, uses: &Uses) -> Result<Items<Breach>, AllocError>
-        ensures { IfOk result (λ found. AreFound self.now.scratch lists.now (sums_in uses.now) (length found)) }
+    fn found(
+        &self,
+        edge: EdgeId,
+        lists: &Lists,
+        uses: &Uses,
+        left: &Paths,
+    ) -> Result<Items<Breach>, AllocError>
+        ensures { IfOk result (λ found. AreFound self.now.scratch left.now lists.now (sums_in uses.now) (length found)) }
     {
-        let arounds = self.arounds_of(edge, lists, uses)?;
+        let arounds = self.arounds_of(edge, lists, uses, left)?;
         breaches(self.alloc, lists, arounds.as_slice(), uses)
     }
 
@@ -306,26 +365,31 @@ impl Auditor {
         edge: EdgeId,
         lists: &Lists,
         uses: &Uses,
+        left: &Paths,
     ) -> Result<Vec<Around>, AllocError>
-        ensures { IfOk result (λ arounds. AreAround self.now.scratch (sums_in uses.now).paths arounds.items) }
+        ensures { IfOk result (λ arounds. AreAround self.now.scratch left.now (sums_in uses.now).paths arounds.items) }
     {
         let is_above = self.above_of(edge, lists, uses)?;
         let mut arounds = Vec::with_capacity(self.alloc, uses.len())?;
         for place in 0..uses.len() {
-            arounds.push(self.around(edge, lists, is_above.as_slice(), path_at(uses, place)))?;
+            let path = path_at(uses, place);
+            let maker = self.other_maker(edge, path);
+            let upper = is_upper(lists, is_above.as_slice(), path, maker);
+            arounds.push(self.around(path, maker.is_some(), upper, left))?;
         }
         Ok(arounds)
     }
 
-    /// What a path is to the build.
-    fn around(&self, edge: EdgeId, lists: &Lists, is_above: &[bool], path: &str) -> Around
-        ensures { result.scratch ≡ is_scratch self.now.scratch path.now }
+    /// What a path is to the build, where it is known whether another command makes it, and one that is above.
+    fn around(&self, path: &str, made: bool, above: bool, left: &Paths) -> Around
+        ensures scratch { result.scratch ≡ is_scratch self.now.scratch path.now }
+        ensures left { result.left ≡ has left.now path.now }
     {
-        let maker = self.other_maker(edge, path);
-        let is_upper = is_listed(lists, path) || is_marked(is_above, maker);
-        let is_scratch = self.scratch.holds(path);
-        self.names
-            .around(path, maker.is_some(), is_upper, is_scratch)
+        let below = ScratchPlace {
+            scratch: self.scratch.holds(path),
+            left: has(left, path),
+        };
+        self.names.around(path, made, above, below)
     }
 
     /// For each edge whether it is above this one; nothing where all paths that others make are inputs, as then nobody asks.
@@ -355,7 +419,8 @@ impl Auditor {
         uses: &Uses,
         tally: &mut Tally,
     ) -> Result<usize, AllocError>
-        ensures { tally.new.counts ≡ tally.old.counts }
+        ensures counts { tally.new.counts ≡ tally.old.counts }
+        ensures left { tally.new.left ≡ tally.old.left }
     {
         let mut count = 0usize;
         for place in 0..uses.len() {
@@ -376,7 +441,8 @@ impl Auditor {
         first: usize,
         tally: &mut Tally,
     ) -> Result<(), AllocError>
-        ensures { tally.new.counts ≡ tally.old.counts }
+        ensures counts { tally.new.counts ≡ tally.old.counts }
+        ensures left { tally.new.left ≡ tally.old.left }
     {
         let path = self.names.short(path);
         let mut next = Some(first);
@@ -400,7 +466,8 @@ impl Auditor {
         uses: &Uses,
         tally: &mut Tally,
     ) -> Result<(), AllocError>
-        ensures { tally.new.counts ≡ tally.old.counts }
+        ensures counts { tally.new.counts ≡ tally.old.counts }
+        ensures left { tally.new.left ≡ tally.old.left }
     {
         let later = Later::of(self.alloc, lists, uses)?;
         for place in 0..uses.len() {
@@ -421,7 +488,8 @@ impl Auditor {
         found: &str,
         tally: &mut Tally,
     ) -> Result<(), AllocError>
-        ensures { tally.new.counts ≡ tally.old.counts }
+        ensures counts { tally.new.counts ≡ tally.old.counts }
+        ensures left { tally.new.left ≡ tally.old.left }
     {
         if !self.names.counts(found) {
             return tally.outside.look(self.alloc, missed);
@@ -435,13 +503,15 @@ impl Auditor {
     }
 
     fn tell_note(&self, edge: EdgeId, note: &str, tally: &mut Tally) -> Result<(), AllocError>
-        ensures { tally.new.counts ≡ tally.old.counts }
+        ensures counts { tally.new.counts ≡ tally.old.counts }
+        ensures left { tally.new.left ≡ tally.old.left }
     {
         tally.note(self.alloc, self.name_of(edge), note)
     }
 
     fn tell_not_understood(&self, edge: EdgeId, tally: &mut Tally) -> Result<(), AllocError>
-        ensures { tally.new.counts ≡ tally.old.counts }
+        ensures counts { tally.new.counts ≡ tally.old.counts }
+        ensures left { tally.new.left ≡ tally.old.left }
     {
         tally.tell_not_understood(self.alloc, self.name_of(edge))
     }
@@ -465,13 +535,24 @@ fn path_at(uses: &Uses, place: usize) -> &str
     }
 }
 
+/// Puts these things behind the others.
+fn push_all(wholes: Items<Whole>, things: &mut Items<Whole>) -> Result<(), AllocError>
+    ensures { OnOk result (things.new ≡ things.old ++ wholes) }
+{
+    for whole in wholes.into_vec() {
+        things.push(whole)?;
+    }
+    Ok(())
+}
+
 /// Whether the path is an input of the edge with these lists.
 fn is_listed(lists: &Lists, path: &str) -> bool {
     has(&lists.inputs, path) || has(&lists.order_only, path)
 }
 
-fn has(paths: &Paths, path: &str) -> bool {
-    paths.number_of(path).is_some()
+/// Whether the path is an input of the edge with these lists, or an edge makes it that is marked.
+fn is_upper(lists: &Lists, marks: &[bool], path: &str, maker: Option<EdgeId>) -> bool {
+    is_listed(lists, path) || is_marked(marks, maker)
 }
 
 /// Whether the edge is marked.

@@ -1,11 +1,13 @@
 //! What an audit has found.
 
-ghost use Rattle.std.specs.Prelude.{◌≡◌, OnOk};
+ghost use Rattle.std.specs.Prelude.{◌≡◌, [], OnOk};
+ghost use Rattle.auditor.specs.Left.{with_path};
 ghost use Rattle.auditor.specs.Tally.{is_clean, none_looked_at, with_one};
 
 use crate::outside::Outside;
 use crate::spelled::Spelled;
 use audit::Finding;
+use paths::Paths;
 use std::alloc::{AllocError, Global};
 
 /// How many commands there are, of how many a trace was understood, and how many of these keep all premises.
@@ -52,10 +54,13 @@ impl Counts {
     }
 }
 
-/// What was counted, the lines that tell what commands did, and what was read and written outside of the folder.
+/// What was counted, the lines that tell what commands did, what was read and written outside of the folder, and which scratch files may have
+/// stood there before the next command began.
 #[derive(Drop)]
 pub struct Tally {
     pub counts: Counts,
+    /// These, from the root.
+    pub left: Paths,
     pub lines: String,
     pub spelled: Spelled,
     pub outside: Outside,
@@ -64,19 +69,30 @@ pub struct Tally {
 impl Tally {
     /// Of so many commands none was looked at yet. This takes no memory.
     pub fn new(alloc: Global, commands: usize) -> Tally
-        ensures { result.counts ≡ none_looked_at commands }
+        ensures counts { result.counts ≡ none_looked_at commands }
+        ensures left { result.left ≡ [] }
     {
         Tally {
             counts: Counts::of(commands),
+            left: Paths::new(alloc),
             lines: String::new(alloc),
             spelled: Spelled::new(alloc),
             outside: Outside::new(alloc),
         }
     }
 
+    /// Takes in that a file may stand there once the build begins.
+    pub fn leave(&mut self, alloc: Global, path: &str) -> Result<(), AllocError>
+        ensures { OnOk result (self.new.left ≡ with_path self.old.left path.now) }
+    {
+        self.left.add(alloc, path)?;
+        Ok(())
+    }
+
     /// One more was looked at, and keeps all premises or does not.
     pub fn count(&mut self, keeps: bool)
-        ensures { self.new.counts ≡ with_one self.old.counts keeps }
+        ensures counts { self.new.counts ≡ with_one self.old.counts keeps }
+        ensures left { self.new.left ≡ self.old.left }
     {
         self.counts = self.counts.with(keeps);
     }
@@ -89,7 +105,8 @@ impl Tally {
         finding: Finding,
         path: &str,
     ) -> Result<(), AllocError>
-        ensures { self.new.counts ≡ self.old.counts }
+        ensures counts { self.new.counts ≡ self.old.counts }
+        ensures left { self.new.left ≡ self.old.left }
     {
         let verb = finding.verb();
         let why = finding.why();
@@ -106,21 +123,24 @@ impl Tally {
         path: &str,
         both: &str,
     ) -> Result<(), AllocError>
-        ensures { self.new.counts ≡ self.old.counts }
+        ensures counts { self.new.counts ≡ self.old.counts }
+        ensures left { self.new.left ≡ self.old.left }
     {
         let before = self.counts.looked;
         self.spelled.take(alloc, name, path, both, before)
     }
 
     pub fn note(&mut self, alloc: Global, name: &str, note: &str) -> Result<(), AllocError>
-        ensures { self.new.counts ≡ self.old.counts }
+        ensures counts { self.new.counts ≡ self.old.counts }
+        ensures left { self.new.left ≡ self.old.left }
     {
         let line = format!(in alloc; "note: {name}: {note}\n")?;
         self.lines.push_str(line.as_str())
     }
 
     pub fn tell_not_understood(&mut self, alloc: Global, name: &str) -> Result<(), AllocError>
-        ensures { self.new.counts ≡ self.old.counts }
+        ensures counts { self.new.counts ≡ self.old.counts }
+        ensures left { self.new.left ≡ self.old.left }
     {
         let line = format!(in alloc; "{name}: its trace is not understood\n")?;
         self.lines.push_str(line.as_str())

@@ -1,62 +1,72 @@
 //! By which of its two paths a thing counts that was done.
 
-ghost use Rattle.std.specs.Prelude.{◌≡◌};
+ghost use Rattle.std.specs.Prelude.{◌≢◌};
+ghost use Rattle.audit.specs.declared.seen.By.TheVariants.{Name};
 ghost use Rattle.auditor.specs.Links.{CountsThrough};
 
 use crate::around::Names;
-use crate::links::{goes_through, is_opened};
+use crate::links::{is_at_own, is_through_own};
 use crate::scratch::Scratch;
-use audit::{By, Whole};
-use paths::Paths;
+use audit::{By, Way, Whole, writes};
 use trace::Deed;
 
-/// By which path a thing counts: by the name that was given, where that counts, but for scratch files, else by the one that the kernel has; and
-/// what was opened through a link of the command's own, or written through one that stands at its path, by both of them, since it is the file
-/// which the kernel names that was opened. These are the paths at which the command put links.
-pub fn by_of(names: &Names, scratch: &Scratch, links: &Paths, whole: &Whole) -> By
-    ensures { CountsThrough links.now whole.now result }
+/// By which path a thing counts, of the two by which the command and the kernel have a file, where they are two: by the one that was given, where
+/// that counts, but for scratch files, else by the one that the kernel has. What was done through a link of the command's own counts by where
+/// that leads, and where it stands at the path itself by that too.
+pub fn by_of(names: &Names, scratch: &Scratch, whole: &Whole) -> By
+    ensures { CountsThrough whole.now result }
 {
-    if goes_through(links, whole) {
+    if is_at_own(whole) {
         return By::Both;
     }
-    if !is_opened(whole.deed) {
-        return By::Name;
-    }
-    by_shown(names, scratch, whole)
-}
-
-/// The same of what was not opened through a link of the command's own.
-fn by_shown(names: &Names, scratch: &Scratch, whole: &Whole) -> By {
-    if !scratch.counts_by_name(names, whole.path.as_str()) {
-        return By::Kernel;
+    if is_through_own(whole) {
+        return by_known(is_known(names, whole));
     }
     match &whole.real {
-        Some(real) => by_names(names, whole, real.as_str()),
+        Some(real) => by_real(names, scratch, whole, real.as_str()),
         None => By::Name,
     }
 }
 
-/// Whether a thing counts by the name that was given, be it alone or not.
-pub fn counts_by_given(names: &Names, scratch: &Scratch, links: &Paths, whole: &Whole) -> bool {
-    match by_of(names, scratch, links, whole) {
-        By::Name | By::Both => true,
-        By::Kernel => false,
-    }
+/// Whether build lines or records name the path that was given, which does not go up behind a name.
+fn is_known(names: &Names, whole: &Whole) -> bool {
+    names.knows(whole.path.as_str()) && !whole.up
 }
 
-/// By which path a thing counts whose given name counts, where this is the kernel's name.
-fn by_names(names: &Names, whole: &Whole, real: &str) -> By {
+/// By which path a thing counts that was not done through a link of the command's own, where this is the kernel's.
+fn by_real(names: &Names, scratch: &Scratch, whole: &Whole, real: &str) -> By {
+    if real == whole.path.as_str() {
+        return By::Name;
+    }
+    by_shown(names, scratch, whole, real)
+}
+
+/// Of a name that leads through a link of the command's own to a folder: whether that is one that build lines name.
+fn by_known(is_known: bool) -> By
+    ensures { result ≢ Name }
+{
+    if is_known { By::Both } else { By::Kernel }
+}
+
+/// The same where that is another one. A name that went up behind that of a link leads elsewhere than it says.
+fn by_shown(names: &Names, scratch: &Scratch, whole: &Whole, real: &str) -> By {
     let path = whole.path.as_str();
-    if real == path {
-        return By::Name;
+    if whole.up || !scratch.counts_by_name(names, path) {
+        return By::Kernel;
     }
-    if whole.up {
-        return by_up(names.knows(path));
+    if changes(whole.deed) {
+        return by_changed(names, whole, real);
     }
-    if !is_written(whole.deed) {
-        return By::Name;
+    if names.maker(real).is_some() && !names.is_named(path) {
+        return By::Both;
     }
-    if is_led(names.folder(), path, real) {
+    By::Name
+}
+
+/// The same of what was written, removed or made, by a name that counts.
+fn by_changed(names: &Names, whole: &Whole, real: &str) -> By {
+    let path = whole.path.as_str();
+    if writes(whole.deed) && is_led(names.folder(), whole, real) {
         return By::Both;
     }
     if names.knows(real) && !names.knows(path) {
@@ -65,20 +75,30 @@ fn by_names(names: &Names, whole: &Whole, real: &str) -> By {
     By::Name
 }
 
-/// Of a name that went up behind another one, which may be that of a link, so that it leads elsewhere than it says.
-fn by_up(is_known: bool) -> By {
-    if is_known { By::Both } else { By::Kernel }
+/// Whether such a thing changes what stands at the path.
+fn changes(deed: Deed) -> bool {
+    writes(deed)
+        || matches!(
+            deed,
+            Deed::Removed | Deed::Left | Deed::Linked | Deed::Moved | Deed::Led
+        )
 }
 
-/// Whether the file was opened to be written, or to set its stamp.
-fn is_written(deed: Deed) -> bool {
-    matches!(deed, Deed::Wrote | Deed::Into | Deed::Stamped)
+/// Whether a thing counts by the name that was given, be it alone or not.
+pub fn counts_by_given(names: &Names, scratch: &Scratch, whole: &Whole) -> bool {
+    match by_of(names, scratch, whole) {
+        By::Name | By::Both => true,
+        By::Kernel => false,
+    }
 }
 
-/// Whether a link stands at the path itself, and not only above it: where the kernel's name ends otherwise, or the path is right in the working
-/// folder, which no link leads to.
-fn is_led(folder: &str, path: &str, real: &str) -> bool {
-    let Some((above, name)) = path.rsplit_once('/') else {
+/// Whether a link stands at the path itself, and not only above it: where that is known, or the kernel's name ends otherwise, or the path is right
+/// in the working folder, which no link leads to.
+fn is_led(folder: &str, whole: &Whole, real: &str) -> bool {
+    if whole.way == Way::Old {
+        return true;
+    }
+    let Some((above, name)) = whole.path.as_str().rsplit_once('/') else {
         return false;
     };
     above == folder || name != name_in(real)

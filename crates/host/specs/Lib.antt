@@ -1,3 +1,4 @@
+pub mod Below
 pub mod Clock
 pub mod Told
 pub mod Traced

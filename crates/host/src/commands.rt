@@ -64,6 +64,11 @@ fn streams(opened: &Option<Opened>) -> Streams {
 }
 
 impl Running {
+    /// The number of its process, unless it was told that it has ended.
+    pub fn number(&self) -> Option<i32> {
+        self.process.number()
+    }
+
     /// Whether it has ended: its process has, well or not, and no other opening has its output locked, as a process has that it left
     /// behind. A wait for its process that fails is answered once nobody has its output. One that has ended is not asked again.
     #[inline(always)]

@@ -197,6 +197,19 @@ impl<'a, W: Write> Host<'a, W> {
         self.jobs.trace_by(program);
     }
 
+    /// From now on the number of the process of each command is kept, and the build does not go on without the process that started this one.
+    pub fn run_below_tracer(&mut self)
+        ensures { world_of self.new ≡ world_of self.old }
+    {
+        self.jobs.keep_numbers();
+        self.watch.follow_starter();
+    }
+
+    /// The numbers of the processes of commands, in the order in which these were started, where they are kept.
+    pub fn numbers(&self) -> &[i32] {
+        self.jobs.numbers()
+    }
+
     /// The file into which the trace of a command is written, in the working folder.
     pub fn trace_of(&self, job: usize) -> Result<String, AllocError> {
         trace_file(self.alloc, job)

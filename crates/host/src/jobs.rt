@@ -35,6 +35,8 @@ pub struct Jobs {
     environment: Option<Vec<u8>>,
     /// Whether they are traced, and by what.
     tracing: Tracing,
+    /// The numbers of the processes that were started, where they are kept.
+    numbers: Option<Vec<i32>>,
 }
 
 impl Model for Jobs {
@@ -65,6 +67,22 @@ impl Jobs {
             },
             environment: None,
             tracing: Tracing::none(alloc),
+            numbers: None,
+        }
+    }
+
+    /// From now on the number of each process is kept.
+    pub fn keep_numbers(&mut self)
+        ensures { self.new ≡ self.old }
+    {
+        self.numbers = Some(Vec::new(self.alloc));
+    }
+
+    /// The numbers that are kept, in the order in which commands were started. A process of which none is known has 0.
+    pub fn numbers(&self) -> &[i32] {
+        match &self.numbers {
+            Some(numbers) => numbers.as_slice(),
+            None => &[],
         }
     }
 
@@ -99,10 +117,12 @@ impl Jobs {
         let event = started(job, act, stamp)?;
         reserve(&mut self.events, self.commands.len() + 2)?;
         reserve(&mut self.commands, 1)?;
+        reserve_number(&mut self.numbers)?;
         read_once(self.alloc, &mut self.environment)?;
         let environment = known(&self.environment);
         set_beside(opened, self.commands.len());
         let command = commands::start(&self.tracing, job, line.as_str(), environment, opened)?;
+        push_number(&mut self.numbers, command.number());
         push_reserved(&mut self.events, event);
         push_reserved(&mut self.commands, command);
         Ok(())
@@ -228,6 +248,21 @@ fn known(environment: &Option<Vec<u8>>) -> &[u8]
     match environment {
         Some(variables) => variables.as_slice(),
         None => unreachable!(),
+    }
+}
+
+/// Makes room for a number more, where they are kept.
+fn reserve_number(numbers: &mut Option<Vec<i32>>) -> Result<(), AllocError> {
+    match numbers {
+        Some(numbers) => numbers.reserve(1),
+        None => Ok(()),
+    }
+}
+
+/// Keeps a number, where they are kept and there is room.
+fn push_number(numbers: &mut Option<Vec<i32>>, number: Option<i32>) {
+    if let Some(numbers) = numbers {
+        let _ = numbers.push(number.unwrap_or(0));
     }
 }
 

@@ -1,6 +1,7 @@
 //! The site of real files and real commands.
 #![tactic(auto)]
 
+mod below;
 mod clock;
 mod commands;
 mod content;
@@ -23,5 +24,6 @@ mod waiting;
 mod watch;
 mod words;
 
+pub use below::{Below, SHARED_TRACE};
 pub use host::{Host, StandingClock};
 pub use trouble::Trouble;

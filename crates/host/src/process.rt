@@ -7,6 +7,7 @@ use crate::number::Number;
 use crate::words::push_word;
 use std::alloc::Global;
 use std::io;
+use std::io::ErrorKind;
 
 /// The shell by which commands are run.
 pub const SHELL: &str = "/bin/sh";
@@ -124,7 +125,7 @@ impl Process {
             State::Ended(_) => return Ok(true),
             State::Lost => return Err(io::Error::from_raw_os_error(libc::ECHILD)),
         };
-        match asked(number) {
+        match asked(number, false) {
             Ok(Some(status)) => {
                 self.state = State::Ended(status);
                 Ok(true)
@@ -139,6 +140,35 @@ impl Process {
         }
     }
 
+    /// Its number, unless it was told that it has ended.
+    pub fn number(&self) -> Option<i32>
+        ensures { IfSome result (λ number. IsOf number self.now.state) }
+    {
+        match self.state {
+            State::Runs(number) => Some(number.value),
+            State::Ended(_) | State::Lost => None,
+        }
+    }
+
+    /// Waits until it has ended, however often a signal comes.
+    pub fn wait(&mut self) -> io::Result<Option<Status>> {
+        let State::Runs(number) = self.state else {
+            return Ok(self.status());
+        };
+        for _ in 0..u64::MAX {
+            match asked(number, true) {
+                Ok(Some(status)) => {
+                    self.state = State::Ended(status);
+                    return Ok(Some(status));
+                }
+                Ok(None) => {}
+                Err(reason) if reason.kind() == ErrorKind::Interrupted => {}
+                Err(reason) => return Err(reason),
+            }
+        }
+        Ok(None)
+    }
+
     /// How it ended, if it is known.
     pub fn status(&self) -> Option<Status>
         ensures { result ≡ status_in self.now.state }
@@ -150,12 +180,13 @@ impl Process {
     }
 }
 
-/// How the process of this number ended, or nothing while it runs.
-fn asked(number: Number) -> io::Result<Option<Status>>
+/// How the process of this number ended, or nothing while it runs. Where it is to wait, it does so until then, or until a signal comes.
+fn asked(number: Number, waits: bool) -> io::Result<Option<Status>>
     ensures { IfOk result (λ found. IfSome found (λ status. status.of ≡ number.value)) }
 {
     let mut bits = 0;
-    let of = unsafe { libc::waitpid(number.value, &mut bits, libc::WNOHANG) };
+    let options = if waits { 0 } else { libc::WNOHANG };
+    let of = unsafe { libc::waitpid(number.value, &mut bits, options) };
     if of < 0 {
         return Err(io::Error::from_raw_os_error(os::errno()));
     }

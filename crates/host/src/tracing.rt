@@ -82,7 +82,7 @@ impl Tracing {
 }
 
 /// Whether one of the variables sets the locale whatever others say, or has a name that begins like that one's. Of order of their bytes.
-fn sets_locale(variables: &[u8]) -> bool
+pub fn sets_locale(variables: &[u8]) -> bool
     ensures { result ≡ sets_locale variables.now }
 {
     if sets_at(variables) {
@@ -106,7 +106,7 @@ fn sets_at(variables: &[u8]) -> bool
 }
 
 /// The variables that the tracer gets, by whether those of the command set the locale.
-fn variables_traced<'a>(
+pub fn variables_traced<'a>(
     alloc: Global,
     variables: &'a [u8],
     is_set: bool,
@@ -137,7 +137,7 @@ fn words_traced(alloc: Global, job: usize, command: &str, is_set: bool) -> io::R
 }
 
 /// Adds a word with the NUL that ends it. One with a NUL cannot be handed over: `InvalidInput`.
-fn push_ended(words: &mut Vec<u8>, word: &[u8]) -> io::Result<()>
+pub fn push_ended(words: &mut Vec<u8>, word: &[u8]) -> io::Result<()>
     ensures whole { OnOk result (HasNoNul word.now) }
     ensures pushed { OnOk result (words.new.items ≡ words.old.items ++ ended word.now) }
 {
@@ -153,7 +153,7 @@ fn first_words() -> &'static [u8]
 }
 
 /// The words that have the tracer take its own locale out of what the command gets.
-fn locale_words(is_set: bool) -> &'static [u8]
+pub fn locale_words(is_set: bool) -> &'static [u8]
     ensures { result.now ≡ locale_words is_set }
 {
     if is_set { b"" } else { LOCALE_WORDS }

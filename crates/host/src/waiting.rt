@@ -58,6 +58,9 @@ pub fn wait_first<W: Write>(
             screen.step_aside();
             watch.has_waited_long(commands.as_slice());
         }
+        if watch.is_left_alone() {
+            return Err(io::Error::from(ErrorKind::BrokenPipe));
+        }
         round.some_held = round.some_held && tells_held(commands.as_slice(), watch, screen);
         screen.pass(rt);
         round.left = in_a_round(running);

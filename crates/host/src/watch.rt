@@ -14,6 +14,8 @@ pub struct Watch<'a> {
     entered: Option<Entered>,
     passed: Passed,
     behind: Behind,
+    /// The process without which the build does not go on, if there is one.
+    starter: Option<i32>,
 }
 
 impl<'a> Watch<'a> {
@@ -25,6 +27,20 @@ impl<'a> Watch<'a> {
             entered: None,
             passed: Passed::new(alloc),
             behind: Behind::new(),
+            starter: None,
+        }
+    }
+
+    /// From now on the build does not go on without the process that started it.
+    pub fn follow_starter(&mut self) {
+        self.starter = Some(libc::getppid());
+    }
+
+    /// Whether the process without which it does not go on has ended.
+    pub fn is_left_alone(&self) -> bool {
+        match self.starter {
+            Some(starter) => libc::getppid() != starter,
+            None => false,
         }
     }
 

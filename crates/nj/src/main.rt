@@ -1,7 +1,7 @@
 //! The program: builds what build files describe, with real files and real commands.
 #![tactic(auto)]
 
-use nj_run::{Environment, Noted, run, run_watched};
+use nj_run::{BELOW, Environment, Handed, Noted, hand_on, run, run_watched};
 use std::env::VarError;
 use std::io::{BufWriter, ErrorKind, IsTerminal};
 use std::process::ExitCode;
@@ -25,6 +25,15 @@ fn main(rt: HostRuntime) -> ExitCode {
 fn run_words(rt: &HostRuntime) -> io::Result<u8> {
     let alloc = rt.alloc();
     let words: Vec<String> = env::args(rt)?.skip(1).collect(alloc)?;
+    let (words, is_below) = split_below(words.as_slice());
+    let is_in_folder = if is_below {
+        true
+    } else {
+        match hand_on(rt, words) {
+            Handed::Ended(status) => return Ok(status),
+            Handed::Stays { is_in_folder } => is_in_folder,
+        }
+    };
     let pattern = variable(rt, "NINJA_STATUS")?;
     let is_drawn = is_drawn(rt)?;
     let mut out = BufWriter::new(alloc, rt.stdout())?;
@@ -32,8 +41,9 @@ fn run_words(rt: &HostRuntime) -> io::Result<u8> {
     let environment = Environment {
         pattern: pattern.as_ref().map(|pattern| pattern.as_str()),
         trusts_stamps: trusts_stamps(rt)?,
+        is_in_folder,
+        is_below,
     };
-    let words = words.as_slice();
     let mut noted = if rt.stderr().is_terminal() {
         Noted::wanted(rt)
     } else if is_drawn {
@@ -45,6 +55,14 @@ fn run_words(rt: &HostRuntime) -> io::Result<u8> {
         noted.draw(has_colours(rt)?);
     }
     Ok(run_watched(noted, words, environment, &mut out, &mut err))
+}
+
+/// The words without the one that the program puts in front where it starts itself below a tracer, and whether that is there.
+fn split_below(words: &[String]) -> (&[String], bool) {
+    match words.split_first() {
+        Some((first, rest)) if first.as_str() == BELOW => (rest, true),
+        _ => (words, false),
+    }
 }
 
 /// Whether rows are drawn: the standard output is a terminal, and one that can do it.

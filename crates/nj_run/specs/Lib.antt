@@ -3,6 +3,7 @@ pub mod Worked
 pub mod Alone
 pub mod Asked
 pub mod Ends
+pub mod Handed
 pub mod Status
 pub mod Texts
 pub mod Traces

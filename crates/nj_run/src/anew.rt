@@ -1,5 +1,6 @@
 //! What is declared and recorded, read anew once a build has ended.
 
+use crate::looked::Here;
 use auditor::{Auditor, dyndep_in, load};
 use graph::Graph;
 use host::Host;
@@ -12,21 +13,22 @@ use std::os::unix::fs::MetadataExt;
 use std::{env, fs};
 use text::Bytes;
 
-/// What an audit compares traces with. The program's own files stand in the first folder; the second one is the working folder, from the
-/// root.
+/// What an audit compares traces with. The program's own files stand in the first folder.
 pub fn auditor_of<W: Write>(
     rt: &HostRuntime,
     host: &mut Host<'_, W>,
     manifest: Manifest,
     own: &str,
-    folder: &str,
+    here: Here<'_>,
 ) -> Option<Auditor> {
     let alloc = rt.alloc();
     let log = build_log_in(alloc, host, own);
     let deps = deps_log_in(alloc, host, own);
     let graph = graph_of(alloc, host, manifest, own)?;
-    let mut auditor = Auditor::new(alloc, graph, folder, log, deps).ok()?;
-    take_scratch(rt, &mut auditor).ok()?;
+    let mut auditor = Auditor::new(alloc, graph, here.folder, log, deps).ok()?;
+    if here.left.is_some() {
+        take_scratch(rt, &mut auditor).ok()?;
+    }
     find_files(alloc, rt, &mut auditor).ok()?;
     Some(auditor)
 }

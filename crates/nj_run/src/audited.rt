@@ -12,7 +12,8 @@ ghost use Rattle.nj_run.specs.Traces.{IsTracePath};
 
 use crate::environment::Environment;
 use crate::given::Options as Asked;
-use crate::looked::look;
+use crate::left::left_before;
+use crate::looked::{Place, look};
 use crate::noted::Noted;
 use crate::program::{build_options, build_over, recall};
 use crate::told;
@@ -50,14 +51,34 @@ pub fn audit_asked<W: Write, E: Write>(
     ensures range { IfOk result (λ status. status ≤ 1) }
     ensures comes { Comes (EndsFor asked.now) W.contents E.contents out.old out.new err.old err.new result }
 {
+    if environment.is_below {
+        return audit_below(asked, environment, out, err, noted);
+    }
     let Some(program) = tracer(noted.rt()) else {
         return untraced(err);
     };
-    let named = named_here(asked, environment.pattern, out, noted)?;
+    let named = named_here(asked, environment.pattern, out, noted.rt())?;
     if let Some(path) = named {
         return told::traced_over(path.as_str(), err);
     }
-    let audited = audit_here(asked, environment, program, out, noted)?;
+    let audited = audit_here(asked, environment, Some(program), out, noted)?;
+    tell_all(noted.rt().alloc(), &audited, asked.audit_all, out, err)
+}
+
+/// The same of a run that one tracer is over, and over all commands.
+fn audit_below<W: Write, E: Write>(
+    asked: &Asked<'_>,
+    environment: Environment<'_>,
+    out: &mut W,
+    err: &mut E,
+    noted: &mut Noted<'_>,
+) -> io::Result<u8>
+    requires plain { asked.now.why ≡ false }
+    requires audits { audits asked.now ≡ true }
+    ensures range { IfOk result (λ status. status ≤ 1) }
+    ensures comes { Comes (EndsFor asked.now) W.contents E.contents out.old out.new err.old err.new result }
+{
+    let audited = audit_here(asked, environment, None, out, noted)?;
     tell_all(noted.rt().alloc(), &audited, asked.audit_all, out, err)
 }
 
@@ -76,15 +97,14 @@ fn untraced<E: Write>(err: &mut E) -> io::Result<u8>
 
 /// The first path that build lines name and to which traces are written, if there is one. Of build files with a fault there is none: the
 /// build is to tell of that. Nothing is started or written.
-fn named_here<W: Write>(
+pub(crate) fn named_here<W: Write>(
     asked: &Asked<'_>,
     pattern: Option<&str>,
     out: &mut W,
-    noted: &Noted<'_>,
+    rt: &HostRuntime,
 ) -> Result<Option<Text>, AllocError>
     ensures { IfOk result (λ found. IfSome found IsTracePath) }
 {
-    let rt = noted.rt();
     let alloc = rt.alloc();
     let (options, targets) = build_options(alloc, asked, pattern)?;
     let mut host = Host::new(alloc, rt, out);
@@ -94,11 +114,12 @@ fn named_here<W: Write>(
     }
 }
 
-/// Builds in the working folder with each command traced by this program, and looks at the traces.
+/// Builds in the working folder with each command traced by this program, or, without one, below one tracer of all commands, and looks at
+/// what was traced.
 fn audit_here<W: Write>(
     asked: &Asked<'_>,
     environment: Environment<'_>,
-    program: String,
+    program: Option<String>,
     out: &mut W,
     noted: &mut Noted<'_>,
 ) -> io::Result<Audited>
@@ -108,6 +129,7 @@ fn audit_here<W: Write>(
     let alloc = rt.alloc();
     let folder = env::current_dir(rt)?;
     let (options, targets) = build_options(alloc, asked, environment.pattern)?;
+    let stood = left_before(rt);
     let mut host = traced_host(rt, program, out);
     host.draw(
         noted.look(asked.verbose),
@@ -120,7 +142,12 @@ fn audit_here<W: Write>(
     recall(&mut host, asked.keep, &report);
     noted.waited(host.wait_for_clock());
     noted.built(&mut host, asked.file, &report);
-    let tally = look(rt, &mut host, &options, targets.as_slice(), folder.to_str());
+    let place = Place {
+        folder: folder.to_str(),
+        left: stood.as_ref(),
+        is_shared: environment.is_below,
+    };
+    let tally = look(rt, &mut host, &options, targets.as_slice(), place);
     let trouble = host.into_trouble();
     Ok(Audited {
         report,
@@ -129,12 +156,15 @@ fn audit_here<W: Write>(
     })
 }
 
-/// Real files, where each command is traced by this program.
-fn traced_host<'a, W: Write>(rt: &'a HostRuntime, program: String, out: W) -> Host<'a, W>
+/// Real files, where each command is traced by this program, or all of them are below one tracer.
+fn traced_host<'a, W: Write>(rt: &'a HostRuntime, program: Option<String>, out: W) -> Host<'a, W>
     ensures { world_of result ≡ fresh }
 {
     let mut host = Host::new(rt.alloc(), rt, out);
-    host.trace_by(program);
+    match program {
+        Some(program) => host.trace_by(program),
+        None => host.run_below_tracer(),
+    }
     host
 }
 

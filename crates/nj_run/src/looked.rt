@@ -1,14 +1,25 @@
 //! What an audit finds, once a build has ended: each command that was started in it has left a trace.
 
 use crate::anew::{auditor_of, take_trace};
+use crate::links::learn_links;
+use crate::shared::look_at_shares;
 use auditor::{Auditor, Tally};
 use builder::{Options, Reading};
-use host::Host;
+use host::{Host, SHARED_TRACE};
 use model::Event;
+use paths::{PathId, Paths};
 use site::Site;
 use std::alloc::{AllocError, Global};
 use std::io::Write;
 use text::Text;
+
+/// The same, where the working folder is a text.
+#[derive(Clone, Copy)]
+pub struct Here<'p> {
+    pub folder: &'p str,
+    pub left: Option<&'p Paths>,
+    pub is_shared: bool,
+}
 
 /// A command that ended.
 #[derive(Clone, Copy)]
@@ -17,20 +28,44 @@ struct Ended {
     ok: bool,
 }
 
-/// Looks at all commands that were started and ended well, and removes their traces. The folder is the working one, from the root, if that is
-/// a text. None where it is none, the build files cannot be read any more, or there is no memory.
+/// Where a build was audited.
+#[derive(Clone, Copy)]
+pub struct Place<'p> {
+    /// The working folder, from the root, if that is a text.
+    pub folder: Option<&'p str>,
+    /// The files that stood below the folder for scratch files before it, if that is known.
+    pub left: Option<&'p Paths>,
+    /// Whether one trace has the lines of all commands.
+    pub is_shared: bool,
+}
+
+/// Looks at all commands that were started and ended well, and removes their traces. None where the working folder is no text, the build files
+/// cannot be read any more, or there is no memory.
 pub fn look<W: Write>(
     rt: &HostRuntime,
     host: &mut Host<'_, W>,
     options: &Options,
     targets: &[Text],
-    folder: Option<&str>,
+    place: Place<'_>,
 ) -> Option<Tally> {
-    let tally = match folder {
-        Some(folder) => look_here(rt, host, options, targets, folder),
+    let is_shared = place.is_shared;
+    let tally = match place.folder {
+        Some(folder) => look_here(
+            rt,
+            host,
+            options,
+            targets,
+            Here {
+                folder,
+                left: place.left,
+                is_shared,
+            },
+        ),
         None => None,
     };
-    if tally.is_none() {
+    if is_shared {
+        let _ = host.remove(SHARED_TRACE);
+    } else if tally.is_none() {
         let _ = let_traces_go(rt.alloc(), host);
     }
     tally
@@ -41,27 +76,45 @@ fn look_here<W: Write>(
     host: &mut Host<'_, W>,
     options: &Options,
     targets: &[Text],
-    folder: &str,
+    here: Here<'_>,
 ) -> Option<Tally> {
     let alloc = rt.alloc();
     let Reading { manifest, asked } = builder::read(alloc, host, options, targets).ok()?;
-    let auditor = auditor_of(rt, host, manifest, asked.folder.as_str(), folder)?;
+    let mut auditor = auditor_of(rt, host, manifest, asked.folder.as_str(), here)?;
     let commands = auditor.commands(asked.targets.as_slice())?;
-    look_at_all(alloc, host, &auditor, commands)
+    let mut tally = Tally::new(alloc, commands);
+    take_left(alloc, here, &mut tally)?;
+    if here.is_shared {
+        look_at_shares(rt, host, &mut auditor, &mut tally)?;
+    } else {
+        look_at_all(rt, host, &mut auditor, &mut tally)?;
+    }
+    Some(tally)
+}
+
+/// Takes in the files that stood below the folder for scratch files.
+fn take_left(alloc: Global, here: Here<'_>, tally: &mut Tally) -> Option<()> {
+    let Some(left) = here.left else {
+        return Some(());
+    };
+    for place in 0..left.len() {
+        let path = PathId::at(place)?;
+        tally.leave(alloc, left.get(path).unwrap_or("")).ok()?;
+    }
+    Some(())
 }
 
 fn look_at_all<W: Write>(
-    alloc: Global,
+    rt: &HostRuntime,
     host: &mut Host<'_, W>,
-    auditor: &Auditor,
-    commands: usize,
-) -> Option<Tally> {
-    let mut tally = Tally::new(alloc, commands);
-    let ended = ended_in(alloc, host).ok()?;
+    auditor: &mut Auditor,
+    tally: &mut Tally,
+) -> Option<()> {
+    let ended = ended_in(rt.alloc(), host).ok()?;
     for end in &ended {
-        look_at(host, auditor, *end, &mut tally)?;
+        look_at(rt, host, auditor, *end, tally)?;
     }
-    Some(tally)
+    Some(())
 }
 
 /// Removes the traces that nobody looks at, as far as there is memory to name them.
@@ -86,8 +139,9 @@ fn ended_in<W: Write>(alloc: Global, host: &Host<'_, W>) -> Result<Vec<Ended>, A
 
 /// Looks at one command by its trace, which is removed. One that failed is not looked at.
 fn look_at<W: Write>(
+    rt: &HostRuntime,
     host: &mut Host<'_, W>,
-    auditor: &Auditor,
+    auditor: &mut Auditor,
     end: Ended,
     tally: &mut Tally,
 ) -> Option<()> {
@@ -96,7 +150,10 @@ fn look_at<W: Write>(
         return Some(());
     }
     let told = match &trace {
-        Some(trace) => auditor.take(end.job, Some(trace.as_slice()), tally),
+        Some(trace) => {
+            learn_links(rt, auditor, trace.as_slice())?;
+            auditor.take(end.job, Some(trace.as_slice()), tally)
+        }
         None => auditor.take(end.job, None, tally),
     };
     told.ok()

@@ -1,6 +1,6 @@
 //! The run of the program.
 
-ghost use Rattle.std.specs.Prelude.{◌≡◌, ◌≤◌, IfOk, true, false, map};
+ghost use Rattle.std.specs.Prelude.{◌≡◌, ◌≤◌, IfOk, IfSome, Some, true, false, map};
 ghost use Rattle.clap.specs.Words.{takes};
 ghost use Rattle.model.specs.Calls.{OnlyLooks};
 ghost use Rattle.model.specs.World.{World, IsIdle};
@@ -101,7 +101,7 @@ fn build_asked<W: Write, E: Write>(
     ensures range { IfOk result (λ status. status ≤ 1) }
     ensures comes { Comes (EndsFor asked.now) W.contents E.contents out.old out.new err.old err.new result }
 {
-    if let Some(folder) = asked.folder {
+    if let Some(folder) = to_go_to(asked, environment) {
         if let Err(reason) = env::set_current_dir(noted.rt(), folder) {
             return told::folder(folder, &reason, err);
         }
@@ -114,6 +114,16 @@ fn build_asked<W: Write, E: Write>(
     }
     let (report, trouble) = build_here(asked, environment, out, noted);
     told::report(&report, trouble.as_ref(), out, err)
+}
+
+/// The folder that is asked for, unless it has been gone to.
+fn to_go_to<'a>(asked: &Asked<'a>, environment: Environment<'_>) -> Option<&'a str>
+    ensures { IfSome result (λ folder. asked.now.folder ≡ Some folder.now) }
+{
+    if environment.is_in_folder {
+        return None;
+    }
+    asked.folder
 }
 
 /// Tells why commands are due of what is asked for, or why that cannot be told.

@@ -1,7 +1,7 @@
 //! What breaks a premise of all that a command did.
 
 use crate::found::deed_of;
-use audit::{Around, By, Lists, Uses, Whole, breaches, uses_of};
+use audit::{Around, By, Lists, Uses, Way, Whole, breaches, uses_of};
 use paths::Paths;
 use std::alloc::{AllocError, Global};
 use tables::{push_word, word};
@@ -66,19 +66,30 @@ fn by_in(path: &str) -> By {
 }
 
 fn whole_of(alloc: Global, deed: Deed, path: &str) -> Result<Whole, AllocError> {
-    match path.split_once('=').or(path.split_once('+')) {
-        Some((path, real)) => Ok(Whole {
-            deed,
-            path: Path::from_str(alloc, path)?,
-            real: Some(Path::from_str(alloc, real)?),
-            up: false,
-        }),
-        None => Ok(Whole {
-            deed,
-            path: Path::from_str(alloc, path)?,
-            real: None,
-            up: false,
-        }),
+    let (path, other) = cut(path, path.split_once('<'));
+    let (path, real) = cut(path, path.split_once('=').or(path.split_once('+')));
+    Ok(Whole {
+        deed,
+        path: Path::from_str(alloc, path)?,
+        real: path_if(alloc, real)?,
+        other: path_if(alloc, other)?,
+        up: false,
+        way: Way::Plain,
+    })
+}
+
+/// The two parts of a text that was cut, or the text alone.
+fn cut<'a>(text: &'a str, parts: Option<(&'a str, &'a str)>) -> (&'a str, Option<&'a str>) {
+    match parts {
+        Some((front, back)) => (front, Some(back)),
+        None => (text, None),
+    }
+}
+
+fn path_if(alloc: Global, path: Option<&str>) -> Result<Option<Path>, AllocError> {
+    match path {
+        Some(path) => Ok(Some(Path::from_str(alloc, path)?)),
+        None => Ok(None),
     }
 }
 
@@ -118,6 +129,7 @@ fn around(path: &str, made: &Paths, above: &Paths) -> Around {
         inside: !path.as_bytes().starts_with(b"/"),
         own: false,
         scratch: false,
+        left: false,
         filled: false,
     }
 }

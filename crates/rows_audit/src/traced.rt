@@ -66,6 +66,13 @@ fn push_fact(alloc: Global, fact: &Fact, told: &mut String) -> Result<(), AllocE
             told.push_str(real.as_str())?;
         }
     }
+    if let Some(other) = &fact.other {
+        let other = format!(in alloc; "<{}", shown(other))?;
+        told.push_str(other.as_str())?;
+    }
+    if fact.follows {
+        told.push('*')?;
+    }
     told.push(';')
 }
 
@@ -80,9 +87,11 @@ fn name_of(deed: Deed) -> &'static str {
         Deed::Into => "into",
         Deed::Stamped => "stamped",
         Deed::Linked => "linked",
+        Deed::Moved => "moved",
         Deed::Led => "led",
         Deed::Emptied => "emptied",
         Deed::Removed => "removed",
+        Deed::Left => "left",
         Deed::Listed => "listed",
         Deed::Asked => "asked",
         Deed::Missed => "missed",

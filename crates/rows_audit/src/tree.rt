@@ -57,6 +57,8 @@ impl Tree {
             "scratch" => self.take_scratch(rest)?,
             "file" => self.lead(alloc, rest)?,
             "filled" => self.fill(rest)?,
+            "link" => self.learn(rest)?,
+            "left" => self.leave(alloc, rest)?,
             _ => {
                 self.push_asked(alloc, first, rest, told)?;
                 return Ok(true);
@@ -115,6 +117,23 @@ impl Tree {
             Some(auditor) => fill(auditor, paths),
             None => Ok(()),
         }
+    }
+
+    /// `link PATH TARGET`: a link that leads there stands at the path.
+    fn learn(&mut self, row: &str) -> Result<(), AllocError> {
+        let (path, target) = word(row);
+        match &mut self.auditor {
+            Some(auditor) => auditor.learn(path, Some(target)),
+            None => Ok(()),
+        }
+    }
+
+    /// `left PATH..`: files stand there, from the root, before the build begins.
+    fn leave(&mut self, alloc: Global, paths: &str) -> Result<(), AllocError> {
+        for path in paths.split(' ') {
+            self.tally.leave(alloc, path)?;
+        }
+        Ok(())
     }
 
     fn push_asked(

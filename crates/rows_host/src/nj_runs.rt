@@ -20,6 +20,8 @@ pub fn run_of(folder: &Folder<'_>, pattern: Option<&str>, words: &str) -> Result
     let environment = Environment {
         pattern,
         trusts_stamps: false,
+        is_in_folder: false,
+        is_below: false,
     };
     run_in(folder, environment, words)
 }
@@ -29,6 +31,8 @@ pub fn trusting_run_of(folder: &Folder<'_>, words: &str) -> Result<Ran, AllocErr
     let environment = Environment {
         pattern: None,
         trusts_stamps: true,
+        is_in_folder: false,
+        is_below: false,
     };
     run_in(folder, environment, words)
 }

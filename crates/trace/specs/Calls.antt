@@ -60,9 +60,20 @@ abbrev pub opens : Does → Bool
 opens doing.Opens = true
 opens _ = false
 
-abbrev pub is_of_folders : Does → Bool
-is_of_folders doing.Folders = true
-is_of_folders _ = false
+abbrev pub links : Does → Bool
+links doing.Links = true
+links _ = false
+
+-- what a link leads to that stands at the path is meant, where the call says nothing else
+abbrev pub follows_links : Does → Bool
+follows_links doing.Looks = true
+follows_links doing.Opens = true
+follows_links doing.Creates = true
+follows_links doing.Runs = true
+follows_links doing.Goes = true
+follows_links doing.Cuts = true
+follows_links doing.Changes = true
+follows_links _ = false
 
 abbrev pub goes : Does → Bool
 goes doing.Goes = true
@@ -84,16 +95,21 @@ passes _ = false
 
 abbrev pub looks : List ℕ → Bool
 looks name =
-    bytes_eq name (codes "stat") || (bytes_eq name (codes "lstat") || (bytes_eq name (codes "access") || (bytes_eq name (codes "readlink")
-    || (bytes_eq name (codes "statfs") || (bytes_eq name (codes "getxattr") || (bytes_eq name (codes "lgetxattr")
-    || (bytes_eq name (codes "listxattr") || (bytes_eq name (codes "llistxattr") || (bytes_eq name (codes "chmod")
-    || (bytes_eq name (codes "chown") || bytes_eq name (codes "lchown")))))))))))
+    bytes_eq name (codes "stat") || (bytes_eq name (codes "access") || (bytes_eq name (codes "statfs")
+    || (bytes_eq name (codes "getxattr") || (bytes_eq name (codes "listxattr") || (bytes_eq name (codes "chmod")
+    || bytes_eq name (codes "chown"))))))
+
+-- these look at what stands at the path itself, be that a link
+abbrev pub peeks : List ℕ → Bool
+peeks name =
+    bytes_eq name (codes "lstat") || (bytes_eq name (codes "readlink") || (bytes_eq name (codes "lgetxattr")
+    || (bytes_eq name (codes "llistxattr") || bytes_eq name (codes "lchown"))))
 
 abbrev pub looks_at : List ℕ → Bool
 looks_at name =
     bytes_eq name (codes "newfstatat") || (bytes_eq name (codes "statx") || (bytes_eq name (codes "faccessat")
-    || (bytes_eq name (codes "faccessat2") || (bytes_eq name (codes "readlinkat") || (bytes_eq name (codes "fchmodat")
-    || (bytes_eq name (codes "fchmodat2") || (bytes_eq name (codes "fchownat") || bytes_eq name (codes "name_to_handle_at"))))))))
+    || (bytes_eq name (codes "faccessat2") || (bytes_eq name (codes "fchmodat") || (bytes_eq name (codes "fchmodat2")
+    || (bytes_eq name (codes "fchownat") || bytes_eq name (codes "name_to_handle_at")))))))
 
 abbrev pub opens_at : List ℕ → Bool
 opens_at name = bytes_eq name (codes "openat") || bytes_eq name (codes "openat2")
@@ -107,7 +123,10 @@ makes name = bytes_eq name (codes "creat") || bytes_eq name (codes "mknod")
 abbrev pub changes : List ℕ → Bool
 changes name =
     bytes_eq name (codes "utime") || (bytes_eq name (codes "utimes") || (bytes_eq name (codes "setxattr")
-    || (bytes_eq name (codes "lsetxattr") || (bytes_eq name (codes "removexattr") || bytes_eq name (codes "lremovexattr")))))
+    || bytes_eq name (codes "removexattr")))
+
+abbrev pub marks : List ℕ → Bool
+marks name = bytes_eq name (codes "lsetxattr") || bytes_eq name (codes "lremovexattr")
 
 abbrev pub changes_at : List ℕ → Bool
 changes_at name = bytes_eq name (codes "utimensat") || bytes_eq name (codes "futimesat")
@@ -126,8 +145,10 @@ when is does form = if is then Some (record { does = does; form = form }) else N
 
 unfoldable pub row_of_look : List ℕ → Option Row
 row_of_look name =
-    option_or (option_or (option_or (option_or
+    option_or (option_or (option_or (option_or (option_or (option_or
     (when (looks name) doing.Looks by.Name)
+    (when (peeks name) doing.Peeks by.Name))
+    (when (bytes_eq name (codes "readlinkat")) doing.Peeks by.At))
     (when (looks_at name) doing.Looks by.At))
     (when (bytes_eq name (codes "open")) doing.Opens by.Name))
     (when (opens_at name) doing.Opens by.At))
@@ -135,12 +156,13 @@ row_of_look name =
 
 unfoldable pub row_of_change : List ℕ → Option Row
 row_of_change name =
-    option_or (option_or (option_or (option_or (option_or (option_or (option_or (option_or (option_or (option_or
+    option_or (option_or (option_or (option_or (option_or (option_or (option_or (option_or (option_or (option_or (option_or
     (when (makes name) doing.Creates by.Name)
     (when (bytes_eq name (codes "mknodat")) doing.Creates by.At))
     (when (bytes_eq name (codes "truncate")) doing.Cuts by.Name))
     (when (bytes_eq name (codes "ftruncate")) doing.Empties by.Opened))
     (when (changes name) doing.Changes by.Name))
+    (when (marks name) doing.Marks by.Name))
     (when (changes_at name) doing.Changes by.At))
     (when (bytes_eq name (codes "mkdir")) doing.Folders by.Name))
     (when (bytes_eq name (codes "mkdirat")) doing.Folders by.At))

@@ -1,5 +1,5 @@
 -- What a call did at its paths.
-use Rattle.std.specs.Prelude.{ℕ, ◌&&◌, ◌||◌, not, Bool, List, [], ◌∷◌, ◌++◌, Option, Some, None, option_map, option_and_then, bytes_eq, codes, if◌then◌else◌}
+use Rattle.std.specs.Prelude.{ℕ, ◌&&◌, ◌||◌, not, Bool, false, List, [], ◌∷◌, ◌++◌, Option, Some, None, option_map, option_and_then, bytes_eq, codes, if◌then◌else◌}
 use Rattle.std.specs.Str.{is_utf8}
 use Rattle.trace.specs.declared.calls.Row.{Row}
 use Rattle.trace.specs.declared.calls.Does.{Does}
@@ -8,13 +8,13 @@ use Rattle.trace.specs.declared.calls.Form.{Form}
 use Rattle.trace.specs.declared.ending.End.{End}
 use Rattle.trace.specs.declared.ending.End.TheVariants as ending
 use Rattle.trace.specs.declared.fact.Deed.{Deed}
-use Rattle.trace.specs.declared.fact.Deed.TheVariants.{Read, Wrote, Into, Stamped, Linked, Led, Emptied, Removed, Listed, Asked, Missed, Sought, Folder, Made}
+use Rattle.trace.specs.declared.fact.Deed.TheVariants.{Read, Wrote, Into, Stamped, Linked, Moved, Led, Emptied, Removed, Left, Listed, Asked, Missed, Sought, Folder, Made}
 use Rattle.trace.specs.declared.fact.Fact.{Fact}
 use Rattle.trace.specs.declared.facts.Paths.{Paths}
 use Rattle.trace.specs.declared.parts.Call.{Call}
 use Rattle.trace.specs.Marks.{cut, has}
-use Rattle.trace.specs.Arguments.{behind, descriptor, first_argument, is_rooted, path_at}
-use Rattle.trace.specs.Calls.{ending_of, has_two, is_of_folders, leads, row_named, runs}
+use Rattle.trace.specs.Arguments.{behind, descriptor, first_argument, is_rooted, path_at, quoted}
+use Rattle.trace.specs.Calls.{ending_of, follows_links, has_two, leads, links, row_named, runs}
 
 -- ---- a call as it is written
 
@@ -64,9 +64,14 @@ second_path form folder arguments path = option_map (two_paths path) (path_at fo
 abbrev pub arguments_for : Does → List ℕ → List ℕ
 arguments_for does arguments = if leads does then (first_argument arguments).1 else arguments
 
+-- a link, and where it leads as it is written
+abbrev pub with_target : List ℕ → List ℕ → Option Paths
+with_target arguments path = option_map (two_paths path) (quoted (first_argument arguments).0)
+
 abbrev pub with_path : Seen → Option (List ℕ) → List ℕ → List ℕ → Option Paths
 with_path call folder arguments path =
-    if has_two call.row.does then second_path call.row.form folder arguments path else Some (one_path path)
+    if leads call.row.does then with_target call.arguments path
+    else (if has_two call.row.does then second_path call.row.form folder arguments path else Some (one_path path))
 
 abbrev pub paths_from : Seen → Option (List ℕ) → List ℕ → Option Paths
 paths_from call folder arguments = option_and_then (with_path call folder arguments) (path_at call.row.form folder arguments)
@@ -81,11 +86,34 @@ paths_of call folder = paths_from call folder (arguments_for call.row.does call.
 abbrev pub goes_up : List ℕ → Bool
 goes_up path = has (codes "/..") path
 
-abbrev pub told : Deed → List ℕ → Option (List ℕ) → Fact
-told deed path real = record { deed = deed; path = path; real = real; up = goes_up path }
+-- the call says that what stands at the path itself is meant, or that nothing may stand there
+abbrev pub stays : List ℕ → Bool
+stays arguments =
+    has (codes "AT_SYMLINK_NOFOLLOW") arguments
+    || (has (codes "O_NOFOLLOW") arguments || (has (codes "O_CREAT") arguments && has (codes "O_EXCL") arguments))
 
-abbrev pub fact : Deed → List ℕ → Fact
-fact deed path = told deed path None
+-- what a link leads to that stands at the path is meant
+abbrev pub follows : Seen → Bool
+follows call =
+    (follows_links call.row.does && not (stays call.arguments))
+    || (links call.row.does && has (codes "AT_SYMLINK_FOLLOW") call.arguments)
+
+abbrev pub told : Bool → Deed → List ℕ → Option (List ℕ) → Fact
+told follows deed path real =
+    record { deed = deed; path = path; real = real; other = None; up = goes_up path; follows = follows }
+
+abbrev pub fact : Bool → Deed → List ℕ → Fact
+fact follows deed path = told follows deed path None
+
+-- the second path was given to the file that has the first one, or had it before
+abbrev pub placed : Deed → Paths → Fact
+placed deed paths =
+    record { deed = deed; path = paths.other; real = None; other = Some paths.path; up = goes_up paths.other; follows = false }
+
+-- a link was made at the path, which leads to the other one as that is written
+abbrev pub led : Paths → Fact
+led paths =
+    record { deed = Led; path = paths.path; real = None; other = Some paths.other; up = goes_up paths.path; follows = false }
 
 -- what a look saw, and what a removal removed
 abbrev pub looked : List ℕ → Deed
@@ -116,56 +144,55 @@ deeds arguments =
     else (if not (has (codes "O_WRONLY") arguments) then (Read, None)
     else (if only_stamps arguments then (Stamped, None) else (Into, None))))))
 
-abbrev pub at_second : Option Deed → List ℕ → Option (List ℕ) → List Fact
-at_second None path real = []
-at_second (Some deed) path real = told deed path real ∷ []
+-- what was done by the path of a call that answered a descriptor, or none
+abbrev pub answered : Seen → Deed → List ℕ → Fact
+answered call deed path = told (follows call) deed path (descriptor call.answer)
 
-abbrev pub opened : List ℕ → List ℕ → Option (List ℕ) → List Fact
-opened arguments path real = told (deeds arguments).0 path real ∷ at_second (deeds arguments).1 path real
+abbrev pub at_second : Seen → Option Deed → List ℕ → List Fact
+at_second call None path = []
+at_second call (Some deed) path = answered call deed path ∷ []
 
--- a file has the second path, and had the first one before
-abbrev pub placed : Paths → Fact
-placed paths = told Linked paths.other (Some paths.path)
+abbrev pub opened : Seen → List ℕ → List Fact
+opened call path = answered call (deeds call.arguments).0 path ∷ at_second call (deeds call.arguments).1 path
 
--- behind other facts, that a file was given another path
+-- behind other facts, that a file or a folder was given another path
 abbrev pub with_moved : List Fact → Paths → List Fact
-with_moved facts paths = ((facts ++ fact Read paths.path ∷ []) ++ fact Removed paths.path ∷ []) ++ placed paths ∷ []
+with_moved facts paths =
+    ((facts ++ fact false Read paths.path ∷ []) ++ fact false Left paths.path ∷ []) ++ placed Moved paths ∷ []
 
--- and that one was given one more path
-abbrev pub with_linked : List Fact → Paths → List Fact
-with_linked facts paths = (facts ++ fact Read paths.path ∷ []) ++ placed paths ∷ []
+-- and that a file was given one more path
+abbrev pub with_linked : List Fact → Seen → Paths → List Fact
+with_linked facts call paths = (facts ++ fact (follows call) Read paths.path ∷ []) ++ placed Linked paths ∷ []
 
 -- An open file was emptied, where its new length says so. Of another length nothing more is told: what it was opened for says that it is written.
 abbrev pub emptied : List ℕ → List ℕ → List Fact
-emptied arguments path = if bytes_eq (first_argument arguments).1 (codes "0") then fact Emptied path ∷ [] else []
+emptied arguments path = if bytes_eq (first_argument arguments).1 (codes "0") then fact false Emptied path ∷ [] else []
 
 -- what a call did that ended well
 abbrev pub done_by : Does → Seen → Paths → List Fact
-done_by doing.Looks call paths = fact (looked call.arguments) paths.path ∷ []
-done_by doing.Opens call paths = opened call.arguments paths.path (descriptor call.answer)
-done_by doing.Creates call paths = fact Wrote paths.path ∷ []
-done_by doing.Runs call paths = fact Read paths.path ∷ []
-done_by doing.Goes call paths = fact Folder paths.path ∷ []
-done_by doing.Lists call paths = fact Listed paths.path ∷ []
-done_by doing.Folders call paths = fact Made paths.path ∷ []
-done_by doing.Clears call paths = fact Folder paths.path ∷ []
-done_by doing.Removes call paths = fact (removed call.arguments) paths.path ∷ []
-done_by doing.Moves call paths = fact Read paths.path ∷ fact Removed paths.path ∷ placed paths ∷ []
-done_by doing.Links call paths = fact Read paths.path ∷ placed paths ∷ []
-done_by doing.Leads call paths = fact Led paths.path ∷ []
-done_by doing.Cuts call paths = fact Into paths.path ∷ []
+done_by doing.Looks call paths = fact (follows call) (looked call.arguments) paths.path ∷ []
+done_by doing.Peeks call paths = fact (follows call) (looked call.arguments) paths.path ∷ []
+done_by doing.Opens call paths = opened call paths.path
+done_by doing.Creates call paths = answered call Wrote paths.path ∷ []
+done_by doing.Runs call paths = fact (follows call) Read paths.path ∷ []
+done_by doing.Goes call paths = fact (follows call) Folder paths.path ∷ []
+done_by doing.Lists call paths = fact (follows call) Listed paths.path ∷ []
+done_by doing.Folders call paths = fact (follows call) Made paths.path ∷ []
+done_by doing.Clears call paths = fact (follows call) Folder paths.path ∷ []
+done_by doing.Removes call paths = fact (follows call) (removed call.arguments) paths.path ∷ []
+done_by doing.Moves call paths = fact false Read paths.path ∷ fact false Left paths.path ∷ placed Moved paths ∷ []
+done_by doing.Links call paths = fact (follows call) Read paths.path ∷ placed Linked paths ∷ []
+done_by doing.Leads call paths = led paths ∷ []
+done_by doing.Cuts call paths = fact (follows call) Into paths.path ∷ []
 done_by doing.Empties call paths = emptied call.arguments paths.path
-done_by doing.Changes call paths = fact Stamped paths.path ∷ []
+done_by doing.Changes call paths = fact (follows call) Stamped paths.path ∷ []
+done_by doing.Marks call paths = fact (follows call) Stamped paths.path ∷ []
 done_by doing.Starts call paths = []
 done_by doing.Connects call paths = []
 done_by doing.Passes call paths = []
 
 abbrev pub done : Seen → Paths → List Fact
 done call paths = done_by call.row.does call paths
-
--- what a call did that was refused: it asked; to make a folder that is there says that it is one
-abbrev pub refused : Does → Deed
-refused does = if is_of_folders does then Folder else Asked
 
 -- What a call was that found nothing. A file may be there of which two paths were named, or that was to be run: the other path may lack its
 -- folder, and what runs it may be missing.
@@ -174,11 +201,12 @@ missed does = if has_two does || runs does then Sought else Missed
 
 abbrev pub ended_by : End → Seen → Paths → List Fact
 ended_by ending.Well call paths = done call paths
-ended_by ending.Missing call paths = fact (missed call.row.does) paths.path ∷ []
-ended_by ending.Refused call paths = fact (refused call.row.does) paths.path ∷ []
+ended_by ending.Missing call paths = fact (follows call) (missed call.row.does) paths.path ∷ []
+ended_by ending.Refused call paths = fact (follows call) Asked paths.path ∷ []
 ended_by ending.Void call paths = []
 ended_by ending.Open call paths = []
 
--- what a call did at its paths; what the kernel names otherwise than by a path from the root is no file
+-- What a call did at its paths; what the kernel names otherwise than by a path from the root is no file. One that was refused has asked: that
+-- a folder cannot be made says that something is there.
 abbrev pub facts_of : Seen → Paths → List Fact
 facts_of call paths = if is_rooted paths.path then ended_by (ending_of call.answer) call paths else []

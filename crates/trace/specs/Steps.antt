@@ -1,5 +1,5 @@
 -- What a call did, and what is known of its process then.
-use Rattle.std.specs.Prelude.{ℕ, ◌&&◌, ◌||◌, not, Bool, List, [], ◌∷◌, Option, Some, None, option_and_then, codes, if◌then◌else◌}
+use Rattle.std.specs.Prelude.{ℕ, ◌&&◌, ◌||◌, not, Bool, false, List, [], ◌∷◌, Option, Some, None, option_and_then, codes, if◌then◌else◌}
 use Rattle.trace.specs.declared.fact.Deed.TheVariants.{Connected}
 use Rattle.trace.specs.declared.facts.Paths.{Paths}
 use Rattle.trace.specs.declared.processes.Known.{Known}
@@ -29,7 +29,7 @@ started known call =
 -- a server was asked, unless there is none
 abbrev pub connected : Known → Seen → Step
 connected known call =
-    if not (is_missing (ending_of call.answer)) then record (still known) { facts = fact Connected (codes "/") ∷ [] } else still known
+    if not (is_missing (ending_of call.answer)) then record (still known) { facts = fact false Connected (codes "/") ∷ [] } else still known
 
 -- the process has gone to another folder
 abbrev pub has_gone : Seen → Bool

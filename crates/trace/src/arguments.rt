@@ -22,7 +22,7 @@ pub fn first_argument(arguments: &[u8]) -> (&[u8], &[u8])
 }
 
 /// The text that stands in quotes as the whole argument.
-fn quoted(alloc: Global, argument: &[u8]) -> Result<Option<Bytes>, AllocError>
+pub fn quoted(alloc: Global, argument: &[u8]) -> Result<Option<Bytes>, AllocError>
     ensures { IfOk result (λ found. found ≡ quoted argument.now) }
 {
     match between(argument, b"\"", b"\"") {

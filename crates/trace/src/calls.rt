@@ -1,13 +1,15 @@
 //! The calls of the system of which it is known what they do to files.
 
 ghost use Rattle.std.specs.Prelude.{◌≡◌};
-ghost use Rattle.trace.specs.Calls.{begins_one, changes, changes_at, connects, goes, has_two, is_of_folders, leads, lists, looks, looks_at, makes, moves_at, opens, opens_at, passes, row_of_change, row_of_look, row_of_process, row_of_two, row_named, runs, starts, when};
+ghost use Rattle.trace.specs.Calls.{begins_one, changes, changes_at, connects, follows_links, goes, has_two, leads, links, lists, looks, looks_at, makes, marks, moves_at, opens, opens_at, passes, peeks, row_of_change, row_of_look, row_of_process, row_of_two, row_named, runs, starts, when};
 
 /// What a call does.
 #[derive(Clone, Copy, Debug, PartialEq, Eq)]
 pub enum Does {
     /// It asks for a file: whether it is there, what it is, or what belongs to it beside its content and its stamp.
     Looks,
+    /// The same of what stands at the path itself, be that a link.
+    Peeks,
     /// It opens a file.
     Opens,
     /// It makes a file that is empty, or empties one.
@@ -36,6 +38,8 @@ pub enum Does {
     Empties,
     /// It sets the stamp of a file, or what belongs to it beside its content.
     Changes,
+    /// The same of what stands at the path itself, be that a link.
+    Marks,
     /// It starts a process.
     Starts,
     /// It connects to a server.
@@ -63,6 +67,13 @@ impl Does {
         matches!(self, Does::Leads)
     }
 
+    /// Whether it gives a file one more path.
+    pub fn links(self) -> bool
+        ensures { result ≡ links self }
+    {
+        matches!(self, Does::Links)
+    }
+
     /// Whether it works on two paths.
     pub fn has_two(self) -> bool
         ensures { result ≡ has_two self }
@@ -76,16 +87,26 @@ impl Does {
         matches!(self, Does::Runs)
     }
 
+    /// Whether what a link leads to that stands at the path is meant, where the call says nothing else.
+    pub fn follows(self) -> bool
+        ensures { result ≡ follows_links self }
+    {
+        matches!(
+            self,
+            Does::Looks
+                | Does::Opens
+                | Does::Creates
+                | Does::Runs
+                | Does::Goes
+                | Does::Cuts
+                | Does::Changes
+        )
+    }
+
     pub fn opens(self) -> bool
         ensures { result ≡ opens self }
     {
         matches!(self, Does::Opens)
-    }
-
-    pub fn is_of_folders(self) -> bool
-        ensures { result ≡ is_of_folders self }
-    {
-        matches!(self, Does::Folders)
     }
 
     pub fn goes(self) -> bool
@@ -144,6 +165,8 @@ fn row_of_look(name: &str) -> Option<Row>
     ensures { result ≡ row_of_look name.now }
 {
     when(looks(name), Does::Looks, Form::Name)
+        .or(when(peeks(name), Does::Peeks, Form::Name))
+        .or(when(name == "readlinkat", Does::Peeks, Form::At))
         .or(when(looks_at(name), Does::Looks, Form::At))
         .or(when(name == "open", Does::Opens, Form::Name))
         .or(when(opens_at(name), Does::Opens, Form::At))
@@ -160,6 +183,7 @@ fn row_of_change(name: &str) -> Option<Row>
         .or(when(name == "truncate", Does::Cuts, Form::Name))
         .or(when(name == "ftruncate", Does::Empties, Form::Opened))
         .or(when(changes(name), Does::Changes, Form::Name))
+        .or(when(marks(name), Does::Marks, Form::Name))
         .or(when(changes_at(name), Does::Changes, Form::At))
         .or(when(name == "mkdir", Does::Folders, Form::Name))
         .or(when(name == "mkdirat", Does::Folders, Form::At))
@@ -200,18 +224,16 @@ fn looks(name: &str) -> bool
 {
     matches!(
         name,
-        "stat"
-            | "lstat"
-            | "access"
-            | "readlink"
-            | "statfs"
-            | "getxattr"
-            | "lgetxattr"
-            | "listxattr"
-            | "llistxattr"
-            | "chmod"
-            | "chown"
-            | "lchown"
+        "stat" | "access" | "statfs" | "getxattr" | "listxattr" | "chmod" | "chown"
+    )
+}
+
+fn peeks(name: &str) -> bool
+    ensures { result ≡ peeks name.now }
+{
+    matches!(
+        name,
+        "lstat" | "readlink" | "lgetxattr" | "llistxattr" | "lchown"
     )
 }
 
@@ -224,7 +246,6 @@ fn looks_at(name: &str) -> bool
             | "statx"
             | "faccessat"
             | "faccessat2"
-            | "readlinkat"
             | "fchmodat"
             | "fchmodat2"
             | "fchownat"
@@ -253,10 +274,13 @@ fn makes(name: &str) -> bool
 fn changes(name: &str) -> bool
     ensures { result ≡ changes name.now }
 {
-    matches!(
-        name,
-        "utime" | "utimes" | "setxattr" | "lsetxattr" | "removexattr" | "lremovexattr"
-    )
+    matches!(name, "utime" | "utimes" | "setxattr" | "removexattr")
+}
+
+fn marks(name: &str) -> bool
+    ensures { result ≡ marks name.now }
+{
+    matches!(name, "lsetxattr" | "lremovexattr")
 }
 
 fn changes_at(name: &str) -> bool

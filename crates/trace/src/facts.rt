@@ -1,10 +1,9 @@
 //! What a call did at its paths.
 
-ghost use Rattle.std.specs.Prelude.{◌≡◌, ◌++◌, ◌∷◌, [], IfOk, OnOk, option_map};
-ghost use Rattle.trace.specs.Arguments.{descriptor};
-ghost use Rattle.trace.specs.Facts.{arguments_for, call_seen, deeds, done, emptied, empties, fact, facts_of, goes_on, goes_up, looked, missed, only_stamps, opened, paths_of, placed, refused, removed, told, with_linked, with_moved};
+ghost use Rattle.std.specs.Prelude.{◌≡◌, ◌++◌, ◌∷◌, [], IfOk, OnOk, false, option_map};
+ghost use Rattle.trace.specs.Facts.{answered, arguments_for, call_seen, deeds, done, emptied, empties, fact, facts_of, follows, goes_on, goes_up, led, looked, missed, only_stamps, opened, paths_of, placed, removed, stays, with_linked, with_moved, with_target};
 
-use crate::arguments::{behind, descriptor, first_argument, is_rooted, path_at};
+use crate::arguments::{behind, descriptor, first_argument, is_rooted, path_at, quoted};
 use crate::calls::Does;
 use crate::ending::{End, ending_of};
 use crate::fact::{Deed, Fact};
@@ -33,11 +32,24 @@ pub fn paths_of(
     let Some(path) = path_at(alloc, form, folder, arguments)? else {
         return Ok(None);
     };
+    if call.row.does.leads() {
+        return with_target(alloc, call.arguments, path);
+    }
     if !call.row.does.has_two() {
         let other = Bytes::new(alloc);
         return Ok(Some(Paths { path, other }));
     }
     match path_at(alloc, form, folder, behind(form, arguments))? {
+        Some(other) => Ok(Some(Paths { path, other })),
+        None => Ok(None),
+    }
+}
+
+/// A link, and where it leads as it is written.
+fn with_target(alloc: Global, arguments: &[u8], path: Bytes) -> Result<Option<Paths>, AllocError>
+    ensures { IfOk result (λ paths. paths ≡ with_target arguments.now path) }
+{
+    match quoted(alloc, first_argument(arguments).0)? {
         Some(other) => Ok(Some(Paths { path, other })),
         None => Ok(None),
     }
@@ -54,7 +66,7 @@ fn arguments_for(does: Does, arguments: &[u8]) -> &[u8]
     }
 }
 
-/// Adds what a call did at its paths.
+/// Adds what a call did at its paths. One that was refused has asked: that a folder cannot be made says that something is there.
 pub fn push_facts(
     alloc: Global,
     call: &Call<'_>,
@@ -69,8 +81,8 @@ pub fn push_facts(
     }
     match ending_of(call.answer) {
         End::Well => push_done(alloc, call, paths, facts),
-        End::Missing => push(alloc, facts, missed(call.row.does), path),
-        End::Refused => push(alloc, facts, refused(call.row.does), path),
+        End::Missing => push(alloc, facts, follows(call), missed(call.row.does), path),
+        End::Refused => push(alloc, facts, follows(call), Deed::Asked, path),
         End::Void => Ok(()),
         End::Open => Ok(()),
     }
@@ -87,15 +99,22 @@ fn missed(does: Does) -> Deed
     }
 }
 
-/// What a call did that was refused: it asked; to make a folder that is there says that it is one.
-fn refused(does: Does) -> Deed
-    ensures { result ≡ refused does }
+/// Whether what a link leads to that stands at the path is meant.
+fn follows(call: &Call<'_>) -> bool
+    ensures { result ≡ follows (call_seen call.now) }
 {
-    if does.is_of_folders() {
-        Deed::Folder
-    } else {
-        Deed::Asked
-    }
+    let does = call.row.does;
+    (does.follows() && !stays(call.arguments))
+        || (does.links() && has(call.arguments, b"AT_SYMLINK_FOLLOW"))
+}
+
+/// Whether the call says that what stands at the path itself is meant, or that nothing may stand there.
+fn stays(arguments: &[u8]) -> bool
+    ensures { result ≡ stays arguments.now }
+{
+    has(arguments, b"AT_SYMLINK_NOFOLLOW")
+        || (has(arguments, b"O_NOFOLLOW")
+            || (has(arguments, b"O_CREAT") && has(arguments, b"O_EXCL")))
 }
 
 /// Adds what a call did that ended well.
@@ -108,22 +127,25 @@ fn push_done(
     ensures { OnOk result (facts.new ≡ facts.old ++ done (call_seen call.now) paths.now) }
 {
     let path = paths.path.as_slice();
+    let at = follows(call);
     match call.row.does {
-        Does::Looks => push(alloc, facts, looked(call.arguments), path),
+        Does::Looks => push(alloc, facts, at, looked(call.arguments), path),
+        Does::Peeks => push(alloc, facts, at, looked(call.arguments), path),
         Does::Opens => push_opened(alloc, call, path, facts),
-        Does::Runs => push(alloc, facts, Deed::Read, path),
-        Does::Goes => push(alloc, facts, Deed::Folder, path),
-        Does::Folders => push(alloc, facts, Deed::Made, path),
-        Does::Clears => push(alloc, facts, Deed::Folder, path),
-        Does::Lists => push(alloc, facts, Deed::Listed, path),
-        Does::Removes => push(alloc, facts, removed(call.arguments), path),
-        Does::Creates => push(alloc, facts, Deed::Wrote, path),
-        Does::Cuts => push(alloc, facts, Deed::Into, path),
+        Does::Runs => push(alloc, facts, at, Deed::Read, path),
+        Does::Goes => push(alloc, facts, at, Deed::Folder, path),
+        Does::Folders => push(alloc, facts, at, Deed::Made, path),
+        Does::Clears => push(alloc, facts, at, Deed::Folder, path),
+        Does::Lists => push(alloc, facts, at, Deed::Listed, path),
+        Does::Removes => push(alloc, facts, at, removed(call.arguments), path),
+        Does::Creates => push_answered(alloc, call, Deed::Wrote, path, facts),
+        Does::Cuts => push(alloc, facts, at, Deed::Into, path),
         Does::Empties => push_emptied(alloc, call.arguments, path, facts),
-        Does::Changes => push(alloc, facts, Deed::Stamped, path),
-        Does::Leads => push(alloc, facts, Deed::Led, path),
+        Does::Changes => push(alloc, facts, at, Deed::Stamped, path),
+        Does::Marks => push(alloc, facts, at, Deed::Stamped, path),
+        Does::Leads => push_led(alloc, paths, facts),
         Does::Moves => push_moved(alloc, paths, facts),
-        Does::Links => push_linked(alloc, paths, facts),
+        Does::Links => push_linked(alloc, call, paths, facts),
         Does::Starts => Ok(()),
         Does::Connects => Ok(()),
         Does::Passes => Ok(()),
@@ -152,36 +174,71 @@ fn removed(arguments: &[u8]) -> Deed
     }
 }
 
-/// Adds that a file was given another path.
+/// Adds that a file or a folder was given another path.
 fn push_moved(alloc: Global, paths: &Paths, facts: &mut Items<Fact>) -> Result<(), AllocError>
     ensures { OnOk result (facts.new ≡ with_moved facts.old paths.now) }
 {
-    push(alloc, facts, Deed::Read, paths.path.as_slice())?;
-    push(alloc, facts, Deed::Removed, paths.path.as_slice())?;
-    push_placed(alloc, paths, facts)
+    push(alloc, facts, false, Deed::Read, paths.path.as_slice())?;
+    push(alloc, facts, false, Deed::Left, paths.path.as_slice())?;
+    push_placed(alloc, Deed::Moved, paths, facts)
 }
 
 /// Adds that a file was given one more path.
-fn push_linked(alloc: Global, paths: &Paths, facts: &mut Items<Fact>) -> Result<(), AllocError>
-    ensures { OnOk result (facts.new ≡ with_linked facts.old paths.now) }
+fn push_linked(
+    alloc: Global,
+    call: &Call<'_>,
+    paths: &Paths,
+    facts: &mut Items<Fact>,
+) -> Result<(), AllocError>
+    ensures { OnOk result (facts.new ≡ with_linked facts.old (call_seen call.now) paths.now) }
 {
-    push(alloc, facts, Deed::Read, paths.path.as_slice())?;
-    push_placed(alloc, paths, facts)
+    push(
+        alloc,
+        facts,
+        follows(call),
+        Deed::Read,
+        paths.path.as_slice(),
+    )?;
+    push_placed(alloc, Deed::Linked, paths, facts)
 }
 
-/// Adds that a file has the second path, and had the first one before.
-fn push_placed(alloc: Global, paths: &Paths, facts: &mut Items<Fact>) -> Result<(), AllocError>
-    ensures { OnOk result (facts.new ≡ facts.old ++ placed paths.now ∷ []) }
+/// Adds that the second path was given to the file that has the first one, or had it before.
+fn push_placed(
+    alloc: Global,
+    deed: Deed,
+    paths: &Paths,
+    facts: &mut Items<Fact>,
+) -> Result<(), AllocError>
+    ensures { OnOk result (facts.new ≡ facts.old ++ placed deed paths.now ∷ []) }
 {
     let path = Bytes::from_slice(alloc, paths.other.as_slice())?;
-    let real = Some(Bytes::from_slice(alloc, paths.path.as_slice())?);
-    let deed = Deed::Linked;
+    let other = Some(Bytes::from_slice(alloc, paths.path.as_slice())?);
     let up = goes_up(path.as_slice());
     facts.push(Fact {
         deed,
         path,
-        real,
+        real: None,
+        other,
         up,
+        follows: false,
+    })?;
+    Ok(())
+}
+
+/// Adds that a link was made at the path, which leads to the other one as that is written.
+fn push_led(alloc: Global, paths: &Paths, facts: &mut Items<Fact>) -> Result<(), AllocError>
+    ensures { OnOk result (facts.new ≡ facts.old ++ led paths.now ∷ []) }
+{
+    let path = Bytes::from_slice(alloc, paths.path.as_slice())?;
+    let other = Some(Bytes::from_slice(alloc, paths.other.as_slice())?);
+    let up = goes_up(path.as_slice());
+    facts.push(Fact {
+        deed: Deed::Led,
+        path,
+        real: None,
+        other,
+        up,
+        follows: false,
     })?;
     Ok(())
 }
@@ -197,7 +254,7 @@ fn push_emptied(
 {
     let (_, length) = first_argument(arguments);
     if length == b"0".as_slice() {
-        push(alloc, facts, Deed::Emptied, path)?;
+        push(alloc, facts, false, Deed::Emptied, path)?;
     }
     Ok(())
 }
@@ -209,12 +266,12 @@ fn push_opened(
     path: &[u8],
     facts: &mut Items<Fact>,
 ) -> Result<(), AllocError>
-    ensures { OnOk result (facts.new ≡ facts.old ++ opened call.now.arguments.now path.now (descriptor call.now.answer.now)) }
+    ensures { OnOk result (facts.new ≡ facts.old ++ opened (call_seen call.now) path.now) }
 {
     let (first, second) = deeds(call.arguments);
-    push_real(alloc, facts, first, path, call.answer)?;
+    push_answered(alloc, call, first, path, facts)?;
     if let Some(second) = second {
-        push_real(alloc, facts, second, path, call.answer)?;
+        push_answered(alloc, call, second, path, facts)?;
     }
     Ok(())
 }
@@ -274,39 +331,48 @@ pub fn goes_up(path: &[u8]) -> bool
 }
 
 /// Adds what was done at a path.
-fn push(alloc: Global, facts: &mut Items<Fact>, deed: Deed, path: &[u8]) -> Result<(), AllocError>
-    ensures { OnOk result (facts.new ≡ facts.old ++ fact deed path.now ∷ []) }
+fn push(
+    alloc: Global,
+    facts: &mut Items<Fact>,
+    follows: bool,
+    deed: Deed,
+    path: &[u8],
+) -> Result<(), AllocError>
+    ensures { OnOk result (facts.new ≡ facts.old ++ fact follows deed path.now ∷ []) }
 {
     let up = goes_up(path);
     let path = Bytes::from_slice(alloc, path)?;
-    let real = None;
     facts.push(Fact {
         deed,
         path,
-        real,
+        real: None,
+        other: None,
         up,
+        follows,
     })?;
     Ok(())
 }
 
-/// Adds what was done at a path, with that which the answer tells.
-fn push_real(
+/// Adds what was done by the path of a call, with the file that its answer tells.
+fn push_answered(
     alloc: Global,
-    facts: &mut Items<Fact>,
+    call: &Call<'_>,
     deed: Deed,
     path: &[u8],
-    answer: &[u8],
+    facts: &mut Items<Fact>,
 ) -> Result<(), AllocError>
-    ensures { OnOk result (facts.new ≡ facts.old ++ told deed path.now (descriptor answer.now) ∷ []) }
+    ensures { OnOk result (facts.new ≡ facts.old ++ answered (call_seen call.now) deed path.now ∷ []) }
 {
     let up = goes_up(path);
     let path = Bytes::from_slice(alloc, path)?;
-    let real = descriptor(alloc, answer)?;
+    let real = descriptor(alloc, call.answer)?;
     facts.push(Fact {
         deed,
         path,
         real,
+        other: None,
         up,
+        follows: follows(call),
     })?;
     Ok(())
 }

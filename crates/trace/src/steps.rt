@@ -107,7 +107,9 @@ fn connected(alloc: Global, known: &Known, call: &Call<'_>) -> Result<Step, Allo
             deed: Deed::Connected,
             path: Bytes::from_slice(alloc, b"/")?,
             real: None,
+            other: None,
             up: goes_up(b"/"),
+            follows: false,
         })?;
     }
     Ok(step)

@@ -2,7 +2,7 @@ use Rattle.std.proofs.Common.{◌++◌, ◌∷◌, [], List, get_or, sym, subst,
 use Rattle.std.specs.List.{AllZip}
 use Rattle.std.proofs.lemmas.List.{take_more}
 use Rattle.std.proofs.lemmas.List.Elements.{AllZip-push}
-use Rattle.audit.specs.declared.seen.Whole.{Whole}
+use Rattle.audit.specs.declared.whole.Whole.{Whole}
 use Rattle.auditor.specs.Things.{IsGiven}
 use Rattle.auditor.proofs.given.renamed_all.Goals as goal
 

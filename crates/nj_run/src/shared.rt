@@ -1,0 +1,162 @@
+//! What an audit finds by one trace over all commands.
+
+use crate::links::learn_links;
+use auditor::{Auditor, Tally};
+use host::{Host, SHARED_TRACE};
+use model::Event;
+use shares::{Families, Lines, Share, Shares, TakesLines};
+use site::{Site, Texts};
+use std::alloc::{AllocError, Global};
+use std::io::Write;
+use text::Bytes;
+
+/// A command that was started.
+#[derive(Clone, Copy)]
+struct Started {
+    job: usize,
+    /// Whether it ended, and well.
+    ok: bool,
+    /// Whether it was looked at.
+    is_seen: bool,
+}
+
+/// Looks at all commands that ended well, by the lines of the one trace that are theirs. One whose lines are not all known counts as not
+/// understood.
+pub fn look_at_shares<W: Write>(
+    rt: &HostRuntime,
+    host: &mut Host<'_, W>,
+    auditor: &mut Auditor,
+    tally: &mut Tally,
+) -> Option<()> {
+    let alloc = rt.alloc();
+    let mut started = started_in(alloc, host.events()).ok()?;
+    if let Some(shares) = shares_in(alloc, host)? {
+        look_by(rt, host, auditor, shares, &mut started, tally)?;
+    }
+    for command in &started {
+        if command.ok && !command.is_seen {
+            auditor.take(command.job, None, tally).ok()?;
+        }
+    }
+    Some(())
+}
+
+/// The commands that were started, in order.
+fn started_in(alloc: Global, events: &[Event]) -> Result<Vec<Started>, AllocError> {
+    let mut started = Vec::new(alloc);
+    let mut running: Vec<usize> = Vec::new(alloc);
+    for event in events {
+        match event {
+            Event::Start { job, .. } => {
+                running.push(started.len())?;
+                started.push(Started {
+                    job: *job,
+                    ok: false,
+                    is_seen: false,
+                })?;
+            }
+            Event::Finish { job, ok } => finish(&mut started, &mut running, *job, *ok),
+        }
+    }
+    Ok(started)
+}
+
+/// Notes how one of those that run has ended.
+fn finish(started: &mut Vec<Started>, running: &mut Vec<usize>, job: usize, ok: bool) {
+    for place in 0..running.len() {
+        let index = running[place];
+        if index < started.len() && started[index].job == job {
+            started[index].ok = ok;
+            let _ = running.swap_remove(place);
+            return;
+        }
+    }
+}
+
+/// Whose each line of the trace is, by a first reading; none where it is not the trace of just the processes that were started.
+fn shares_in<W: Write>(alloc: Global, host: &mut Host<'_, W>) -> Option<Option<Shares>> {
+    let mut lines = Lines::new(alloc, Families::new(alloc));
+    if host.read_into(SHARED_TRACE, &mut lines).is_err() {
+        return Some(None);
+    }
+    let families = lines.into_taker();
+    if !are_all(alloc, families.commands.as_slice(), host.numbers()).ok()? {
+        return Some(None);
+    }
+    Some(Some(Shares::new(alloc, &families).ok()?))
+}
+
+/// Whether the trace tells of just these processes, in this order.
+fn are_all(alloc: Global, told: &[Bytes], numbers: &[i32]) -> Result<bool, AllocError> {
+    if told.len() != numbers.len() {
+        return Ok(false);
+    }
+    for (one, number) in told.iter().zip(numbers.iter()) {
+        let number = format!(in alloc; "{number}")?;
+        if one.as_slice() != number.as_bytes() {
+            return Ok(false);
+        }
+    }
+    Ok(true)
+}
+
+/// Reads the trace once more, and looks at each command once all of its lines were read.
+fn look_by<W: Write>(
+    rt: &HostRuntime,
+    host: &mut Host<'_, W>,
+    auditor: &mut Auditor,
+    shares: Shares,
+    started: &mut Vec<Started>,
+    tally: &mut Tally,
+) -> Option<()> {
+    let mut lines = Lines::new(
+        rt.alloc(),
+        Looking {
+            rt,
+            auditor,
+            shares,
+            started,
+            tally,
+        },
+    );
+    host.read_into(SHARED_TRACE, &mut lines).ok()
+}
+
+/// Who looks at commands while their lines are read.
+#[derive(Drop)]
+struct Looking<'a> {
+    rt: &'a HostRuntime,
+    auditor: &'a mut Auditor,
+    shares: Shares,
+    started: &'a mut Vec<Started>,
+    tally: &'a mut Tally,
+}
+
+impl<'a> TakesLines for Looking<'a> {
+    ghost use Rattle.std.specs.Prelude.{⊤};
+
+    ghost Read = { λ lines looking. ⊤ };
+
+    fn take_line(&mut self, alloc: Global, line: &[u8]) -> Result<(), AllocError> {
+        match self.shares.take_line(alloc, line)? {
+            Some(share) => self.look_at(&share),
+            None => Ok(()),
+        }
+    }
+}
+
+impl<'a> Looking<'a> {
+    fn look_at(&mut self, share: &Share) -> Result<(), AllocError> {
+        if share.command >= self.started.len() {
+            return Ok(());
+        }
+        let started = self.started[share.command];
+        self.started[share.command].is_seen = true;
+        if !started.ok {
+            return Ok(());
+        }
+        let trace = share.text.as_slice();
+        learn_links(self.rt, self.auditor, trace).ok_or(AllocError)?;
+        self.auditor.take(started.job, Some(trace), self.tally)
+    }
+}
