@@ -1,5 +1,8 @@
 //! What an audit finds, once a build has ended: each command that was started in it has left a trace.
 
+ghost use Rattle.host.specs.World.{world_of};
+ghost use Rattle.nj_run.specs.Looked.{StartsNothing};
+
 use crate::anew::{auditor_of, take_trace};
 use crate::links::learn_links;
 use crate::shared::look_at_shares;
@@ -47,7 +50,9 @@ pub fn look<W: Write>(
     options: &Options,
     targets: &[Text],
     place: Place<'_>,
-) -> Option<Tally> {
+) -> Option<Tally>
+    ensures { StartsNothing (world_of host.old) (world_of host.new) }
+{
     let is_shared = place.is_shared;
     let tally = match place.folder {
         Some(folder) => look_here(
@@ -77,7 +82,9 @@ fn look_here<W: Write>(
     options: &Options,
     targets: &[Text],
     here: Here<'_>,
-) -> Option<Tally> {
+) -> Option<Tally>
+    ensures { StartsNothing (world_of host.old) (world_of host.new) }
+{
     let alloc = rt.alloc();
     let Reading { manifest, asked } = builder::read(alloc, host, options, targets).ok()?;
     let mut auditor = auditor_of(rt, host, manifest, asked.folder.as_str(), here)?;
@@ -109,7 +116,9 @@ fn look_at_all<W: Write>(
     host: &mut Host<'_, W>,
     auditor: &mut Auditor,
     tally: &mut Tally,
-) -> Option<()> {
+) -> Option<()>
+    ensures { StartsNothing (world_of host.old) (world_of host.new) }
+{
     let ended = ended_in(rt.alloc(), host).ok()?;
     for end in &ended {
         look_at(rt, host, auditor, *end, tally)?;
@@ -118,7 +127,9 @@ fn look_at_all<W: Write>(
 }
 
 /// Removes the traces that nobody looks at, as far as there is memory to name them.
-fn let_traces_go<W: Write>(alloc: Global, host: &mut Host<'_, W>) -> Result<(), AllocError> {
+fn let_traces_go<W: Write>(alloc: Global, host: &mut Host<'_, W>) -> Result<(), AllocError>
+    ensures { StartsNothing (world_of host.old) (world_of host.new) }
+{
     let ended = ended_in(alloc, host)?;
     for end in &ended {
         let _ = take_trace(host, end.job);
@@ -144,7 +155,9 @@ fn look_at<W: Write>(
     auditor: &mut Auditor,
     end: Ended,
     tally: &mut Tally,
-) -> Option<()> {
+) -> Option<()>
+    ensures { StartsNothing (world_of host.old) (world_of host.new) }
+{
     let trace = take_trace(host, end.job);
     if !end.ok {
         return Some(());

@@ -1,5 +1,11 @@
 //! What an audit finds by one trace over all commands.
 
+ghost use Rattle.std.specs.Prelude.{◌≡◌, IfOk, IsTrue, map};
+ghost use Rattle.core.specs.Fmt.{signed_decimal};
+ghost use Rattle.host.specs.World.{world_of};
+ghost use Rattle.nj_run.specs.Looked.{StartsNothing};
+ghost use Rattle.nj_run.specs.Shared.{jobs_of, jobs_started};
+
 use crate::links::learn_links;
 use auditor::{Auditor, Tally};
 use host::{Host, SHARED_TRACE};
@@ -27,7 +33,9 @@ pub fn look_at_shares<W: Write>(
     host: &mut Host<'_, W>,
     auditor: &mut Auditor,
     tally: &mut Tally,
-) -> Option<()> {
+) -> Option<()>
+    ensures { StartsNothing (world_of host.old) (world_of host.new) }
+{
     let alloc = rt.alloc();
     let mut started = started_in(alloc, host.events()).ok()?;
     if let Some(shares) = shares_in(alloc, host)? {
@@ -42,7 +50,9 @@ pub fn look_at_shares<W: Write>(
 }
 
 /// The commands that were started, in order.
-fn started_in(alloc: Global, events: &[Event]) -> Result<Vec<Started>, AllocError> {
+fn started_in(alloc: Global, events: &[Event]) -> Result<Vec<Started>, AllocError>
+    ensures { IfOk result (λ started. jobs_of started.items ≡ jobs_started events.now) }
+{
     let mut started = Vec::new(alloc);
     let mut running: Vec<usize> = Vec::new(alloc);
     for event in events {
@@ -62,7 +72,9 @@ fn started_in(alloc: Global, events: &[Event]) -> Result<Vec<Started>, AllocErro
 }
 
 /// Notes how one of those that run has ended.
-fn finish(started: &mut Vec<Started>, running: &mut Vec<usize>, job: usize, ok: bool) {
+fn finish(started: &mut Vec<Started>, running: &mut Vec<usize>, job: usize, ok: bool)
+    ensures { jobs_of started.new.items ≡ jobs_of started.old.items }
+{
     for place in 0..running.len() {
         let index = running[place];
         if index < started.len() && started[index].job == job {
@@ -74,7 +86,9 @@ fn finish(started: &mut Vec<Started>, running: &mut Vec<usize>, job: usize, ok: 
 }
 
 /// Whose each line of the trace is, by a first reading; none where it is not the trace of just the processes that were started.
-fn shares_in<W: Write>(alloc: Global, host: &mut Host<'_, W>) -> Option<Option<Shares>> {
+fn shares_in<W: Write>(alloc: Global, host: &mut Host<'_, W>) -> Option<Option<Shares>>
+    ensures { StartsNothing (world_of host.old) (world_of host.new) }
+{
     let mut lines = Lines::new(alloc, Families::new(alloc));
     if host.read_into(SHARED_TRACE, &mut lines).is_err() {
         return Some(None);
@@ -87,17 +101,28 @@ fn shares_in<W: Write>(alloc: Global, host: &mut Host<'_, W>) -> Option<Option<S
 }
 
 /// Whether the trace tells of just these processes, in this order.
-fn are_all(alloc: Global, told: &[Bytes], numbers: &[i32]) -> Result<bool, AllocError> {
-    if told.len() != numbers.len() {
-        return Ok(false);
-    }
-    for (one, number) in told.iter().zip(numbers.iter()) {
-        let number = format!(in alloc; "{number}")?;
-        if one.as_slice() != number.as_bytes() {
+fn are_all(alloc: Global, told: &[Bytes], numbers: &[i32]) -> Result<bool, AllocError>
+    ensures { IfOk result (λ all. IsTrue all → told.now ≡ map signed_decimal numbers.now) }
+{
+    let mut left = told;
+    for number in numbers {
+        let Some((one, behind)) = left.split_first() else {
+            return Ok(false);
+        };
+        if !is_number(alloc, one.as_slice(), *number)? {
             return Ok(false);
         }
+        left = behind;
     }
-    Ok(true)
+    Ok(left.is_empty())
+}
+
+/// Whether the text is this number, as a trace writes it.
+fn is_number(alloc: Global, text: &[u8], number: i32) -> Result<bool, AllocError>
+    ensures { IfOk result (λ is. IsTrue is → text.now ≡ signed_decimal number) }
+{
+    let number = format!(in alloc; "{number}")?;
+    Ok(text == number.as_bytes())
 }
 
 /// Reads the trace once more, and looks at each command once all of its lines were read.
@@ -108,7 +133,9 @@ fn look_by<W: Write>(
     shares: Shares,
     started: &mut Vec<Started>,
     tally: &mut Tally,
-) -> Option<()> {
+) -> Option<()>
+    ensures { StartsNothing (world_of host.old) (world_of host.new) }
+{
     let mut lines = Lines::new(
         rt.alloc(),
         Looking {
