@@ -1,7 +1,7 @@
 //! Which files stand below the folder for scratch files before a build begins.
 
 use paths::Paths;
-use std::alloc::{AllocError, Global};
+use std::alloc::Global;
 use std::{env, fs, io};
 
 /// The files below the folder to which `TMPDIR` leads, links followed, where that is below the working folder, each from the root; none where
@@ -30,7 +30,7 @@ fn scratch_folder(rt: &HostRuntime) -> Option<String> {
 fn files_below(alloc: Global, rt: &HostRuntime, folder: String) -> io::Result<Paths> {
     let mut found = Paths::new(alloc);
     let mut open = Vec::with_capacity(alloc, 1)?;
-    open.push(folder).map_err(AllocError::from)?;
+    open.push(folder)?;
     for _ in 0..usize::MAX {
         let Some(folder) = open.pop() else {
             return Ok(found);
@@ -52,8 +52,7 @@ fn push_files(
         let entry = entry?;
         let path = entry.path();
         if fs::symlink_metadata(rt, path.as_str())?.is_dir() {
-            let folder = String::from_str(alloc, path.as_str())?;
-            open.push(folder).map_err(AllocError::from)?;
+            open.push(String::from_str(alloc, path.as_str())?)?;
         } else {
             found.add(alloc, path.as_str())?;
         }
