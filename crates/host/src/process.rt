@@ -155,12 +155,16 @@ impl Process {
         ensures number { (number : ℤ) → IsOf number self.old.state → IsOf number self.new.state }
         ensures ended { IfOk result (λ status. status ≡ status_in self.new.state) }
     {
-        if let State::Runs(number) = self.state {
-            if let Some(status) = waited(number)? {
+        let State::Runs(number) = self.state else {
+            return Ok(self.status());
+        };
+        match waited(number)? {
+            Some(status) => {
                 self.state = State::Ended(status);
+                Ok(Some(status))
             }
+            None => Ok(None),
         }
-        Ok(self.status())
     }
 
     /// How it ended, if it is known.
