@@ -53,27 +53,38 @@ pub fn look<W: Write>(
 ) -> Option<Tally>
     ensures { StartsNothing (world_of host.old) (world_of host.new) }
 {
-    let is_shared = place.is_shared;
-    let tally = match place.folder {
-        Some(folder) => look_here(
-            rt,
-            host,
-            options,
-            targets,
-            Here {
-                folder,
-                left: place.left,
-                is_shared,
-            },
-        ),
-        None => None,
+    let tally = look_in(rt, host, options, targets, place);
+    let_go(rt.alloc(), host, place.is_shared, tally.is_some());
+    tally
+}
+
+/// The same, but that traces stay which were not looked at.
+fn look_in<W: Write>(
+    rt: &HostRuntime,
+    host: &mut Host<'_, W>,
+    options: &Options,
+    targets: &[Text],
+    place: Place<'_>,
+) -> Option<Tally>
+    ensures { StartsNothing (world_of host.old) (world_of host.new) }
+{
+    let here = Here {
+        folder: place.folder?,
+        left: place.left,
+        is_shared: place.is_shared,
     };
+    look_here(rt, host, options, targets, here)
+}
+
+/// Removes the one trace over all commands, or, where nobody looked at those of each, these.
+fn let_go<W: Write>(alloc: Global, host: &mut Host<'_, W>, is_shared: bool, was_looked: bool)
+    ensures { StartsNothing (world_of host.old) (world_of host.new) }
+{
     if is_shared {
         let _ = host.remove(SHARED_TRACE);
-    } else if tally.is_none() {
-        let _ = let_traces_go(rt.alloc(), host);
+    } else if !was_looked {
+        let _ = let_traces_go(alloc, host);
     }
-    tally
 }
 
 fn look_here<W: Write>(
@@ -91,12 +102,25 @@ fn look_here<W: Write>(
     let commands = auditor.commands(asked.targets.as_slice())?;
     let mut tally = Tally::new(alloc, commands);
     take_left(alloc, here, &mut tally)?;
-    if here.is_shared {
-        look_at_shares(rt, host, &mut auditor, &mut tally)?;
-    } else {
-        look_at_all(rt, host, &mut auditor, &mut tally)?;
-    }
+    look_at_these(rt, host, &mut auditor, &mut tally, here.is_shared)?;
     Some(tally)
+}
+
+/// Looks at the commands that ended well, by the one trace or by that of each.
+fn look_at_these<W: Write>(
+    rt: &HostRuntime,
+    host: &mut Host<'_, W>,
+    auditor: &mut Auditor,
+    tally: &mut Tally,
+    is_shared: bool,
+) -> Option<()>
+    ensures { StartsNothing (world_of host.old) (world_of host.new) }
+{
+    if is_shared {
+        look_at_shares(rt, host, auditor, tally)
+    } else {
+        look_at_all(rt, host, auditor, tally)
+    }
 }
 
 /// Takes in the files that stood below the folder for scratch files.

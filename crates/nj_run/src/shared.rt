@@ -38,10 +38,38 @@ pub fn look_at_shares<W: Write>(
 {
     let alloc = rt.alloc();
     let mut started = started_in(alloc, host.events()).ok()?;
-    if let Some(shares) = shares_in(alloc, host)? {
-        look_by(rt, host, auditor, shares, &mut started, tally)?;
+    look_at_known(rt, host, auditor, &mut started, tally)?;
+    take_unseen(auditor, started.as_slice(), tally)
+}
+
+/// Looks at those whose lines are all known; at none where the trace is not that of just the processes that were started.
+fn look_at_known<W: Write>(
+    rt: &HostRuntime,
+    host: &mut Host<'_, W>,
+    auditor: &mut Auditor,
+    started: &mut Vec<Started>,
+    tally: &mut Tally,
+) -> Option<()>
+    ensures { StartsNothing (world_of host.old) (world_of host.new) }
+{
+    match shares_in(rt.alloc(), host)? {
+        Some(shares) => {
+            let looking = Looking {
+                rt,
+                auditor,
+                shares,
+                started,
+                tally,
+            };
+            look_by(host, looking)
+        }
+        None => Some(()),
     }
-    for command in &started {
+}
+
+/// Takes in those that ended well and were not looked at.
+fn take_unseen(auditor: &Auditor, started: &[Started], tally: &mut Tally) -> Option<()> {
+    for command in started {
         if command.ok && !command.is_seen {
             auditor.take(command.job, None, tally).ok()?;
         }
@@ -126,26 +154,10 @@ fn is_number(alloc: Global, text: &[u8], number: i32) -> Result<bool, AllocError
 }
 
 /// Reads the trace once more, and looks at each command once all of its lines were read.
-fn look_by<W: Write>(
-    rt: &HostRuntime,
-    host: &mut Host<'_, W>,
-    auditor: &mut Auditor,
-    shares: Shares,
-    started: &mut Vec<Started>,
-    tally: &mut Tally,
-) -> Option<()>
+fn look_by<W: Write>(host: &mut Host<'_, W>, looking: Looking<'_>) -> Option<()>
     ensures { StartsNothing (world_of host.old) (world_of host.new) }
 {
-    let mut lines = Lines::new(
-        rt.alloc(),
-        Looking {
-            rt,
-            auditor,
-            shares,
-            started,
-            tally,
-        },
-    );
+    let mut lines = Lines::new(looking.rt.alloc(), looking);
     host.read_into(SHARED_TRACE, &mut lines).ok()
 }
 
