@@ -168,6 +168,7 @@ impl<'a> Disk<'a> {
     }
 
     /// What stands at the path, in one look, or nothing where nothing stands there.
+    #[inline(always)]
     pub fn measure(&self, path: &str) -> io::Result<Option<Standing>> {
         let found = fs::metadata(self.rt, path);
         if is_no_name(&found) {

@@ -391,9 +391,20 @@ impl<S: Measured, B: Beginning> Retold<S, B> {
         self.site.read(path)
     }
 
-    /// Hands what one of the program's own files holds to the taker.
-    fn read_own_into<T: Takes>(&mut self, path: &str, taker: &mut T) -> Result<(), SiteFault>
-        requires { is_own self.old.known.own path.now ≡ true }
+    /// Whether the file at the path counts as it is there: before a build has begun, and where it is one of the program's own.
+    fn is_plain(&self, path: &str) -> bool
+        ensures { IsTrue S.tells → result ≡ true → is_own self.now.known.own path.now ≡ true }
+    {
+        if self.is_begun {
+            self.known.own.has(path)
+        } else {
+            true
+        }
+    }
+
+    /// Hands what the file at the path holds to the taker, which counts as it is there: piece by piece, where the site below does so.
+    fn read_plain_into<T: Takes>(&mut self, path: &str, taker: &mut T) -> Result<(), SiteFault>
+        requires { IsTrue S.tells → is_own self.old.known.own path.now ≡ true }
         ensures looks { OnlyLooks S.tells (told_world S.tells B.begun (S.world self.old.site)) (told_world S.tells B.begun (S.world self.new.site)) }
         ensures cause { HasCause (told_world S.tells B.begun (S.world self.old.site)) (told_world S.tells B.begun (S.world self.new.site)) result }
         ensures waits { KeepsWait (told_world S.tells B.begun (S.world self.old.site)) (told_world S.tells B.begun (S.world self.new.site)) }
@@ -482,8 +493,8 @@ impl<S: Measured, B: Beginning> Texts for Retold<S, B> {
     }
 
     fn read_into<T: Takes>(&mut self, path: &str, taker: &mut T) -> Result<(), SiteFault> {
-        if self.known.own.has(path) {
-            self.read_own_into(path, taker)
+        if self.is_plain(path) {
+            self.read_plain_into(path, taker)
         } else {
             self.read_counted_into(path, taker)
         }

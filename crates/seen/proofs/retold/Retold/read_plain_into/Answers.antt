@@ -3,7 +3,7 @@ use Rattle.seen.proofs.Kept.{looks_keep}
 use Rattle.seen.proofs.Since.{looks_stay}
 use Rattle.seen.proofs.Told.{looks_on, ok_on}
 use Rattle.seen.proofs.Looks.{content_on, own_seen}
-use Rattle.seen.proofs.retold.Retold.read_own_into.Goals as goal
+use Rattle.seen.proofs.retold.Retold.read_plain_into.Goals as goal
 
 -- nothing else is known
 pub invariant_of-self : goal.invariant_of-self
@@ -36,5 +36,5 @@ returns-clause-content g c = ok_on c.read_into.result (λ takes nothing.
       took.0,
       took.1,
       content_on g.S.Texts.tells g.B.Beginning.begun (g.S.Texts.world c.args.self.now.site) (g.S.Texts.world c.read_into.new.self) c.args.self.now.so_far c.args.self.now.begins c.answers_are_told.ensures c.read_into.ensures.looks c.args.path.now took.0
-          (λ tells. own_seen g.B.Beginning.begun c.args.self.now.known (g.S.Texts.world c.args.self.now.site) (g.S.Texts.world c.read_into.new.self) c.args.path.now (c.args.self.now.counted tells c.args.path.now) (c.args.self.now.started tells c.args.path.now) took.0 c.requires (took.2 tells)),
+          (λ tells. own_seen g.B.Beginning.begun c.args.self.now.known (g.S.Texts.world c.args.self.now.site) (g.S.Texts.world c.read_into.new.self) c.args.path.now (c.args.self.now.counted tells c.args.path.now) (c.args.self.now.started tells c.args.path.now) took.0 (c.requires tells) (took.2 tells)),
     )) c.read_into.ensures.content
