@@ -1,7 +1,7 @@
 //! What an audit finds by one trace over all commands.
 
 ghost use Rattle.std.specs.Prelude.{◌≡◌, IfOk, IsTrue, map};
-ghost use Rattle.core.specs.Fmt.{signed_decimal};
+ghost use Rattle.std.specs.Fmt.{signed_decimal};
 ghost use Rattle.host.specs.World.{world_of};
 ghost use Rattle.nj_run.specs.Looked.{StartsNothing};
 ghost use Rattle.nj_run.specs.Shared.{jobs_of, jobs_started};
