@@ -1,6 +1,6 @@
 //! What an audit finds by one trace over all commands.
 
-ghost use Rattle.std.specs.Prelude.{◌≡◌, IfOk, IfSome, IsTrue, map};
+ghost use Rattle.std.specs.Prelude.{◌≡◌, ◌<◌, IfOk, IfSome, IsTrue, map, vec_len};
 ghost use Rattle.std.specs.Fmt.{signed_decimal};
 ghost use Rattle.host.specs.World.{world_of};
 ghost use Rattle.nj_run.specs.Looked.{StartsNothing};
@@ -24,6 +24,14 @@ struct Started {
     ok: bool,
     /// Whether it was looked at.
     is_seen: bool,
+}
+
+impl Started {
+    fn end(&mut self, ok: bool)
+        ensures { self.new.job ≡ self.old.job }
+    {
+        self.ok = ok;
+    }
 }
 
 /// Looks at all commands that ended well, by the lines of the one trace that are theirs. One whose lines are not all known counts as not
@@ -106,11 +114,19 @@ fn finish(started: &mut Vec<Started>, running: &mut Vec<usize>, job: usize, ok: 
     for place in 0..running.len() {
         let index = running[place];
         if index < started.len() && started[index].job == job {
-            started[index].ok = ok;
+            finish_at(started, index, ok);
             let _ = running.swap_remove(place);
             return;
         }
     }
+}
+
+/// Notes how the command in this place has ended.
+fn finish_at(started: &mut Vec<Started>, index: usize, ok: bool)
+    requires { index < vec_len started.old }
+    ensures { jobs_of started.new.items ≡ jobs_of started.old.items }
+{
+    started[index].end(ok);
 }
 
 /// Whose each line of the trace is, by a first reading; none where it is not the trace of just the processes that were started.
