@@ -14,7 +14,7 @@ use paths::{PathId, Paths};
 use site::Site;
 use std::alloc::{AllocError, Global};
 use std::io::Write;
-use text::Text;
+use text::{Path, Text};
 
 /// The same, where the working folder is a text.
 #[derive(Clone, Copy)]
@@ -99,24 +99,37 @@ fn look_here<W: Write>(
     let alloc = rt.alloc();
     let Reading { manifest, asked } = builder::read(alloc, host, options, targets).ok()?;
     let mut auditor = auditor_of(rt, host, manifest, asked.folder.as_str(), here)?;
-    let commands = auditor.commands(asked.targets.as_slice())?;
-    let mut tally = Tally::new(alloc, commands);
-    take_left(alloc, here, &mut tally)?;
-    look_at_these(rt, host, &mut auditor, &mut tally, here.is_shared)?;
+    look_by(rt, host, &mut auditor, asked.targets.as_slice(), here)
+}
+
+/// The same by what is declared and recorded.
+fn look_by<W: Write>(
+    rt: &HostRuntime,
+    host: &mut Host<'_, W>,
+    auditor: &mut Auditor,
+    targets: &[Path],
+    here: Here<'_>,
+) -> Option<Tally>
+    ensures { StartsNothing (world_of host.old) (world_of host.new) }
+{
+    let commands = auditor.commands(targets)?;
+    let mut tally = Tally::new(rt.alloc(), commands);
+    look_at_these(rt, host, auditor, &mut tally, here)?;
     Some(tally)
 }
 
-/// Looks at the commands that ended well, by the one trace or by that of each.
+/// Takes in what stood before the build, and looks at the commands that ended well, by the one trace or by that of each.
 fn look_at_these<W: Write>(
     rt: &HostRuntime,
     host: &mut Host<'_, W>,
     auditor: &mut Auditor,
     tally: &mut Tally,
-    is_shared: bool,
+    here: Here<'_>,
 ) -> Option<()>
     ensures { StartsNothing (world_of host.old) (world_of host.new) }
 {
-    if is_shared {
+    take_left(rt.alloc(), here, tally)?;
+    if here.is_shared {
         look_at_shares(rt, host, auditor, tally)
     } else {
         look_at_all(rt, host, auditor, tally)

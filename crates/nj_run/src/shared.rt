@@ -1,10 +1,10 @@
 //! What an audit finds by one trace over all commands.
 
-ghost use Rattle.std.specs.Prelude.{◌≡◌, IfOk, IsTrue, map};
-ghost use Rattle.core.specs.Fmt.{signed_decimal};
+ghost use Rattle.std.specs.Prelude.{◌≡◌, ◌<◌, IfOk, IfSome, IsTrue, map, vec_len};
+ghost use Rattle.std.specs.Fmt.{signed_decimal};
 ghost use Rattle.host.specs.World.{world_of};
 ghost use Rattle.nj_run.specs.Looked.{StartsNothing};
-ghost use Rattle.nj_run.specs.Shared.{jobs_of, jobs_started};
+ghost use Rattle.nj_run.specs.Shared.{AreSharesOf, jobs_of, jobs_started};
 
 use crate::links::learn_links;
 use auditor::{Auditor, Tally};
@@ -24,6 +24,14 @@ struct Started {
     ok: bool,
     /// Whether it was looked at.
     is_seen: bool,
+}
+
+impl Started {
+    fn end(&mut self, ok: bool)
+        ensures { self.new.job ≡ self.old.job }
+    {
+        self.ok = ok;
+    }
 }
 
 /// Looks at all commands that ended well, by the lines of the one trace that are theirs. One whose lines are not all known counts as not
@@ -106,26 +114,48 @@ fn finish(started: &mut Vec<Started>, running: &mut Vec<usize>, job: usize, ok: 
     for place in 0..running.len() {
         let index = running[place];
         if index < started.len() && started[index].job == job {
-            started[index].ok = ok;
+            finish_at(started, index, ok);
             let _ = running.swap_remove(place);
             return;
         }
     }
 }
 
+/// Notes how the command in this place has ended.
+fn finish_at(started: &mut Vec<Started>, index: usize, ok: bool)
+    requires { index < vec_len started.old }
+    ensures { jobs_of started.new.items ≡ jobs_of started.old.items }
+{
+    started[index].end(ok);
+}
+
 /// Whose each line of the trace is, by a first reading; none where it is not the trace of just the processes that were started.
 fn shares_in<W: Write>(alloc: Global, host: &mut Host<'_, W>) -> Option<Option<Shares>>
     ensures { StartsNothing (world_of host.old) (world_of host.new) }
 {
+    match families_in(alloc, host) {
+        Some(families) => shares_of(alloc, &families, host.numbers()),
+        None => Some(None),
+    }
+}
+
+/// Which process started which, where the trace can be read.
+fn families_in<W: Write>(alloc: Global, host: &mut Host<'_, W>) -> Option<Families>
+    ensures { StartsNothing (world_of host.old) (world_of host.new) }
+{
     let mut lines = Lines::new(alloc, Families::new(alloc));
-    if host.read_into(SHARED_TRACE, &mut lines).is_err() {
+    host.read_into(SHARED_TRACE, &mut lines).ok()?;
+    Some(lines.into_taker())
+}
+
+/// Whose each line is of a trace that tells this; none where it does not tell of just the processes of these numbers.
+fn shares_of(alloc: Global, families: &Families, numbers: &[i32]) -> Option<Option<Shares>>
+    ensures { IfSome result (λ found. IfSome found (AreSharesOf families.now numbers.now)) }
+{
+    if !are_all(alloc, families.commands.as_slice(), numbers).ok()? {
         return Some(None);
     }
-    let families = lines.into_taker();
-    if !are_all(alloc, families.commands.as_slice(), host.numbers()).ok()? {
-        return Some(None);
-    }
-    Some(Some(Shares::new(alloc, &families).ok()?))
+    Some(Some(Shares::new(alloc, families).ok()?))
 }
 
 /// Whether the trace tells of just these processes, in this order.

@@ -1,5 +1,5 @@
 use Rattle.std.proofs.Common.{◌≡◌, drop, map}
-use Rattle.core.specs.Fmt.{signed_decimal}
+use Rattle.std.specs.Fmt.{signed_decimal}
 use Rattle.nj_run.proofs.shared.are_all.Given as goal
 
 abbrev pub invariant-loop-number : goal.invariant-loop-number
