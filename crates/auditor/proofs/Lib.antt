@@ -1,3 +1,4 @@
 mod Judged
 mod Things
 mod Through
+mod Counted

@@ -2,6 +2,8 @@
 use Rattle.std.specs.Prelude.{◌≡◌, ◌≢◌, ℕ, ◌&&◌, not, Bool, true, false, List, Option, Some, None, bytes_eq}
 use Rattle.audit.specs.declared.lead.Way.{Way}
 use Rattle.audit.specs.declared.lead.Way.TheVariants.{Own, At, Twin}
+use Rattle.audit.specs.declared.standing.Stands.{Stands}
+use Rattle.audit.specs.declared.standing.Stands.TheVariants.{File, Link}
 use Rattle.audit.specs.declared.seen.By.{By}
 use Rattle.audit.specs.declared.seen.By.TheVariants.{Name, Both}
 use Rattle.audit.specs.declared.whole.Whole.{Whole}
@@ -33,3 +35,8 @@ is_through_own whole = is_elsewhere whole.path whole.real && leads_through whole
 pub record CountsThrough (whole : Whole) (by : By) : Type 0 where
   pub at : is_at_own whole ≡ true → by ≡ Both
   pub through : is_through_own whole ≡ true → by ≢ Name
+
+-- what stands at a path of which it is told where the link leads that stands there, or that none does
+abbrev pub learned : Option (List ℕ) → Stands
+learned None = File
+learned (Some target) = Link target

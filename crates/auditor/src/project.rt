@@ -6,9 +6,10 @@ ghost use Rattle.std.specs.List.{AllZip};
 ghost use Rattle.std.specs.Option.{option_map};
 ghost use Rattle.trace.specs.Lines.{IsTold, told};
 ghost use Rattle.audit.specs.Seen.{sums_in};
+ghost use Rattle.audit.specs.Standing.{put};
 ghost use Rattle.model.specs.Graph.{has};
 ghost use Rattle.auditor.specs.Left.{with_left, with_one};
-ghost use Rattle.auditor.specs.Links.{CountsThrough};
+ghost use Rattle.auditor.specs.Links.{CountsThrough, learned};
 ghost use Rattle.auditor.specs.Scratch.{AreAround, IsFrontIn, is_scratch};
 ghost use Rattle.auditor.specs.Tally.{AreCounted, AreFound, AreSums, IsCountedBy, IsCountedOf, TakesIn, TakesTold, Tells};
 ghost use Rattle.auditor.specs.Things.{AreThings};
@@ -81,7 +82,9 @@ impl Auditor {
     }
 
     /// Takes in where a link leads that stands at a path, as it is written, or that none does.
-    pub fn learn(&mut self, path: &str, target: Option<&str>) -> Result<(), AllocError> {
+    pub fn learn(&mut self, path: &str, target: Option<&str>) -> Result<(), AllocError>
+        ensures { OnOk result (self.new.links ≡ put self.old.links path.now (learned (option_map deref target.entry))) }
+    {
         let stands = match target {
             Some(target) => Stands::Link(Path::from_str(self.alloc, target)?),
             None => Stands::File,
@@ -214,15 +217,27 @@ impl Auditor {
     ) -> Result<(), AllocError>
         ensures { OnOk result (IsCountedOf self.now.scratch wholes.now tally.old tally.new) }
     {
-        if connects(wholes) {
-            self.tell_note(
-                edge,
-                "connects to a server, and what that does is not seen",
-                tally,
-            )?;
-        }
+        self.tell_connected(edge, wholes, tally)?;
         let lists = lists_of(self.alloc, self.declared(), edge)?;
-        self.take_lists(edge, wholes, &lists, tally)
+        self.take_lists(edge, wholes, &lists, tally)?;
+        Ok(())
+    }
+
+    /// Notes that a server was asked, if one was.
+    fn tell_connected(
+        &self,
+        edge: EdgeId,
+        wholes: &[Whole],
+        tally: &mut Tally,
+    ) -> Result<(), AllocError>
+        ensures counts { tally.new.counts ≡ tally.old.counts }
+        ensures left { tally.new.left ≡ tally.old.left }
+    {
+        if connects(wholes) {
+            let note = "connects to a server, and what that does is not seen";
+            return self.tell_note(edge, note, tally);
+        }
+        Ok(())
     }
 
     fn take_lists(

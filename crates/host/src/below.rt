@@ -38,8 +38,10 @@ pub struct Below<'a> {
 
 impl<'a> Below<'a> {
     /// Runs the program with these words and the program's own variables, input and output, and answers its status, unless a signal ended it or
-    /// that is not known. It fails where nothing was started.
-    pub fn run<S: AsStr>(&self, alloc: Global, words: &[S]) -> io::Result<Option<i32>> {
+    /// that is not known. It fails where nothing was started, also where one of the words has a NUL.
+    pub fn run<S: AsStr>(&self, alloc: Global, words: &[S]) -> io::Result<Option<i32>>
+        ensures { IfOk result (λ _. AreWhole (map S.text words.now)) }
+    {
         let block = variables(alloc)?;
         let words = self.words(alloc, words, sets_locale(block.as_slice()))?;
         let mut process = Process::start(&self.handed(alloc, words, block.as_slice())?)?;

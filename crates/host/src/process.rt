@@ -151,22 +151,20 @@ impl Process {
     }
 
     /// Waits until it has ended, however often a signal comes.
-    pub fn wait(&mut self) -> io::Result<Option<Status>> {
+    pub fn wait(&mut self) -> io::Result<Option<Status>>
+        ensures number { (number : ℤ) → IsOf number self.old.state → IsOf number self.new.state }
+        ensures ended { IfOk result (λ status. status ≡ status_in self.new.state) }
+    {
         let State::Runs(number) = self.state else {
             return Ok(self.status());
         };
-        for _ in 0..u64::MAX {
-            match asked(number, true) {
-                Ok(Some(status)) => {
-                    self.state = State::Ended(status);
-                    return Ok(Some(status));
-                }
-                Ok(None) => {}
-                Err(reason) if reason.kind() == ErrorKind::Interrupted => {}
-                Err(reason) => return Err(reason),
+        match waited(number)? {
+            Some(status) => {
+                self.state = State::Ended(status);
+                Ok(Some(status))
             }
+            None => Ok(None),
         }
-        Ok(None)
     }
 
     /// How it ended, if it is known.
@@ -178,6 +176,21 @@ impl Process {
             State::Runs(_) | State::Lost => None,
         }
     }
+}
+
+/// How the process of this number ended, once it has, however often a signal comes.
+fn waited(number: Number) -> io::Result<Option<Status>>
+    ensures { IfOk result (λ found. IfSome found (λ status. status.of ≡ number.value)) }
+{
+    for _ in 0..u64::MAX {
+        match asked(number, true) {
+            Ok(Some(status)) => return Ok(Some(status)),
+            Ok(None) => {}
+            Err(reason) if reason.kind() == ErrorKind::Interrupted => {}
+            Err(reason) => return Err(reason),
+        }
+    }
+    Ok(None)
 }
 
 /// How the process of this number ended, or nothing while it runs. Where it is to wait, it does so until then, or until a signal comes.

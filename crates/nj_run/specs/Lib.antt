@@ -1,4 +1,5 @@
 pub mod Options
+pub mod Shared
 pub mod Worked
 pub mod Alone
 pub mod Asked
@@ -8,3 +9,4 @@ pub mod Status
 pub mod Texts
 pub mod Traces
 pub mod Judged
+pub mod Looked

@@ -1,5 +1,8 @@
 //! What is declared and recorded, read anew once a build has ended.
 
+ghost use Rattle.host.specs.World.{world_of};
+ghost use Rattle.nj_run.specs.Looked.{StartsNothing};
+
 use crate::looked::Here;
 use auditor::{Auditor, dyndep_in, load};
 use graph::Graph;
@@ -20,7 +23,9 @@ pub fn auditor_of<W: Write>(
     manifest: Manifest,
     own: &str,
     here: Here<'_>,
-) -> Option<Auditor> {
+) -> Option<Auditor>
+    ensures { StartsNothing (world_of host.old) (world_of host.new) }
+{
     let alloc = rt.alloc();
     let log = build_log_in(alloc, host, own);
     let deps = deps_log_in(alloc, host, own);
@@ -58,7 +63,9 @@ fn graph_of<W: Write>(
     host: &mut Host<'_, W>,
     manifest: Manifest,
     own: &str,
-) -> Option<Graph> {
+) -> Option<Graph>
+    ensures { StartsNothing (world_of host.old) (world_of host.new) }
+{
     let mut graph = Graph::build(alloc, manifest, own).ok()?;
     for place in 0..graph.edges() {
         let _ = load_at(alloc, host, &mut graph, place);
@@ -72,7 +79,9 @@ fn load_at<W: Write>(
     host: &mut Host<'_, W>,
     graph: &mut Graph,
     place: usize,
-) -> Option<()> {
+) -> Option<()>
+    ensures { StartsNothing (world_of host.old) (world_of host.new) }
+{
     let bytes = read_in(host, dyndep_in(graph, place)?)?;
     load(alloc, graph, place, bytes.as_slice())
 }
@@ -117,7 +126,9 @@ fn plain_at(alloc: Global, rt: &HostRuntime, path: &str) -> Result<Option<Plain>
 }
 
 /// What stands in a file.
-fn read_in<W: Write>(host: &mut Host<'_, W>, path: &str) -> Option<Bytes> {
+fn read_in<W: Write>(host: &mut Host<'_, W>, path: &str) -> Option<Bytes>
+    ensures { StartsNothing (world_of host.old) (world_of host.new) }
+{
     host.read(path).ok()?
 }
 
@@ -126,7 +137,9 @@ pub fn build_log_in<W: Write>(
     alloc: Global,
     host: &mut Host<'_, W>,
     folder: &str,
-) -> Option<BuildLog> {
+) -> Option<BuildLog>
+    ensures { StartsNothing (world_of host.old) (world_of host.new) }
+{
     let path = own_path(alloc, folder, ".nj_log").ok()?;
     let bytes = read_in(host, path.as_str())?;
     let (log, _) = BuildLog::parse(alloc, bytes.as_slice()).ok()?;
@@ -138,7 +151,9 @@ pub fn deps_log_in<W: Write>(
     alloc: Global,
     host: &mut Host<'_, W>,
     folder: &str,
-) -> Option<log_text::DepsLog> {
+) -> Option<log_text::DepsLog>
+    ensures { StartsNothing (world_of host.old) (world_of host.new) }
+{
     let path = own_path(alloc, folder, ".nj_deps").ok()?;
     let bytes = read_in(host, path.as_str())?;
     let (log, _) = log_text::DepsLog::parse(alloc, bytes.as_slice()).ok()?;
@@ -154,7 +169,9 @@ fn own_path(alloc: Global, folder: &str, name: &str) -> Result<String, AllocErro
 }
 
 /// The trace of a command, which is removed.
-pub fn take_trace<W: Write>(host: &mut Host<'_, W>, job: usize) -> Option<Bytes> {
+pub fn take_trace<W: Write>(host: &mut Host<'_, W>, job: usize) -> Option<Bytes>
+    ensures { StartsNothing (world_of host.old) (world_of host.new) }
+{
     let path = host.trace_of(job).ok()?;
     let trace = read_in(host, path.as_str());
     let _ = host.remove(path.as_str());

@@ -86,26 +86,47 @@ fn run_below<S: AsStr>(
         return Ok(None);
     }
     let program = env::current_exe(rt)?;
-    let Some(program) = program.to_str() else {
-        return Ok(None);
-    };
-    if fs::metadata(rt, program).is_err() {
+    match program.to_str() {
+        Some(program) => {
+            let below = Below {
+                tracer,
+                program,
+                first: BELOW,
+            };
+            run_held(alloc, rt, &below, words)
+        }
+        None => Ok(None),
+    }
+}
+
+/// The same while the file of the trace is held; none where another audit holds it.
+fn run_held<S: AsStr>(
+    alloc: Global,
+    rt: &HostRuntime,
+    below: &Below<'_>,
+    words: &[S],
+) -> io::Result<Option<u8>>
+    ensures { IfOk result (λ ended. IfSome ended (λ status. status ≤ 1)) }
+{
+    if fs::metadata(rt, below.program).is_err() {
         return Ok(None);
     }
     let Some(held) = held_trace(rt)? else {
         return Ok(None);
     };
-    let below = Below {
-        tracer,
-        program,
-        first: BELOW,
-    };
-    let status = match below.run(alloc, words)? {
+    let ended = below.run(alloc, words);
+    drop(held);
+    Ok(Some(status_of(ended?)))
+}
+
+/// The status of the program where the one below ended with this one.
+fn status_of(below: Option<i32>) -> u8
+    ensures { result ≤ 1 }
+{
+    match below {
         Some(0) => 0,
         _ => 1,
-    };
-    drop(held);
-    Ok(Some(status))
+    }
 }
 
 /// The file of the trace, which no other audit in this folder writes as long as it is held; none where one does.

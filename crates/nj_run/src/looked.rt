@@ -1,5 +1,8 @@
 //! What an audit finds, once a build has ended: each command that was started in it has left a trace.
 
+ghost use Rattle.host.specs.World.{world_of};
+ghost use Rattle.nj_run.specs.Looked.{StartsNothing};
+
 use crate::anew::{auditor_of, take_trace};
 use crate::links::learn_links;
 use crate::shared::look_at_shares;
@@ -11,7 +14,7 @@ use paths::{PathId, Paths};
 use site::Site;
 use std::alloc::{AllocError, Global};
 use std::io::Write;
-use text::Text;
+use text::{Path, Text};
 
 /// The same, where the working folder is a text.
 #[derive(Clone, Copy)]
@@ -47,28 +50,41 @@ pub fn look<W: Write>(
     options: &Options,
     targets: &[Text],
     place: Place<'_>,
-) -> Option<Tally> {
-    let is_shared = place.is_shared;
-    let tally = match place.folder {
-        Some(folder) => look_here(
-            rt,
-            host,
-            options,
-            targets,
-            Here {
-                folder,
-                left: place.left,
-                is_shared,
-            },
-        ),
-        None => None,
+) -> Option<Tally>
+    ensures { StartsNothing (world_of host.old) (world_of host.new) }
+{
+    let tally = look_in(rt, host, options, targets, place);
+    let_go(rt.alloc(), host, place.is_shared, tally.is_some());
+    tally
+}
+
+/// The same, but that traces stay which were not looked at.
+fn look_in<W: Write>(
+    rt: &HostRuntime,
+    host: &mut Host<'_, W>,
+    options: &Options,
+    targets: &[Text],
+    place: Place<'_>,
+) -> Option<Tally>
+    ensures { StartsNothing (world_of host.old) (world_of host.new) }
+{
+    let here = Here {
+        folder: place.folder?,
+        left: place.left,
+        is_shared: place.is_shared,
     };
+    look_here(rt, host, options, targets, here)
+}
+
+/// Removes the one trace over all commands, or, where nobody looked at those of each, these.
+fn let_go<W: Write>(alloc: Global, host: &mut Host<'_, W>, is_shared: bool, was_looked: bool)
+    ensures { StartsNothing (world_of host.old) (world_of host.new) }
+{
     if is_shared {
         let _ = host.remove(SHARED_TRACE);
-    } else if tally.is_none() {
-        let _ = let_traces_go(rt.alloc(), host);
+    } else if !was_looked {
+        let _ = let_traces_go(alloc, host);
     }
-    tally
 }
 
 fn look_here<W: Write>(
@@ -77,19 +93,47 @@ fn look_here<W: Write>(
     options: &Options,
     targets: &[Text],
     here: Here<'_>,
-) -> Option<Tally> {
+) -> Option<Tally>
+    ensures { StartsNothing (world_of host.old) (world_of host.new) }
+{
     let alloc = rt.alloc();
     let Reading { manifest, asked } = builder::read(alloc, host, options, targets).ok()?;
     let mut auditor = auditor_of(rt, host, manifest, asked.folder.as_str(), here)?;
-    let commands = auditor.commands(asked.targets.as_slice())?;
-    let mut tally = Tally::new(alloc, commands);
-    take_left(alloc, here, &mut tally)?;
-    if here.is_shared {
-        look_at_shares(rt, host, &mut auditor, &mut tally)?;
-    } else {
-        look_at_all(rt, host, &mut auditor, &mut tally)?;
-    }
+    look_by(rt, host, &mut auditor, asked.targets.as_slice(), here)
+}
+
+/// The same by what is declared and recorded.
+fn look_by<W: Write>(
+    rt: &HostRuntime,
+    host: &mut Host<'_, W>,
+    auditor: &mut Auditor,
+    targets: &[Path],
+    here: Here<'_>,
+) -> Option<Tally>
+    ensures { StartsNothing (world_of host.old) (world_of host.new) }
+{
+    let commands = auditor.commands(targets)?;
+    let mut tally = Tally::new(rt.alloc(), commands);
+    look_at_these(rt, host, auditor, &mut tally, here)?;
     Some(tally)
+}
+
+/// Takes in what stood before the build, and looks at the commands that ended well, by the one trace or by that of each.
+fn look_at_these<W: Write>(
+    rt: &HostRuntime,
+    host: &mut Host<'_, W>,
+    auditor: &mut Auditor,
+    tally: &mut Tally,
+    here: Here<'_>,
+) -> Option<()>
+    ensures { StartsNothing (world_of host.old) (world_of host.new) }
+{
+    take_left(rt.alloc(), here, tally)?;
+    if here.is_shared {
+        look_at_shares(rt, host, auditor, tally)
+    } else {
+        look_at_all(rt, host, auditor, tally)
+    }
 }
 
 /// Takes in the files that stood below the folder for scratch files.
@@ -109,7 +153,9 @@ fn look_at_all<W: Write>(
     host: &mut Host<'_, W>,
     auditor: &mut Auditor,
     tally: &mut Tally,
-) -> Option<()> {
+) -> Option<()>
+    ensures { StartsNothing (world_of host.old) (world_of host.new) }
+{
     let ended = ended_in(rt.alloc(), host).ok()?;
     for end in &ended {
         look_at(rt, host, auditor, *end, tally)?;
@@ -118,7 +164,9 @@ fn look_at_all<W: Write>(
 }
 
 /// Removes the traces that nobody looks at, as far as there is memory to name them.
-fn let_traces_go<W: Write>(alloc: Global, host: &mut Host<'_, W>) -> Result<(), AllocError> {
+fn let_traces_go<W: Write>(alloc: Global, host: &mut Host<'_, W>) -> Result<(), AllocError>
+    ensures { StartsNothing (world_of host.old) (world_of host.new) }
+{
     let ended = ended_in(alloc, host)?;
     for end in &ended {
         let _ = take_trace(host, end.job);
@@ -144,7 +192,9 @@ fn look_at<W: Write>(
     auditor: &mut Auditor,
     end: Ended,
     tally: &mut Tally,
-) -> Option<()> {
+) -> Option<()>
+    ensures { StartsNothing (world_of host.old) (world_of host.new) }
+{
     let trace = take_trace(host, end.job);
     if !end.ok {
         return Some(());
