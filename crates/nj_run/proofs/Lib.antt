@@ -6,3 +6,4 @@ mod Shown
 mod Telling
 mod Optional
 mod Judging
+mod Unstarted

@@ -26,16 +26,39 @@ pub fn auditor_of<W: Write>(
 ) -> Option<Auditor>
     ensures { StartsNothing (world_of host.old) (world_of host.new) }
 {
-    let alloc = rt.alloc();
+    let mut auditor = declared_in(rt.alloc(), host, manifest, own, here.folder)?;
+    match take_files(rt, &mut auditor, here.left.is_some()) {
+        Ok(()) => Some(auditor),
+        Err(_) => None,
+    }
+}
+
+/// What is declared and recorded.
+fn declared_in<W: Write>(
+    alloc: Global,
+    host: &mut Host<'_, W>,
+    manifest: Manifest,
+    own: &str,
+    folder: &str,
+) -> Option<Auditor>
+    ensures { StartsNothing (world_of host.old) (world_of host.new) }
+{
+    let graph = graph_of(alloc, host, manifest, own)?;
     let log = build_log_in(alloc, host, own);
     let deps = deps_log_in(alloc, host, own);
-    let graph = graph_of(alloc, host, manifest, own)?;
-    let mut auditor = Auditor::new(alloc, graph, here.folder, log, deps).ok()?;
-    if here.left.is_some() {
-        take_scratch(rt, &mut auditor).ok()?;
+    Auditor::new(alloc, graph, folder, log, deps).ok()
+}
+
+/// Takes in where paths lead, and the folder for scratch files, where it is known what stood there.
+fn take_files(
+    rt: &HostRuntime,
+    auditor: &mut Auditor,
+    has_scratch: bool,
+) -> Result<(), AllocError> {
+    if has_scratch {
+        take_scratch(rt, auditor)?;
     }
-    find_files(alloc, rt, &mut auditor).ok()?;
-    Some(auditor)
+    find_files(rt.alloc(), rt, auditor)
 }
 
 /// Takes in the folder for scratch files that commands find in `TMPDIR`, links followed, if there is one.
