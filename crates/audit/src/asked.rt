@@ -1,6 +1,6 @@
 //! At which paths it has to be asked whether a link stands.
 
-use crate::lead::{Links, walked};
+use crate::lead::{Links, is_up, walked};
 use crate::standing::Standing;
 use crate::whole::whole_by;
 use paths::Paths;
@@ -41,6 +41,7 @@ fn push_unasked<'k>(
     let links = Links { own, old };
     let mut text = Text::from_str(alloc, name)?;
     for _ in 0..40 {
+        push_left(alloc, &links, text.as_str(), found)?;
         let walk = walked(alloc, &links, true, text.as_str())?;
         walk.push_unknown(alloc, &links, found)?;
         if !walk.goes_on(true) {
@@ -49,4 +50,36 @@ fn push_unasked<'k>(
         text = walk.into_next();
     }
     Ok(())
+}
+
+/// Takes in those that the name leads through and goes up from: where a link stands there, it goes up from where that leads.
+fn push_left(
+    alloc: Global,
+    links: &Links<'_>,
+    name: &str,
+    found: &mut Paths,
+) -> Result<(), AllocError> {
+    if !goes_up(name) {
+        return Ok(());
+    }
+    let mut front = String::new(alloc);
+    for part in name.split('/') {
+        if is_up(part) {
+            let walk = walked(alloc, links, true, front.as_str())?;
+            walk.push_unknown(alloc, links, found)?;
+        }
+        front.push('/')?;
+        front.push_str(part)?;
+    }
+    Ok(())
+}
+
+/// Whether a part of the name goes up.
+fn goes_up(name: &str) -> bool {
+    for part in name.split('/') {
+        if is_up(part) {
+            return true;
+        }
+    }
+    false
 }

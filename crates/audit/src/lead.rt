@@ -384,7 +384,7 @@ fn is_here(part: &str) -> bool
 }
 
 /// Whether it names what is above.
-fn is_up(part: &str) -> bool
+pub fn is_up(part: &str) -> bool
     ensures { result ≡ is_up part.now }
 {
     part == ".."
