@@ -43,6 +43,7 @@ old_target old sees place = if not sees then None else old_target_so (stand_at o
 abbrev pub target_by : Option Stands → Option Target → Option Target
 target_by None old = old
 target_by (Some standing.Unknown) old = old
+target_by (Some (standing.Twin path)) old = old
 target_by (Some (standing.Link path)) old = target_of path true
 target_by (Some _) old = None
 
@@ -186,7 +187,7 @@ lead_in zero own old asks met way name = None
 lead_in (suc left) own old asks met way name =
     lead_on (lead_in left own old asks) own asks (so_far met way) (walked (target_at own old asks.sees) name)
 
--- the kernel follows so many links
+-- so many walks are made, and a link less is followed; the kernel follows so many links
 unfoldable pub most : ℕ
 most = 40
 

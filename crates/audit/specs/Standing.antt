@@ -56,9 +56,10 @@ place_of whole = unwrap_or whole.real whole.path
 abbrev pub other_in : Whole → List ℕ
 other_in whole = unwrap_or whole.other []
 
--- what stands at a path that was given to the file, or the link, which has this one
+-- what stands at a path that was given to the file, or the link, which has this one; where the command gave it this one too, it had another before
 abbrev pub linked_so : List ℕ → Stands → Stands
 linked_so from (Link target) = Link target
+linked_so from (Twin other) = Twin other
 linked_so from _ = Twin from
 
 abbrev pub linked : List ℕ → Option Stands → Stands

@@ -9,8 +9,8 @@ use std::str::from_utf8;
 use text::{Bytes, Text};
 use trace::Fact;
 
-/// The paths that names of these facts lead through, or to, and of which it is not known whether a link stands there that the command did not
-/// make: those that are met as long as no link is known there.
+/// The paths that names of these facts lead through, or to, or that they go up from, and of which it is not known whether a link stands there that
+/// the command did not make: those that are met as long as no link is known there.
 pub fn unasked(alloc: Global, old: &Standing, facts: &[Fact]) -> Result<Paths, AllocError> {
     let mut own = Standing::none(alloc);
     let mut found = Paths::new(alloc);
@@ -63,11 +63,13 @@ fn push_left(
         return Ok(());
     }
     let mut front = String::new(alloc);
+    let mut was_up = false;
     for part in name.split('/') {
-        if is_up(part) {
+        if is_up(part) && !was_up {
             let walk = walked(alloc, links, true, front.as_str())?;
             walk.push_unknown(alloc, links, found)?;
         }
+        was_up = is_up(part);
         front.push('/')?;
         front.push_str(part)?;
     }

@@ -172,7 +172,7 @@ pub fn lead(
     Ok(None)
 }
 
-/// How many links are followed, as the kernel does it.
+/// How many walks are made: a link less is followed, and the kernel follows 40.
 #[tactic(auto, unfolding(crate::specs::Leading::most))]
 fn most() -> u32
     ensures { result ≡ most }
@@ -418,7 +418,7 @@ fn joined(alloc: Global, folder: &str, name: &str) -> Result<Text, AllocError>
     Ok(Text::from_string(path))
 }
 
-/// Where the link leads that stands at this path, if one does; those that the command did not make count or do not.
+/// Where the link leads that stands at this path, if one does. One more path may be that of a link that the command did not make; those that the command did not make count or do not.
 fn target_at(
     alloc: Global,
     links: &Links<'_>,
@@ -430,6 +430,7 @@ fn target_at(
     match links.own.at(place) {
         Some(Stands::Link(path)) => target_of(alloc, path, true),
         Some(Stands::Unknown) => old_target(alloc, links.old, sees, place),
+        Some(Stands::Twin(_)) => old_target(alloc, links.old, sees, place),
         Some(_) => Ok(None),
         None => old_target(alloc, links.old, sees, place),
     }

@@ -146,6 +146,7 @@ impl Standing {
     {
         let stands = match self.at(from) {
             Some(Stands::Link(target)) => Stands::Link(target.clone()?),
+            Some(Stands::Twin(other)) => Stands::Twin(other.clone()?),
             _ => Stands::Twin(Path::from_str(alloc, from)?),
         };
         self.put(alloc, to, stands)

@@ -13,6 +13,10 @@ pub const INPUT: &str = ".nj_in";
 /// stop and a number.
 pub const OUTPUT: &str = ".nj_out.";
 
+/// The file in the working folder that has the trace of an audit. A program that waits for one below a tracer, to which it has handed that
+/// audit on, has it locked.
+pub const TRACE: &str = ".nj_trace.all";
+
 /// What the system puts behind the name of a file that is open, and not there any more.
 const GONE: &str = " (deleted)";
 

@@ -5,7 +5,7 @@ use crate::asked::HERE;
 use crate::identity::Identity;
 use crate::lines::Holders;
 use crate::lists::{FileNumber, Lock, device_of, field, is_builder, lock_in, lock_of};
-use crate::names::{is_left, name_told};
+use crate::names::{TRACE, is_left, name_told};
 use std::alloc::Global;
 use std::fs::{DirEntry, File, ReadDir};
 use std::os::fd::AsRawFd;
@@ -91,6 +91,19 @@ impl<'a> Sight<'a> {
                 None => true,
             },
             Err(_) => true,
+        }
+    }
+
+    /// Whether it is one that builds itself: it has not handed its words on to a program below a tracer, for which it waits.
+    fn builds_in(&self, process: u32, folder: Identity) -> bool {
+        self.is_builder_in(process, folder) && !self.hands_on(process)
+    }
+
+    /// Whether the process has the trace of an audit in this folder locked.
+    fn hands_on(&self, process: u32) -> bool {
+        match self.identity(TRACE) {
+            Some(trace) => self.holds(process, trace) == Holds::Yes,
+            None => false,
         }
     }
 
@@ -391,7 +404,7 @@ pub struct Lineage<'a> {
 
 impl<'a> Lineage<'a> {
     /// Whether the program was started by a build with this working folder: a parent of it is one, or the program has from a parent
-    /// a file by which commands of a build here are known.
+    /// a file by which commands of a build here are known. A parent that only waits for it, as it has handed an audit on, is none.
     pub fn has_build_here(&self) -> bool {
         match self.sight.identity(HERE) {
             Some(folder) => self.has_builder_in(folder) || self.has_command_in(folder),
@@ -403,7 +416,7 @@ impl<'a> Lineage<'a> {
         let parents = self.processes.get(1..).unwrap_or(&[]);
         parents
             .iter()
-            .any(|process| self.sight.is_builder_in(*process, folder))
+            .any(|process| self.sight.builds_in(*process, folder))
     }
 
     fn has_command_in(&self, folder: Identity) -> bool {

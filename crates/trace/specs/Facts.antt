@@ -134,13 +134,17 @@ only_stamps arguments = has (codes "O_NOCTTY") arguments && has (codes "O_NONBLO
 abbrev pub goes_on : List ℕ → Bool
 goes_on arguments = has (codes "O_RDWR") arguments || (has (codes "O_WRONLY") arguments && has (codes "O_APPEND") arguments)
 
+-- one that is read and written: where the call makes the file if none is there, what it reads is what it wrote, unless an earlier one stood there
+abbrev pub read_and_written : List ℕ → Deed × Option Deed
+read_and_written arguments = if has (codes "O_CREAT") arguments then (Into, Some Read) else (Read, Some Into)
+
 -- What a file is opened for by these flags. Where it is not emptied, what is written there is written into what it held, or behind that.
 unfoldable pub deeds : List ℕ → Deed × Option Deed
 deeds arguments =
     if has (codes "O_DIRECTORY") arguments || has (codes "O_TMPFILE") arguments then (Folder, None)
     else (if has (codes "O_PATH") arguments then (Asked, None)
     else (if empties arguments then (Wrote, None)
-    else (if goes_on arguments then (Read, Some Into)
+    else (if goes_on arguments then read_and_written arguments
     else (if not (has (codes "O_WRONLY") arguments) then (Read, None)
     else (if only_stamps arguments then (Stamped, None) else (Into, None))))))
 

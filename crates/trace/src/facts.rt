@@ -1,7 +1,7 @@
 //! What a call did at its paths.
 
 ghost use Rattle.std.specs.Prelude.{◌≡◌, ◌++◌, ◌∷◌, [], IfOk, OnOk, false, option_map};
-ghost use Rattle.trace.specs.Facts.{answered, arguments_for, call_seen, deeds, done, emptied, empties, fact, facts_of, follows, goes_on, goes_up, led, looked, missed, only_stamps, opened, paths_of, placed, removed, stays, with_linked, with_moved, with_target};
+ghost use Rattle.trace.specs.Facts.{answered, arguments_for, call_seen, deeds, done, emptied, empties, fact, facts_of, follows, goes_on, goes_up, led, looked, missed, only_stamps, opened, paths_of, placed, read_and_written, removed, stays, with_linked, with_moved, with_target};
 
 use crate::arguments::{behind, descriptor, first_argument, is_rooted, path_at, quoted};
 use crate::calls::Does;
@@ -291,7 +291,7 @@ fn deeds(arguments: &[u8]) -> (Deed, Option<Deed>)
         return (Deed::Wrote, None);
     }
     if goes_on(arguments) {
-        return (Deed::Read, Some(Deed::Into));
+        return read_and_written(arguments);
     }
     if !has(arguments, b"O_WRONLY") {
         return (Deed::Read, None);
@@ -300,6 +300,17 @@ fn deeds(arguments: &[u8]) -> (Deed, Option<Deed>)
         return (Deed::Stamped, None);
     }
     (Deed::Into, None)
+}
+
+/// What one is opened for that is read and written. Where the call makes it if none is there, what is read may be what was written.
+fn read_and_written(arguments: &[u8]) -> (Deed, Option<Deed>)
+    ensures { result ≡ read_and_written arguments.now }
+{
+    if has(arguments, b"O_CREAT") {
+        (Deed::Into, Some(Deed::Read))
+    } else {
+        (Deed::Read, Some(Deed::Into))
+    }
 }
 
 /// Whether a file is empty once it is opened by these flags.
