@@ -40,12 +40,12 @@ is_kept place used = (place.output && used.keeps) && not used.takes
 abbrev pub is_stamped : Place → Use → Bool
 is_stamped place used = ((place.output && used.stamps) && place.around.filled) && not (used.takes || used.keeps)
 
--- what is read is a source, or made above
+-- what is read is a source, or made above, and so is what was not there yet
 unfoldable pub is_not_above : Place → Use → Bool
-is_not_above place used = (looks place used && place.around.made) && not place.around.above
+is_not_above place used = ((looks place used || used.misses) && place.around.made) && not place.around.above
 
 unfoldable pub is_listed : Place → Use → Bool
-is_listed place used = (used.lists && counts place) && not place.input
+is_listed place used = (used.lists && counts place) && not (place.input || place.reported)
 
 -- ---- writing: a command writes only its outputs, its depfile and scratch files
 
@@ -65,6 +65,10 @@ spoils_stray place =
 -- what it wrote it has removed, and nothing stood there before: a scratch file
 abbrev pub is_scratch : Use → Bool
 is_scratch used = used.gone && not used.removes
+
+-- of a folder nothing was done but to set its stamp, as who unpacks files sets that of each folder
+abbrev pub only_stamps_folder : Use → Bool
+only_stamps_folder used = used.is_folder && not (used.own || used.keeps)
 
 -- an output was not written, or is gone; a folder that was made is one
 unfoldable pub is_unwritten : Place → Use → Bool
@@ -89,7 +93,7 @@ unfoldable pub found_written : Place → Use → List Finding
 found_written place used =
     (when (used.writes && spoils_made place) found.WritesMade
     ++ when (used.writes && spoils_known place) found.WritesKnown)
-    ++ when ((used.writes && spoils_stray place) && not (is_scratch used)) found.WritesStray
+    ++ when (((used.writes && spoils_stray place) && not (is_scratch used)) && not (only_stamps_folder used)) found.WritesStray
 
 unfoldable pub found_removed : Place → Use → List Finding
 found_removed place used =

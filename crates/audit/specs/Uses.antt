@@ -1,5 +1,5 @@
 -- What a command did at one path, in sum (this project's own).
-use Rattle.std.specs.Prelude.{◌&&◌, ◌||◌, not, Bool, true, false, List, [], ◌∷◌, if◌then◌else◌}
+use Rattle.std.specs.Prelude.{◌&&◌, ◌||◌, not, Bool, true, false, List, [], ◌∷◌}
 use Rattle.trace.specs.declared.fact.Deed.{Deed}
 use Rattle.trace.specs.declared.fact.Deed.TheVariants.{Read, Wrote, Into, Stamped, Linked, Moved, Led, Emptied, Removed, Left, Listed, Asked, Missed, Sought, Folder, Made, Connected}
 use Rattle.audit.specs.declared.used.Use.{Use}
@@ -33,16 +33,8 @@ stands used = ((used.writes || used.reads) || used.asks) && not used.gone
 abbrev pub with_written : Use → Use
 with_written use_so_far = record use_so_far { writes = true; gone = false; own = true; keeps = false; stamps = false }
 
--- the same, and its stamp was set
-abbrev pub with_stamp : Use → Use
-with_stamp use_so_far = record use_so_far {
-  writes = true;
-  gone = false;
-  stamps = use_so_far.stamps || not (is_new use_so_far);
-}
-
 -- The same, and this deed after it. What a command reads, asks for or removes once it has written it is its own, and what a folder that it
--- made itself holds depends on nothing else, nor does its stamp. But what it writes into a file that is not new may leave a part of that there, until it makes it
+-- made itself holds depends on nothing else. But what it writes into a file that is not new may leave a part of that there, until it makes it
 -- anew, and one whose stamp it sets keeps what stood there; so it is told apart what it read that was not new. A folder that it gives another
 -- path takes all along that stands in it, as if it was listed.
 abbrev pub with_deed : Use → Deed → Use
@@ -65,7 +57,11 @@ with_deed use_so_far Into = record use_so_far {
   own = is_new use_so_far;
   keeps = use_so_far.keeps || not (is_new use_so_far);
 }
-with_deed use_so_far Stamped = if use_so_far.made_folder then use_so_far else with_stamp use_so_far
+with_deed use_so_far Stamped = record use_so_far {
+  writes = true;
+  gone = false;
+  stamps = use_so_far.stamps || not (is_new use_so_far);
+}
 with_deed use_so_far Removed = record use_so_far {
   removes = use_so_far.removes || not use_so_far.writes;
   gone = true;

@@ -1,7 +1,7 @@
 //! What breaks a premise.
 
 ghost use Rattle.std.specs.Prelude.{◌≡◌, ◌++◌, OnOk, IfOk, []};
-ghost use Rattle.audit.specs.Findings.{counts, findings, found_read, found_removed, found_written, is_kept, is_listed, is_not_above, is_order_only, is_read_itself, is_scratch, is_stamped, is_strange, is_unreported, is_unwritten, looks, may_be_old, spoils_known, spoils_made, spoils_stray, when};
+ghost use Rattle.audit.specs.Findings.{counts, findings, found_read, found_removed, found_written, is_kept, is_listed, is_not_above, is_order_only, is_read_itself, is_scratch, is_stamped, is_strange, is_unreported, is_unwritten, looks, may_be_old, only_stamps_folder, spoils_known, spoils_made, spoils_stray, when};
 
 use crate::place::Place;
 use crate::used::Use;
@@ -150,7 +150,7 @@ fn push_written(found: &mut Items<Finding>, place: Place, used: Use) -> Result<(
     )?;
     push_if(
         found,
-        used.writes && spoils_stray(place) && !is_scratch(used),
+        used.writes && spoils_stray(place) && !is_scratch(used) && !only_stamps_folder(used),
         Finding::WritesStray,
     )?;
     Ok(())
@@ -252,18 +252,26 @@ fn is_scratch(used: Use) -> bool
     used.gone && !used.removes
 }
 
+/// Whether it only set the stamp of a folder.
+fn only_stamps_folder(used: Use) -> bool
+    ensures { result ≡ only_stamps_folder used }
+{
+    used.is_folder && !(used.own || used.keeps)
+}
+
+/// Whether it is made by a command that is not above, and was read, or was not there yet.
 #[tactic(auto, unfolding(crate::specs::Findings::is_not_above))]
 fn is_not_above(place: Place, used: Use) -> bool
     ensures { result ≡ is_not_above place used }
 {
-    looks(place, used) && place.around.made && !place.around.above
+    (looks(place, used) || used.misses) && place.around.made && !place.around.above
 }
 
 #[tactic(auto, unfolding(crate::specs::Findings::is_listed))]
 fn is_listed(place: Place, used: Use) -> bool
     ensures { result ≡ is_listed place used }
 {
-    used.lists && counts(place) && !place.input
+    used.lists && counts(place) && !(place.input || place.reported)
 }
 
 /// Whether the path counts, and the command has no right to write there.

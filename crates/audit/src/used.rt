@@ -2,7 +2,6 @@
 
 ghost use Rattle.std.specs.Prelude.{◌≡◌, false};
 ghost use Rattle.audit.specs.Uses.{is_new, stands, unused, with_deed};
-ghost use Rattle.trace.specs.declared.fact.Deed.TheVariants.{Stamped};
 
 use trace::Deed;
 
@@ -73,21 +72,6 @@ impl Use {
         self.own || self.misses || self.removes || self.gone
     }
 
-    /// The same, and its stamp was set. That of a folder that the command made tells nothing.
-    fn with_stamp(self) -> Use
-        ensures { result ≡ with_deed self Stamped }
-    {
-        if self.made_folder {
-            return self;
-        }
-        Use {
-            writes: true,
-            gone: false,
-            stamps: self.stamps || !self.is_new(),
-            ..self
-        }
-    }
-
     /// The same, and this deed after it.
     pub fn with(self, deed: Deed) -> Use
         ensures { result ≡ with_deed self deed }
@@ -125,7 +109,12 @@ impl Use {
                 keeps: self.keeps || !self.is_new(),
                 ..self
             },
-            Deed::Stamped => self.with_stamp(),
+            Deed::Stamped => Use {
+                writes: true,
+                gone: false,
+                stamps: self.stamps || !self.is_new(),
+                ..self
+            },
             Deed::Removed => Use {
                 removes: self.removes || !self.writes,
                 gone: true,

@@ -1,6 +1,6 @@
 //! An audit that is handed to this program once more, below one tracer of it and of all commands.
 
-ghost use Rattle.std.specs.Prelude.{◌≤◌, IfOk, IfSome, IsTrue, map};
+ghost use Rattle.std.specs.Prelude.{◌≤◌, ◌≡◌, IfOk, IfSome, IsTrue, Some, map, pos};
 ghost use Rattle.nj_run.specs.Handed.{AsksAudit, IsHandedFor, IsHandedOn};
 
 use crate::audited::named_here;
@@ -34,12 +34,27 @@ pub fn hand_on<S: AsStr>(rt: &HostRuntime, words: &[S]) -> Handed
     ensures { IsHandedOn (map S.text words.entry.now) result }
 {
     let alloc = rt.alloc();
+    if !names_audit(words) {
+        return Handed::Stays {
+            is_in_folder: false,
+        };
+    }
     match options(alloc, words) {
         Ok(asked) => hand_asked(alloc, rt, &asked, words),
         Err(_) => Handed::Stays {
             is_in_folder: false,
         },
     }
+}
+
+/// Whether one of the words begins as those that ask for an audit. Any other build reads its words once.
+fn names_audit<S: AsStr>(words: &[S]) -> bool {
+    for word in words {
+        if word.as_str().as_bytes().starts_with(b"--audit") {
+            return true;
+        }
+    }
+    false
 }
 
 fn hand_asked<S: AsStr>(alloc: Global, rt: &HostRuntime, asked: &Asked<'_>, words: &[S]) -> Handed
@@ -99,7 +114,7 @@ fn run_below<S: AsStr>(
     }
 }
 
-/// The same while the file of the trace is held; none where another audit holds it.
+/// The same while the file of the trace is held, which is removed then; none where another audit holds it.
 fn run_held<S: AsStr>(
     alloc: Global,
     rt: &HostRuntime,
@@ -115,13 +130,15 @@ fn run_held<S: AsStr>(
         return Ok(None);
     };
     let ended = below.run(alloc, words);
+    let _ = fs::remove_file(rt, SHARED_TRACE);
     drop(held);
     Ok(Some(status_of(ended?)))
 }
 
 /// The status of the program where the one below ended with this one.
 fn status_of(below: Option<i32>) -> u8
-    ensures { result ≤ 1 }
+    ensures range { result ≤ 1 }
+    ensures well { result ≡ 0 → below ≡ Some (pos 0) }
 {
     match below {
         Some(0) => 0,
