@@ -52,6 +52,12 @@ has_two doing.Moves = true
 has_two doing.Links = true
 has_two _ = false
 
+-- what stands at its path is a folder, where it ends well
+abbrev pub is_of_folders : Does → Bool
+is_of_folders doing.Goes = true
+is_of_folders doing.Clears = true
+is_of_folders _ = false
+
 abbrev pub runs : Does → Bool
 runs doing.Runs = true
 runs _ = false

@@ -14,7 +14,7 @@ use Rattle.trace.specs.declared.facts.Paths.{Paths}
 use Rattle.trace.specs.declared.parts.Call.{Call}
 use Rattle.trace.specs.Marks.{cut, has}
 use Rattle.trace.specs.Arguments.{behind, descriptor, first_argument, is_rooted, path_at, quoted}
-use Rattle.trace.specs.Calls.{ending_of, follows_links, has_two, leads, links, row_named, runs}
+use Rattle.trace.specs.Calls.{begins, ending_of, follows_links, has_two, is_of_folders, leads, links, row_named, runs}
 
 -- ---- a call as it is written
 
@@ -200,12 +200,21 @@ done call paths = done_by call.row.does call paths
 
 -- What a call was that found nothing. A file may be there of which two paths were named, or that was to be run: the other path may lack its
 -- folder, and what runs it may be missing.
-abbrev pub missed : Does → Deed
-missed does = if has_two does || runs does then Sought else Missed
+abbrev pub missed_by : Does → Deed
+missed_by does = if has_two does || runs does then Sought else Missed
+
+-- a folder was asked for at the path itself, and a file is there
+abbrev pub is_no_folder : Seen → Bool
+is_no_folder call =
+    begins (codes "-1 ENOTDIR ") call.answer
+    && (is_of_folders call.row.does || (has (codes "O_DIRECTORY") call.arguments || has (codes "AT_REMOVEDIR") call.arguments))
+
+abbrev pub missed : Seen → Deed
+missed call = if is_no_folder call then Asked else missed_by call.row.does
 
 abbrev pub ended_by : End → Seen → Paths → List Fact
 ended_by ending.Well call paths = done call paths
-ended_by ending.Missing call paths = fact (follows call) (missed call.row.does) paths.path ∷ []
+ended_by ending.Missing call paths = fact (follows call) (missed call) paths.path ∷ []
 ended_by ending.Refused call paths = fact (follows call) Asked paths.path ∷ []
 ended_by ending.Void call paths = []
 ended_by ending.Open call paths = []

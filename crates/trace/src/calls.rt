@@ -1,7 +1,7 @@
 //! The calls of the system of which it is known what they do to files.
 
 ghost use Rattle.std.specs.Prelude.{◌≡◌};
-ghost use Rattle.trace.specs.Calls.{begins_one, changes, changes_at, connects, follows_links, goes, has_two, leads, links, lists, looks, looks_at, makes, marks, moves_at, opens, opens_at, passes, peeks, row_of_change, row_of_look, row_of_process, row_of_two, row_named, runs, starts, when};
+ghost use Rattle.trace.specs.Calls.{begins_one, changes, changes_at, connects, follows_links, goes, has_two, is_of_folders, leads, links, lists, looks, looks_at, makes, marks, moves_at, opens, opens_at, passes, peeks, row_of_change, row_of_look, row_of_process, row_of_two, row_named, runs, starts, when};
 
 /// What a call does.
 #[derive(Clone, Copy, Debug, PartialEq, Eq)]
@@ -79,6 +79,13 @@ impl Does {
         ensures { result ≡ has_two self }
     {
         matches!(self, Does::Moves | Does::Links)
+    }
+
+    /// Whether what stands at its path is a folder, where it ends well.
+    pub fn is_of_folders(self) -> bool
+        ensures { result ≡ is_of_folders self }
+    {
+        matches!(self, Does::Goes | Does::Clears)
     }
 
     pub fn runs(self) -> bool

@@ -1,7 +1,7 @@
 //! What a call did at its paths.
 
 ghost use Rattle.std.specs.Prelude.{◌≡◌, ◌++◌, ◌∷◌, [], IfOk, OnOk, false, option_map};
-ghost use Rattle.trace.specs.Facts.{answered, arguments_for, call_seen, deeds, done, emptied, empties, fact, facts_of, follows, goes_on, goes_up, led, looked, missed, only_stamps, opened, paths_of, placed, read_and_written, removed, stays, with_linked, with_moved, with_target};
+ghost use Rattle.trace.specs.Facts.{answered, arguments_for, call_seen, deeds, done, emptied, empties, fact, facts_of, follows, goes_on, goes_up, is_no_folder, led, looked, missed, missed_by, only_stamps, opened, paths_of, placed, read_and_written, removed, stays, with_linked, with_moved, with_target};
 
 use crate::arguments::{behind, descriptor, first_argument, is_rooted, path_at, quoted};
 use crate::calls::Does;
@@ -81,16 +81,37 @@ pub fn push_facts(
     }
     match ending_of(call.answer) {
         End::Well => push_done(alloc, call, paths, facts),
-        End::Missing => push(alloc, facts, follows(call), missed(call.row.does), path),
+        End::Missing => push(alloc, facts, follows(call), missed(call), path),
         End::Refused => push(alloc, facts, follows(call), Deed::Asked, path),
         End::Void => Ok(()),
         End::Open => Ok(()),
     }
 }
 
+/// What a call was that found nothing, or no folder.
+fn missed(call: &Call<'_>) -> Deed
+    ensures { result ≡ missed (call_seen call.now) }
+{
+    if is_no_folder(call) {
+        Deed::Asked
+    } else {
+        missed_by(call.row.does)
+    }
+}
+
+/// Whether a folder was asked for at the path itself, and a file is there.
+fn is_no_folder(call: &Call<'_>) -> bool
+    ensures { result ≡ is_no_folder (call_seen call.now) }
+{
+    call.answer.starts_with(b"-1 ENOTDIR ")
+        && (call.row.does.is_of_folders()
+            || has(call.arguments, b"O_DIRECTORY")
+            || has(call.arguments, b"AT_REMOVEDIR"))
+}
+
 /// What a call was that found nothing.
-fn missed(does: Does) -> Deed
-    ensures { result ≡ missed does }
+fn missed_by(does: Does) -> Deed
+    ensures { result ≡ missed_by does }
 {
     if does.has_two() || does.runs() {
         Deed::Sought
