@@ -10,7 +10,7 @@ use Rattle.trace.specs.Calls.{begins}
 use Rattle.trace.specs.Facts.{call_of}
 use Rattle.trace.specs.Processes.{first_forking, is_calling, is_none, known_or_new}
 use Rattle.trace.specs.Steps.{step_of}
-use Rattle.trace.specs.Lines.{after, after_all, after_body, after_call, after_end, after_step, after_text, after_text_of, after_whole, all_done, begins_call, is_undone, lines_of, nothing_yet, numbered, settled, stepped, whole, without_ended}
+use Rattle.trace.specs.Lines.{after, after_all, after_body, after_call, after_end, after_step, after_text, after_text_of, after_whole, all_done, begins_call, is_end, is_undone, lines_of, nothing_yet, numbered, settled, stepped, whole, without_ended}
 use Rattle.trace.specs.Kept.{EachLineIsTold, TellsLine}
 
 some_same : {A : Type 0} (x y : A) → Some x ≡ Some y → x ≡ y
@@ -73,7 +73,7 @@ grows_by_text old new known body e =
 grows_by_body : (start : List ℕ) (old new : Reached) (parts : List ℕ × List ℕ) → after_body start old parts ≡ Some new → Grows old new
 grows_by_body start old new parts e =
     let text = after_text old (known_or_new start parts.0 old.processes) parts.1 in
-    elim (cases_if (begins (codes "+++ exited with ") parts.1) (after_end old parts.0) (if begins (codes "--- ") parts.1 then Some old else text) (Some new) e) [
+    elim (cases_if (is_end parts.1) (after_end old parts.0) (if begins (codes "--- ") parts.1 then Some old else text) (Some new) e) [
       | inl ended ↦ grows_by_end old new parts.0 ended.1
       | inr rest ↦ elim (cases_if (begins (codes "--- ") parts.1) (Some old) text (Some new) rest.1) [
         | inl signal ↦ same_facts old new (ap (λ (r : Reached). r.facts) (some_same old new signal.1))

@@ -18,7 +18,7 @@ begins start text = starts_with nat_eq text start
 unfoldable pub ending_of : List ℕ → End
 ending_of text =
     if begins (codes "-1 ENOENT ") text || begins (codes "-1 ENOTDIR ") text then ending.Missing
-    else (if begins (codes "-1 EFAULT ") text || begins (codes "-1 EBADF ") text then ending.Void
+    else (if (begins (codes "-1 EFAULT ") text || begins (codes "-1 EBADF ") text) || begins (codes "-1 ENOSYS ") text then ending.Void
     else (if begins (codes "-1 ") text then ending.Refused
     else (if begins (codes "? ERESTART") text then ending.Void
     else (if begins (codes "?") text then ending.Open else ending.Well))))

@@ -89,9 +89,13 @@ without_ended reached number =
 abbrev pub after_end : Reached → List ℕ → Option Reached
 after_end reached number = if is_calling number reached.processes then None else Some (settled (without_ended reached number))
 
+-- a process has ended, by itself or by a signal, which ends it between two calls as well
+abbrev pub is_end : List ℕ → Bool
+is_end body = begins (codes "+++ exited with ") body || begins (codes "+++ killed by ") body
+
 abbrev pub after_body : List ℕ → Reached → List ℕ × List ℕ → Option Reached
 after_body start reached parts =
-    if begins (codes "+++ exited with ") parts.1 then after_end reached parts.0
+    if is_end parts.1 then after_end reached parts.0
     else (if begins (codes "--- ") parts.1 then Some reached
     else after_text reached (known_or_new start parts.0 reached.processes) parts.1)
 

@@ -12,7 +12,7 @@ pub enum End {
     Missing,
     /// It was refused for another reason.
     Refused,
-    /// It was asked wrongly, or is made anew: it said nothing to the process that called.
+    /// It was asked wrongly, is made anew, or the system has no such call: it said nothing to the process that called.
     Void,
     /// Its process ended in it. Whether it did something is open.
     Open,
@@ -52,7 +52,10 @@ pub fn ending_of(answer: &[u8]) -> End
     if answer.starts_with(b"-1 ENOENT ") || answer.starts_with(b"-1 ENOTDIR ") {
         return End::Missing;
     }
-    if answer.starts_with(b"-1 EFAULT ") || answer.starts_with(b"-1 EBADF ") {
+    if answer.starts_with(b"-1 EFAULT ")
+        || answer.starts_with(b"-1 EBADF ")
+        || answer.starts_with(b"-1 ENOSYS ")
+    {
         return End::Void;
     }
     if answer.starts_with(b"-1 ") {

@@ -2,7 +2,7 @@
 
 ghost use Rattle.std.specs.Prelude.{◌≡◌, ◌++◌, [], IfOk, OnOk, Some, None, option_map, if◌then◌else◌};
 ghost use Rattle.trace.specs.Marks.{both};
-ghost use Rattle.trace.specs.Lines.{after, after_body, after_call, after_end, after_step, after_text, begins_call, numbered, nothing_yet, settled, stepped, whole, with_started, without_ended};
+ghost use Rattle.trace.specs.Lines.{after, after_body, after_call, after_end, after_step, after_text, begins_call, is_end, numbered, nothing_yet, settled, stepped, whole, with_started, without_ended};
 
 use crate::fact::Fact;
 use crate::marks::{cut, skip_blanks};
@@ -27,6 +27,13 @@ fn numbered(line: &[u8]) -> Option<(&[u8], &[u8])>
 {
     let (number, rest) = cut(line, b" ")?;
     Some((number, skip_blanks(rest)))
+}
+
+/// Whether it tells that the process has ended, by itself or by a signal.
+fn is_end(body: &[u8]) -> bool
+    ensures { result ≡ is_end body.now }
+{
+    body.starts_with(b"+++ exited with ") || body.starts_with(b"+++ killed by ")
 }
 
 impl Reached {
@@ -66,7 +73,7 @@ impl Reached {
     ) -> Result<bool, AllocError>
         ensures { IfOk result (λ is. after_body start.now self.old (number.now, body.now) ≡ (if is then Some self.new else None)) }
     {
-        if body.starts_with(b"+++ exited with ") {
+        if is_end(body) {
             return self.take_end(alloc, number);
         }
         if body.starts_with(b"--- ") {

@@ -4,10 +4,10 @@ use Rattle.trace.specs.declared.processes.Known.{Known}
 use Rattle.trace.specs.declared.lines.Reached.{Reached}
 use Rattle.trace.specs.Calls.{begins}
 use Rattle.trace.specs.Processes.{known_or_new}
-use Rattle.trace.specs.Lines.{after_body, after_text}
+use Rattle.trace.specs.Lines.{after_body, after_text, is_end}
 use Rattle.trace.proofs.lines.Reached.take_body.Goals as goal
 
-of_text : (start : List ℕ) (reached : Reached) (number body : List ℕ) → begins (codes "+++ exited with ") body ≡ false → begins (codes "--- ") body ≡ false
+of_text : (start : List ℕ) (reached : Reached) (number body : List ℕ) → is_end body ≡ false → begins (codes "--- ") body ≡ false
     → after_body start reached (number, body) ≡ after_text reached (known_or_new start number reached.processes) body
 of_text start reached number body one two = rw (one, two) refl
 
@@ -18,6 +18,6 @@ told_so (Err e) x y new same h = h
 pub returns : goal.returns
 returns c =
     told_so c.take_text.result _ _ c.take_text.new.self
-    (of_text c.args.start.now c.args.self.now c.args.number.now c.args.body.now (sym c.starts_with.ensures.value ∙ c.if-starts_with.false) (sym c.starts_with-2.ensures.value ∙ c.if-starts_with-2.false)
+    (of_text c.args.start.now c.args.self.now c.args.number.now c.args.body.now (sym c.is_end.ensures ∙ c.if-is_end.false) (sym c.starts_with.ensures.value ∙ c.if-starts_with.false)
     ∙ ap (λ (k : Known). after_text c.args.self.now k c.args.body.now) (sym c.in_ok-known.ensures))
     c.take_text.ensures
