@@ -3,7 +3,7 @@
 -- A line is the number of a process, blanks, and what the process did: a call `NAME(ARGUMENTS) = ANSWER`, which is written once it has
 -- ended; or its beginning, where another process comes between, and later its end; or that a signal came; or that the process has ended.
 -- Each call tells what it did at its paths; of one that is not known nothing can be told, and then nothing is told of the trace.
-use Rattle.std.specs.Prelude.{◌≡◌, ℕ, List, [], ◌∷◌, ◌++◌, ◌&&◌, not, Bool, true, false, Option, Some, None, option_map, option_and_then, codes, is_some, if◌then◌else◌}
+use Rattle.std.specs.Prelude.{◌≡◌, ℕ, List, [], ◌∷◌, ◌++◌, ◌&&◌, ◌||◌, not, Bool, true, false, Option, Some, None, option_map, option_and_then, codes, is_some, if◌then◌else◌}
 use Rattle.trace.specs.declared.fact.Fact.{Fact}
 use Rattle.trace.specs.declared.processes.Known.{Known}
 use Rattle.trace.specs.declared.steps.Step.{Step}
